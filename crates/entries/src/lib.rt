@@ -1,0 +1,154 @@
+// The 32-byte entry, the entry rules, runs of entries, and the look over pairs of them.
+ghost use mathlib.Core.Path.{_≡_};
+ghost use Prim.Native.Nat.{_+_, _*_, _≤_};
+ghost use lib.ListN.{length, drop};
+ghost use Rattle.numbers.specs.Numbers.{over};
+ghost use Rattle.entries.specs.Entries.{operationNumber, operationOf, centsOk, operationOk, entryOf, entryOk, encodeEntry, entries, entriesOk};
+ghost use Rattle.entries.specs.Rising.{breaksAt, rising};
+
+// A charge as a client asks for it. The operation is the wire's byte: memory that no call produced may hold any.
+pub struct Entry {
+    pub client: u64,
+    pub request: u64,
+    pub operation: u8,
+    pub member: u32,
+    pub cents: u64,
+}
+
+pub enum Operation {
+    Fee,
+    Refund,
+    Ask,
+}
+
+pub fn operation_number(op: Operation) -> u8
+    ensures { λ r. ⌜ r ≡ operationNumber op ⌝ }
+{
+    match op {
+        Operation::Fee => 1,
+        Operation::Refund => 2,
+        Operation::Ask => 3,
+    }
+}
+
+// Any number but 1 and 2 is read as Ask.
+pub fn operation_of(number: u8) -> Operation
+    ensures { λ r. ⌜ r ≡ operationOf number ⌝ }
+{
+    match number {
+        1 => Operation::Fee,
+        2 => Operation::Refund,
+        _ => Operation::Ask,
+    }
+}
+
+// 1 to 1,000,000.
+fn cents_ok(cents: u64) -> bool
+    ensures { λ r. ⌜ r ≡ centsOk cents ⌝ }
+{
+    if cents < 1 {
+        return false;
+    }
+    cents <= 1_000_000
+}
+
+// The entry rules on an operation's number and its cents.
+pub fn operation_ok(operation: u8, cents: u64) -> bool
+    ensures { λ r. ⌜ r ≡ operationOk operation cents ⌝ }
+{
+    match operation {
+        1 => cents_ok(cents),
+        2 => cents_ok(cents),
+        3 => cents == 0,
+        _ => false,
+    }
+}
+
+// The entry at place `at`, whether it keeps the rules or not.
+pub fn entry_at(s: &[u8], at: usize) -> Entry
+    requires { ⌜ at + 32 ≤ length (now s) ⌝ }
+    ensures { λ r. ⌜ r ≡ entryOf (drop at (now (s .entry))) ⌝ }
+{
+    Entry {
+        client: numbers::read_u64(s, at),
+        request: numbers::read_u64(s, at + 8),
+        operation: numbers::read_u8(s, at + 16),
+        member: numbers::read_u32(s, at + 20),
+        cents: numbers::read_u64(s, at + 24),
+    }
+}
+
+// Whether the 32 bytes at place `at` keep the entry rules.
+pub fn entry_ok(s: &[u8], at: usize) -> bool
+    requires { ⌜ at + 32 ≤ length (now s) ⌝ }
+    ensures { λ r. ⌜ r ≡ entryOk (drop at (now (s .entry))) ⌝ }
+{
+    if numbers::read_be(s, at + 17, 3) != 0 {
+        return false;
+    }
+    operation_ok(numbers::read_u8(s, at + 16), numbers::read_u64(s, at + 24))
+}
+
+// The entry's 32 bytes over the front of `area`.
+pub fn write_entry(area: &mut [u8], e: Entry)
+    requires { ⌜ 32 ≤ length (now area) ⌝ }
+    ensures { λ r. ⌜ now (area .exit) ≡ over (encodeEntry e) (now (area .entry)) ⌝ }
+{
+    numbers::write_u64(area, e.client);
+    numbers::write_u64(&mut area[8..], e.request);
+    numbers::write_u8(&mut area[16..], e.operation);
+    numbers::write_be(&mut area[17..], 3, 0);
+    numbers::write_u32(&mut area[20..], e.member);
+    numbers::write_u64(&mut area[24..], e.cents);
+}
+
+// Whether the k entries from place `at` on keep the entry rules.
+pub fn entries_ok(s: &[u8], at: usize, k: usize) -> bool
+    requires { ⌜ at + 32 * k ≤ length (now s) ⌝ }
+    ensures { λ r. ⌜ r ≡ entriesOk k (drop at (now (s .entry))) ⌝ }
+{
+    let mut i = 0;
+    let mut p = at;
+    while i < k {
+        if !entry_ok(s, p) {
+            return false;
+        }
+        p += 32;
+        i += 1;
+    }
+    true
+}
+
+// Whether the entries at p and q, that at p standing earlier, are of one client and the request number does not rise.
+fn breaks(s: &[u8], p: usize, q: usize) -> bool
+    requires { ⌜ (p + 32 ≤ length (now s)) × (q + 32 ≤ length (now s)) ⌝ }
+    ensures { λ r. ⌜ r ≡ breaksAt (entryOf (drop p (now (s .entry)))) (entryOf (drop q (now (s .entry)))) ⌝ }
+{
+    let e = entry_at(s, p);
+    let f = entry_at(s, q);
+    if e.client != f.client {
+        return false;
+    }
+    f.request <= e.request
+}
+
+// Whether the first k entries of the run are rising. The look over pairs stops at the first pair that breaks this.
+pub fn is_rising(s: &[u8], k: usize) -> bool
+    requires { ⌜ 32 * k ≤ length (now s) ⌝ }
+    ensures { λ r. ⌜ r ≡ rising (entries k (now (s .entry))) ⌝ }
+{
+    let mut ok = true;
+    let mut i = 0;
+    'pairs: while i < k {
+        let mut j = i + 1;
+        while j < k {
+            if breaks(s, 32 * i, 32 * j) {
+                ok = false;
+                break 'pairs;
+            }
+            j += 1;
+        }
+        i += 1;
+    }
+    ok
+}

@@ -1,0 +1,4 @@
+pub mod WordLaws
+pub mod NumberLaws
+pub mod RunLaws
+pub mod CellLaws
