@@ -3,7 +3,7 @@ ghost use mathlib.Core.Path.{_≡_};
 ghost use Prim.Native.Nat.{_+_, _*_, _≤_};
 ghost use lib.ListN.{length, drop};
 ghost use Rattle.numbers.specs.Numbers.{over};
-ghost use Rattle.entries.specs.Entries.{operationNumber, operationOf, centsOk, operationOk, entryOf, entryOk, encodeEntry, entries, entriesOk};
+ghost use Rattle.entries.specs.Entries.{operationNumber, operationOf, operationOk, entryOf, entryOk, encodeEntry, entries, entriesOk};
 ghost use Rattle.entries.specs.Rising.{breaksAt, rising};
 
 // A charge as a client asks for it. The operation is the wire's byte: memory that no call produced may hold any.
@@ -42,23 +42,13 @@ pub fn operation_of(number: u8) -> Operation
     }
 }
 
-// 1 to 1,000,000.
-fn cents_ok(cents: u64) -> bool
-    ensures { λ r. ⌜ r ≡ centsOk cents ⌝ }
-{
-    if cents < 1 {
-        return false;
-    }
-    cents <= 1_000_000
-}
-
 // The entry rules on an operation's number and its cents.
 pub fn operation_ok(operation: u8, cents: u64) -> bool
     ensures { λ r. ⌜ r ≡ operationOk operation cents ⌝ }
 {
     match operation {
-        1 => cents_ok(cents),
-        2 => cents_ok(cents),
+        1 => numbers::within(1, 1_000_000, cents),
+        2 => numbers::within(1, 1_000_000, cents),
         3 => cents == 0,
         _ => false,
     }

@@ -5,17 +5,22 @@
 --     num-drop, num-front  a number at a place after a place; what comes behind does not matter
 --     num-byte             a number of one byte is that byte
 --     be-suc               one byte more
+--     within-both, both-within    a number between two bounds
 -- Assumes nothing.
 use mathlib.Core.Path.{_≡_, refl, sym, ap, _∙_, subst}
 use mathlib.Core.List.{List, [], _∷_, _++_}
+use mathlib.Core.Bool.{true}
 use Prim.Native.Nat.{ℕ, zero, suc, _+_, _-_, _*_, _/_, _%_, _^_, _≤_, _<_, zero-le}
 use native.Mathlib.Nat.{zero-add, add-zero, add-mul, mul-assoc, mod-eq-of-lt, mod-lt, pow-succ', pow-le-pow-right}
 use native.Mathlib.Omega.{arith}
 use lib.Arith.{digits-div, digits-mod, digits-lt, mod-mul}
-use lib.Dec.{lit<}
+use lib.Dec.{lit<, leb}
+use borrow.Author.Tests.{leb-true, le-leb}
 use lib.ListN.{length, getD, take, drop, length-take, length-drop}
 use lib.Seq.{take-suc, drop-drop, drop-cons, getD-drop, take-append-le, drop-append-le}
-use Rattle.numbers.specs.Numbers.{beFrom, be, big, num, Bytes}
+use Rattle.numbers.specs.Words.{_and_}
+use Rattle.numbers.specs.Numbers.{beFrom, be, big, num, within, Bytes}
+use Rattle.numbers.proofs.WordLaws.{and-both}
 
 pow-pos256 : (k : ℕ) → 0 < 256 ^ k
 pow-pos256 k = pow-le-pow-right (lit< {m = 0} {n = 256} tt) {i = 0} {j = k} zero-le
@@ -121,3 +126,15 @@ num-front k a x y h =
 pub num-byte : (a : ℕ) (s : List ℕ) → a < length s → num 1 a s ≡ getD s a 0
 unfolding num
 num-byte a s h = rw (drop-cons s a 0 h) (omega arith)
+
+-- ---- between two bounds
+
+pub within-both : (low high x : ℕ) → within low high x ≡ true → (low ≤ x) × (x ≤ high)
+unfolding within
+within-both low high x h =
+    let p = and-both (leb low x) (leb x high) h in
+    (leb-true low x (p .0), leb-true x high (p .1))
+
+pub both-within : (low high x : ℕ) → low ≤ x → x ≤ high → within low high x ≡ true
+unfolding within _and_
+both-within low high x h g = rw (le-leb low x h, le-leb x high g)

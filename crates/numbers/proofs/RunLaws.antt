@@ -90,7 +90,6 @@ over-rest s w n m h e =
     let b : drop m (w ++ drop (length w) (drop n s)) ≡ drop (length w) (drop n s) = drop-at w (drop (length w) (drop n s)) m e in
     sym (drop-drop m n x) ∙ rw (a, b, e) (drop-drop m n s)
 
-
 -- ---- a write at a place
 
 -- a write at a later place leaves the first w bytes

@@ -1,9 +1,12 @@
 -- Document 01, "Frames": all numbers are big-endian. One definition over the width k serves the numbers of 1, 2, 4 and 8 bytes.
 -- What is written to lent memory stands over its front and leaves the rest as it was. Assumes nothing.
 use mathlib.Core.Path.{_≡_}
+use mathlib.Core.Bool.{Bool}
 use mathlib.Core.List.{List, [], _∷_, _++_}
 use Prim.Native.Nat.{ℕ, zero, suc, _+_, _*_, _/_, _%_, _^_, _<_}
+use lib.Dec.{leb}
 use lib.ListN.{length, getD, take, drop}
+use Rattle.numbers.specs.Words.{_and_}
 use Rattle.numbers.specs.declared.View.{View}
 use Rattle.numbers.specs.declared.Op.{Op}
 
@@ -30,6 +33,10 @@ viewAt a s = record { 0 = num 4 a s }
 
 abbrev pub opAt : ℕ → List ℕ → Op
 opAt a s = record { 0 = num 4 a s }
+
+-- low ≤ x ≤ high
+unfoldable pub within : ℕ → ℕ → ℕ → Bool
+within low high x = leb low x and leb x high
 
 -- a run of bytes: what owning a `&[u8]` tells
 abbrev pub Bytes : List ℕ → Type 0

@@ -2,13 +2,23 @@
 ghost use mathlib.Core.Path.{_≡_};
 ghost use Prim.Native.Nat.{_+_, _≤_, _<_, _^_};
 ghost use lib.ListN.{length, take, replicate};
-ghost use Rattle.numbers.specs.Numbers.{num, big, over, viewAt, opAt};
+ghost use Rattle.numbers.specs.Numbers.{num, big, within, over, viewAt, opAt};
 
 // A view number. It is never compared with an op number: the two count unlike things.
 pub struct View(pub u32);
 
 // An op or commit number.
 pub struct Op(pub u32);
+
+// Whether low ≤ x ≤ high.
+pub fn within(low: u64, high: u64, x: u64) -> bool
+    ensures { λ r. ⌜ r ≡ within low high x ⌝ }
+{
+    if x < low {
+        return false;
+    }
+    x <= high
+}
 
 // The k-byte number at place `at`.
 pub fn read_be(s: &[u8], at: usize, k: usize) -> u64

@@ -1,0 +1,88 @@
+// The setup and its sizes, who leads a view, and sets of replicas as bits.
+ghost use mathlib.Core.Path.{_≡_};
+ghost use Prim.Native.Nat.{_<_};
+ghost use lib.Dec.{eqb};
+ghost use lib.Count.{ones};
+ghost use Rattle.config.specs.Setup.{replicasOk, roomOk, setupOk, primaryOf};
+ghost use Rattle.config.specs.Replicas.{bit, withMember, quorumOf};
+use numbers::View;
+
+// What is chosen at creation: n replicas, the own id, `primary_timeout` T, log room L and members M.
+pub struct Setup {
+    pub n: u8,
+    pub id: u8,
+    pub timeout: u16,
+    pub room: u32,
+    pub members: u32,
+}
+
+// 3 to 7.
+pub fn replicas_ok(n: u8) -> bool
+    ensures { λ r. ⌜ r ≡ replicasOk n ⌝ }
+{
+    numbers::within(3, 7, n as u64)
+}
+
+// 1 to 4,096.
+fn room_ok(k: u32) -> bool
+    ensures { λ r. ⌜ r ≡ roomOk k ⌝ }
+{
+    numbers::within(1, 4096, k as u64)
+}
+
+// Refusal 1 on the setup: given exactly where this is false.
+pub fn setup_ok(s: Setup) -> bool
+    ensures { λ r. ⌜ r ≡ setupOk s ⌝ }
+{
+    if !replicas_ok(s.n) {
+        return false;
+    }
+    if s.n <= s.id {
+        return false;
+    }
+    if s.timeout < 1 {
+        return false;
+    }
+    if !room_ok(s.room) {
+        return false;
+    }
+    room_ok(s.members)
+}
+
+// The replica that leads view v.
+pub fn primary_id(n: u8, v: View) -> u8
+    requires { ⌜ 0 < n ⌝ }
+    ensures { λ r. ⌜ (r ≡ primaryOf n v) × (r < n) ⌝ }
+{
+    (v.0 % (n as u32)) as u8
+}
+
+// More than half of n.
+pub fn quorum(n: u8) -> u8
+    ensures { λ r. ⌜ r ≡ quorumOf n ⌝ }
+{
+    n / 2 + 1
+}
+
+// The set with id in it.
+pub fn insert(set: u8, id: u8) -> u8
+    requires { ⌜ id < 8 ⌝ }
+    ensures { λ r. ⌜ r ≡ withMember set id ⌝ }
+{
+    set | (1u8 << id)
+}
+
+// Whether id is in the set.
+pub fn has(set: u8, id: u8) -> bool
+    requires { ⌜ id < 8 ⌝ }
+    ensures { λ r. ⌜ r ≡ eqb (bit set id) 1 ⌝ }
+{
+    (set >> id) % 2 == 1
+}
+
+// How many ids are in the set.
+pub fn count(set: u8) -> u32
+    ensures { λ r. ⌜ r ≡ ones set ⌝ }
+{
+    u8::count_ones(set)
+}
