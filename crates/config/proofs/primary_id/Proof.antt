@@ -1,3 +1,4 @@
+-- `config::primary_id` meets its contract. Assumes nothing.
 use Rattle.config.specs.Setup.{primaryOf}
 use mathlib.Core.Path.{refl}
 use native.Mathlib.Nat.{mod-lt}

@@ -1,3 +1,4 @@
+-- `config::setup_ok` meets its contract. Assumes nothing.
 use Rattle.config.specs.Setup.{setupOk}
 use Rattle.numbers.specs.Words.{_and_}
 use borrow.Author.Tests.{not-true, not-false, lt-ltb, le-ltb, lt-leb, le-leb}

@@ -1,0 +1,70 @@
+// The fee rules, on one total and over a lent run of totals.
+ghost use mathlib.Core.Path.{_≡_};
+ghost use Prim.Native.Nat.{_*_, _≤_};
+ghost use lib.ListN.{length};
+ghost use Rattle.fees.specs.Fees.{rule, outcomeOf, totalsAfter};
+use entries::Entry;
+use entries::Operation;
+
+// No total passes this.
+const LIMIT: u64 = 1_000_000_000;
+
+// The outcome's number, 1 to 6, and the total after it.
+pub struct Outcome {
+    pub code: u8,
+    pub total: u64,
+}
+
+// A total that no call produced may be above the limit: the sum is made only where it fits.
+fn fee(total: u64, cents: u64) -> Outcome
+    ensures { λ r. ⌜ r ≡ rule total Operation.Fee cents ⌝ }
+{
+    if LIMIT < total {
+        return Outcome { code: 5, total };
+    }
+    if LIMIT - total < cents {
+        return Outcome { code: 5, total };
+    }
+    Outcome {
+        code: 1,
+        total: total + cents,
+    }
+}
+
+fn refund(total: u64, cents: u64) -> Outcome
+    ensures { λ r. ⌜ r ≡ rule total Operation.Refund cents ⌝ }
+{
+    if total < cents {
+        return Outcome { code: 6, total };
+    }
+    Outcome {
+        code: 2,
+        total: total - cents,
+    }
+}
+
+// The rules on one member's total.
+pub fn by_rule(total: u64, op: Operation, cents: u64) -> Outcome
+    ensures { λ r. ⌜ r ≡ rule total op cents ⌝ }
+{
+    match op {
+        Operation::Fee => fee(total, cents),
+        Operation::Refund => refund(total, cents),
+        Operation::Ask => Outcome { code: 3, total },
+    }
+}
+
+// One entry on the first `members` totals of the run, 8 bytes each.
+pub fn apply(totals: &mut [u8], members: u32, e: Entry) -> Outcome
+    requires { ⌜ 8 * members ≤ length (now totals) ⌝ }
+    ensures { λ r. ⌜ (r ≡ outcomeOf members (now (totals .entry)) e) × (now (totals .exit) ≡ totalsAfter members (now (totals .entry)) e) ⌝ }
+{
+    if e.member < members {
+        let at = 8 * (e.member as usize);
+        let op = entries::operation_of(e.operation);
+        let o = by_rule(numbers::read_u64(totals, at), op, e.cents);
+        numbers::write_u64(&mut totals[at..], o.total);
+        return o;
+    }
+    Outcome { code: 4, total: 0 }
+}

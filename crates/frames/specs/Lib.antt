@@ -1,0 +1,4 @@
+pub mod Kinds
+pub mod Messages
+pub mod Refusals
+pub mod Looks

@@ -1,0 +1,171 @@
+// Frames: what a frame says (`parse`), and the refusals 2 to 6 on the frame alone (`check`).
+ghost use mathlib.Core.Path.{_≡_};
+ghost use Prim.Native.Nat.{_+_, _*_, _≤_};
+ghost use lib.ListN.{length};
+ghost use Rattle.frames.specs.Messages.{parseFrame, carriedOf};
+ghost use Rattle.frames.specs.Refusals.{refusalOf, checkFrame};
+ghost use Rattle.frames.specs.Looks.{looksAt};
+use config::Setup;
+use entries::Entry;
+use numbers::Op;
+use numbers::View;
+
+mod shape; // when a frame is well formed
+mod say; // what a well-formed frame of each kind says
+mod row; // the numbers of a message that are judged
+mod table; // which kinds a status looks at
+
+// What a replica is doing.
+pub enum Status {
+    Normal,
+    StateTransfer,
+    ViewChange,
+    Recovering,
+}
+
+// The primary's state in a RecoveryResponse: there are o entries, c of them committed.
+pub enum RecoveryState {
+    Absent,
+    Present { op: Op, commit: Op },
+}
+
+// The eleven kinds, numbers only: a carried log stays in the frame.
+pub enum Message {
+    Request {
+        entry: Entry,
+    },
+    Prepare {
+        view: View,
+        op: Op,
+        commit: Op,
+        entry: Entry,
+    },
+    PrepareOk {
+        view: View,
+        op: Op,
+        from: u8,
+    },
+    Commit {
+        view: View,
+        commit: Op,
+    },
+    GetState {
+        from: u8,
+        view: View,
+        op: Op,
+    },
+    NewState {
+        view: View,
+        start: Op,
+        end: Op,
+        commit: Op,
+    },
+    StartViewChange {
+        view: View,
+        from: u8,
+    },
+    DoViewChange {
+        view: View,
+        from: u8,
+        last_normal: View,
+        op: Op,
+        commit: Op,
+    },
+    StartView {
+        view: View,
+        op: Op,
+        commit: Op,
+    },
+    Recovery {
+        from: u8,
+        nonce: u64,
+        view: View,
+    },
+    RecoveryResponse {
+        view: View,
+        nonce: u64,
+        from: u8,
+        state: RecoveryState,
+    },
+}
+
+// What a message carries that is judged on the frame alone.
+pub struct Carried {
+    pub kind: u8,
+    pub sender: u8,
+    pub op: Op,
+    pub commit: Op,
+    pub start: usize,
+    pub whole: u32,
+}
+
+pub enum Parsed {
+    Frame { to: u8, message: Message },
+    Malformed,
+}
+
+pub enum Checked {
+    Passed { message: Message },
+    Refused { number: u8 },
+}
+
+// The addressee and the message of a frame, or that it is malformed: refusal 2.
+pub fn parse(frame: &[u8]) -> Parsed
+    ensures { λ r. ⌜ r ≡ parseFrame (now (frame .entry)) ⌝ }
+{
+    if !shape::well_formed(frame) {
+        return Parsed::Malformed;
+    }
+    Parsed::Frame {
+        to: numbers::read_u8(frame, 6),
+        message: say::said(frame, numbers::read_u8(frame, 5)),
+    }
+}
+
+// Refusals 3, 4, 5, 6 of a well-formed frame, in this order; 0: none.
+fn refusal(u: Setup, to: u8, x: Carried, frame: &[u8]) -> u8
+    requires { ⌜ x .start + 32 * x .whole ≤ length (now frame) ⌝ }
+    ensures { λ r. ⌜ r ≡ refusalOf u to x (now (frame .entry)) ⌝ }
+{
+    if to != u.id {
+        return 3;
+    }
+    if u.n <= x.sender {
+        return 3;
+    }
+    if u.room < x.op.0 {
+        return 4;
+    }
+    if x.op.0 < x.commit.0 {
+        return 5;
+    }
+    let at = x.start;
+    if entries::is_rising(&frame[at..], x.whole as usize) {
+        return 0;
+    }
+    6
+}
+
+// The message of a frame that a replica of this setup may look at, or the refusal that the frame alone earns.
+pub fn check(u: Setup, frame: &[u8]) -> Checked
+    ensures { λ r. ⌜ r ≡ checkFrame u (now (frame .entry)) ⌝ }
+{
+    match parse(frame) {
+        Parsed::Malformed => Checked::Refused { number: 2 },
+        Parsed::Frame { to, message } => {
+            let k = refusal(u, to, row::carried(message), frame);
+            if k == 0 {
+                return Checked::Passed { message };
+            }
+            Checked::Refused { number: k }
+        }
+    }
+}
+
+// Whether a status looks at a message: by the table of statuses and kinds.
+pub fn looks(s: Status, m: Message) -> bool
+    ensures { λ r. ⌜ r ≡ looksAt s (carriedOf m .kind) ⌝ }
+{
+    let x = row::carried(m);
+    table::looks_at(s, x.kind)
+}

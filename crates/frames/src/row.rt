@@ -1,0 +1,77 @@
+// The numbers of a message that are judged on the frame alone.
+ghost use mathlib.Core.Path.{_≡_};
+ghost use Prim.Native.Nat.{_≤_};
+ghost use Rattle.frames.specs.Messages.{row, stateRow, carriedOf};
+use crate::Carried;
+use crate::Message;
+use crate::RecoveryState;
+use numbers::Op;
+
+fn row(kind: u8, sender: u8, op: Op, commit: Op, start: usize, whole: u32) -> Carried
+    ensures { λ r. ⌜ r ≡ row kind sender op commit start whole ⌝ }
+{
+    Carried {
+        kind,
+        sender,
+        op,
+        commit,
+        start,
+        whole,
+    }
+}
+
+fn response(sender: u8, state: RecoveryState) -> Carried
+    ensures { λ r. ⌜ r ≡ stateRow sender state ⌝ }
+{
+    match state {
+        RecoveryState::Absent => row(11, sender, Op(0), Op(0), 0, 0),
+        RecoveryState::Present { op, commit } => row(11, sender, op, commit, 29, op.0),
+    }
+}
+
+pub fn carried(m: Message) -> Carried
+    ensures { λ r. ⌜ r ≡ carriedOf m ⌝ }
+{
+    match m {
+        Message::Request { entry: _ } => row(1, 0, Op(0), Op(0), 0, 0),
+        Message::Prepare {
+            view: _,
+            op,
+            commit: _,
+            entry: _,
+        } => row(2, 0, op, Op(0), 0, 0),
+        Message::PrepareOk { view: _, op, from } => row(3, from, op, Op(0), 0, 0),
+        Message::Commit { view: _, commit: _ } => row(4, 0, Op(0), Op(0), 0, 0),
+        Message::GetState { from, view: _, op } => row(5, from, op, Op(0), 0, 0),
+        Message::NewState {
+            view: _,
+            start: _,
+            end,
+            commit,
+        } => row(6, 0, end, commit, 23, 0),
+        Message::StartViewChange { view: _, from } => row(7, from, Op(0), Op(0), 0, 0),
+        Message::DoViewChange {
+            view: _,
+            from,
+            last_normal: _,
+            op,
+            commit,
+        } => row(8, from, op, commit, 24, op.0),
+        Message::StartView {
+            view: _,
+            op,
+            commit,
+        } => row(9, 0, op, commit, 19, op.0),
+        Message::Recovery {
+            from,
+            nonce: _,
+            view: _,
+        } => row(10, from, Op(0), Op(0), 0, 0),
+        Message::RecoveryResponse {
+            view: _,
+            nonce: _,
+            from,
+            state,
+        } => response(from, state),
+    }
+}

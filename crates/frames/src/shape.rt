@@ -1,0 +1,123 @@
+// When a frame is well formed. Each test is made once all bytes that it reads are known to be there.
+ghost use mathlib.Core.Path.{_≡_};
+ghost use mathlib.Core.Bool.{true};
+ghost use Prim.Native.Nat.{_+_, _-_, _≤_};
+ghost use lib.Dec.{eqb};
+ghost use lib.ListN.{length};
+ghost use Rattle.numbers.specs.Words.{if_then_else_};
+ghost use Rattle.numbers.specs.Numbers.{num};
+ghost use Rattle.frames.specs.Kinds.{leastOf, roomOf, fieldsOk, countOf, headOk, bodyOk, wellFormed};
+
+// By kind, the bytes before the entries; of kind 11 those up to its mark.
+const LEAST: [usize; 12] = [0, 7, 19, 16, 15, 16, 23, 12, 24, 19, 20, 21];
+
+fn least(kind: u8) -> usize
+    requires { ⌜ kind ≤ 11 ⌝ }
+    ensures { λ r. ⌜ r ≡ leastOf kind ⌝ }
+{
+    let k = kind as usize;
+    LEAST[k]
+}
+
+fn room(frame: &[u8], kind: u8) -> usize
+    requires { ⌜ (kind ≤ 11) × (leastOf kind ≤ length (now frame)) ⌝ }
+    ensures { λ r. ⌜ r ≡ roomOf kind (now (frame .entry)) ⌝ }
+{
+    if kind == 11 {
+        if numbers::read_u8(frame, 20) == 1 {
+            return 29;
+        }
+        return 21;
+    }
+    least(kind)
+}
+
+fn fields_ok(frame: &[u8], kind: u8) -> bool
+    requires { ⌜ leastOf kind ≤ length (now frame) ⌝ }
+    ensures { λ r. ⌜ r ≡ fieldsOk kind (now (frame .entry)) ⌝ }
+{
+    match kind {
+        6 => numbers::read_u32(frame, 11) <= numbers::read_u32(frame, 15),
+        11 => numbers::read_u8(frame, 20) <= 1,
+        _ => true,
+    }
+}
+
+fn count_new_state(frame: &[u8]) -> u32
+    requires { ⌜ (23 ≤ length (now frame)) × (num 4 11 (now frame) ≤ num 4 15 (now frame)) ⌝ }
+    ensures { λ r. ⌜ r ≡ num 4 15 (now (frame .entry)) - num 4 11 (now (frame .entry)) ⌝ }
+{
+    numbers::read_u32(frame, 15) - numbers::read_u32(frame, 11)
+}
+
+fn count_response(frame: &[u8]) -> u32
+    requires { ⌜ (21 ≤ length (now frame)) × (num 1 20 (now frame) ≡ 1 → 29 ≤ length (now frame)) ⌝ }
+    ensures { λ r. ⌜ r ≡ (if eqb (num 1 20 (now (frame .entry))) 1 then num 4 21 (now (frame .entry)) else 0) ⌝ }
+{
+    if numbers::read_u8(frame, 20) == 1 {
+        return numbers::read_u32(frame, 21);
+    }
+    0
+}
+
+fn count(frame: &[u8], kind: u8) -> u32
+    requires { ⌜ (roomOf kind (now frame) ≤ length (now frame)) × (fieldsOk kind (now frame) ≡ true) ⌝ }
+    ensures { λ r. ⌜ r ≡ countOf kind (now (frame .entry)) ⌝ }
+{
+    match kind {
+        1 => 1,
+        2 => 1,
+        6 => count_new_state(frame),
+        8 => numbers::read_u32(frame, 16),
+        9 => numbers::read_u32(frame, 11),
+        11 => count_response(frame),
+        _ => 0,
+    }
+}
+
+fn head_ok(frame: &[u8]) -> bool
+    ensures { λ r. ⌜ r ≡ headOk (now (frame .entry)) ⌝ }
+{
+    let n = frame.len();
+    if n < 7 {
+        return false;
+    }
+    if numbers::read_u32(frame, 0) as usize + 4 != n {
+        return false;
+    }
+    numbers::read_u8(frame, 4) == 1
+}
+
+fn body_ok(frame: &[u8], kind: u8) -> bool
+    ensures { λ r. ⌜ r ≡ bodyOk kind (now (frame .entry)) ⌝ }
+{
+    let n = frame.len();
+    if !numbers::within(1, 11, kind as u64) {
+        return false;
+    }
+    if n < least(kind) {
+        return false;
+    }
+    if !fields_ok(frame, kind) {
+        return false;
+    }
+    let at = room(frame, kind);
+    if n < at {
+        return false;
+    }
+    let k = count(frame, kind) as usize;
+    if n != at + 32 * k {
+        return false;
+    }
+    entries::entries_ok(frame, at, k)
+}
+
+// Refusal 2 is given exactly where this is false.
+pub fn well_formed(frame: &[u8]) -> bool
+    ensures { λ r. ⌜ r ≡ wellFormed (now (frame .entry)) ⌝ }
+{
+    if !head_ok(frame) {
+        return false;
+    }
+    body_ok(frame, numbers::read_u8(frame, 5))
+}
