@@ -6,10 +6,13 @@ import os
 import re
 import resource
 import shutil
+import signal
 import subprocess
 import sys
 import tempfile
 import time
+
+signal.signal(signal.SIGPIPE, signal.SIG_DFL)               # `tools/goals CRATE | head` ends without a word
 
 PLAIN = ("struct ", "enum ", "fn ")
 HIDDEN = ("note:", "help:", "logic ", "library ", "crate ", "rattle build:")
@@ -65,11 +68,25 @@ def blocks(lines):
 
 def hidden(head):
     """Whether a message says nothing that is to be acted on."""
-    if head.startswith(HIDDEN) or re.match(r"crates/\S+: note:", head):
+    if re.match(r"crates/\S+: note:", head):
+        return "trial run of this declaration was admitted" not in head      # that one says which line is missing
+    if head.startswith(HIDDEN):
         return True
     if head.startswith(PLAIN):
         return head.endswith((": proved", ": no holes"))
-    return bool(re.match(r"rt: \w+ proved", head))
+    return is_verdict(head)
+
+
+def is_verdict(head):
+    """Whether a message is about the whole run. `logic=` stands once for each crate that was proved on the way."""
+    return bool(re.match(r"(logic|holes|generated)=|rt: ", head))
+
+
+def verdict(lines):
+    """What rt says of the run: lower crates that were proved on the way or failed, and the crate's own line."""
+    told = [line for line in lines if is_verdict(line) and "(unchanged" not in line]
+    own = [line for line in told if not line.startswith("rt: ")][-1:]
+    return [line for line in told if line.startswith("rt: ")] + [re.sub(r" sum=.*", "", line) for line in own]
 
 
 def follows(head):
