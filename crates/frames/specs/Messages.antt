@@ -1,5 +1,5 @@
 -- Document 01, "Frames": what a well-formed frame says, and what its numbers are for the refusals that follow. The carried log is no part
--- of the message: it stays in the frame, at `logStart`. Assumes nothing.
+-- of the message: it stays in the frame, from `start` on. Assumes nothing.
 use mathlib.Core.List.{List}
 use Prim.Native.Nat.{ℕ}
 use lib.Dec.{eqb}

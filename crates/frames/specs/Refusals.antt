@@ -1,5 +1,5 @@
 -- Document 01, "Refusal numbers": 2, 3, 4, 5, 6 on the frame alone, in this order and in every status. Assumes nothing.
-use mathlib.Core.Bool.{Bool, not}
+use mathlib.Core.Bool.{not}
 use mathlib.Core.List.{List}
 use Prim.Native.Nat.{ℕ}
 use lib.Dec.{eqb, leb, ltb}

@@ -1,6 +1,5 @@
 // The numbers of a message that are judged on the frame alone.
 ghost use mathlib.Core.Path.{_≡_};
-ghost use Prim.Native.Nat.{_≤_};
 ghost use Rattle.frames.specs.Messages.{row, stateRow, carriedOf};
 use crate::Carried;
 use crate::Message;

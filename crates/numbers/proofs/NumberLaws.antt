@@ -5,17 +5,19 @@
 --     num-drop, num-front  a number at a place after a place; what comes behind does not matter
 --     num-byte             a number of one byte is that byte
 --     be-suc               one byte more
+--     eq-or-not, le-or-lt  two numbers compared
 --     within-both, both-within    a number between two bounds
 -- Assumes nothing.
 use mathlib.Core.Path.{_≡_, refl, sym, ap, _∙_, subst}
 use mathlib.Core.List.{List, [], _∷_, _++_}
-use mathlib.Core.Bool.{true}
+use mathlib.Core.Bool.{Bool, true, false}
+use mathlib.Core.Logic.{_⊎_, inl, inr}
 use Prim.Native.Nat.{ℕ, zero, suc, _+_, _-_, _*_, _/_, _%_, _^_, _≤_, _<_, zero-le}
 use native.Mathlib.Nat.{zero-add, add-zero, add-mul, mul-assoc, mod-eq-of-lt, mod-lt, pow-succ', pow-le-pow-right}
 use native.Mathlib.Omega.{arith}
 use lib.Arith.{digits-div, digits-mod, digits-lt, mod-mul}
-use lib.Dec.{lit<, leb}
-use borrow.Author.Tests.{leb-true, le-leb}
+use lib.Dec.{lit<, leb, eqb}
+use borrow.Author.Tests.{leb-true, leb-false, le-leb, eqb-true, eqb-false}
 use lib.ListN.{length, getD, take, drop, length-take, length-drop}
 use lib.Seq.{take-suc, drop-drop, drop-cons, getD-drop, take-append-le, drop-append-le}
 use Rattle.numbers.specs.Words.{_and_}
@@ -126,6 +128,22 @@ num-front k a x y h =
 pub num-byte : (a : ℕ) (s : List ℕ) → a < length s → num 1 a s ≡ getD s a 0
 unfolding num
 num-byte a s h = rw (drop-cons s a 0 h) (omega arith)
+
+-- ---- two numbers compared
+
+pub eq-or-not : (x y : ℕ) → (x ≡ y) ⊎ (x ≡ y → ⊥)
+eq-or-not x y = go (eqb x y) refl
+  where
+    go : (b : Bool) → eqb x y ≡ b → (x ≡ y) ⊎ (x ≡ y → ⊥)
+    go true e = inl (eqb-true x y e)
+    go false e = inr (eqb-false x y e)
+
+pub le-or-lt : (x y : ℕ) → (x ≤ y) ⊎ (y < x)
+le-or-lt x y = go (leb x y) refl
+  where
+    go : (b : Bool) → leb x y ≡ b → (x ≤ y) ⊎ (y < x)
+    go true e = inl (leb-true x y e)
+    go false e = inr (leb-false x y e)
 
 -- ---- between two bounds
 

@@ -1,0 +1,4 @@
+pub mod KindLaws
+pub mod MessageLaws
+pub mod RefusalLaws
+pub mod TableLaws
