@@ -3,7 +3,7 @@
 --     last-kind      a kind that is none of 1 to 10 is 11
 --     least-room     the fields take at least `leastOf` bytes
 --     head-long      a frame whose head is right has 7 bytes
---     well-formed    what a well-formed frame keeps, fact by fact
+--     well-formed, formed    a frame is well formed exactly where it keeps these facts
 -- Assumes nothing.
 use mathlib.Core.Path.{_≡_, subst}
 use mathlib.Core.Logic.{⊎-elim}
@@ -12,13 +12,13 @@ use mathlib.Core.List.{List}
 use Prim.Native.Nat.{ℕ, _+_, _*_, _≤_}
 use native.Mathlib.Nat.{le-refl, le-antisymm, eq-or-lt-of-le}
 use native.Mathlib.Omega.{arith}
-use borrow.Author.Tests.{leb-true, eqb-true}
+use borrow.Author.Tests.{leb-true, eqb-true, le-leb, eq-eqb}
 use lib.Dec.{leb, eqb, lit≤}
 use lib.ListN.{length, drop}
 use Rattle.numbers.specs.Words.{if_then_else_, _and_}
 use Rattle.numbers.specs.Numbers.{num, within}
 use Rattle.numbers.proofs.WordLaws.{split, and-both}
-use Rattle.numbers.proofs.NumberLaws.{within-both}
+use Rattle.numbers.proofs.NumberLaws.{within-both, both-within}
 use Rattle.entries.specs.Entries.{entriesOk}
 use Rattle.frames.specs.Kinds.{leastOf, roomOf, fieldsOk, countOf, headOk, bodyOk, wellFormed}
 
@@ -65,9 +65,11 @@ pub head-long : (s : List ℕ) → headOk s ≡ true → 7 ≤ length s
 unfolding headOk
 head-long s h = leb-true 7 (length s) (and-both (leb 7 (length s)) (eqb (num 4 0 s + 4) (length s) and eqb (num 1 4 s) 1) h .0)
 
--- what a caller has from a well-formed frame
+-- what a well-formed frame keeps, fact by fact
 pub record WellFormed (s : List ℕ) : Type 0 where
   pub long : 7 ≤ length s
+  pub size : num 4 0 s + 4 ≡ length s
+  pub version : num 1 4 s ≡ 1
   pub low : 1 ≤ num 1 5 s
   pub high : num 1 5 s ≤ 11
   pub fields : fieldsOk (num 1 5 s) s ≡ true
@@ -75,7 +77,7 @@ pub record WellFormed (s : List ℕ) : Type 0 where
   pub log : entriesOk (countOf (num 1 5 s) s) (drop (roomOf (num 1 5 s) s) s) ≡ true
 
 pub well-formed : (s : List ℕ) → wellFormed s ≡ true → WellFormed s
-unfolding wellFormed bodyOk
+unfolding wellFormed headOk bodyOk
 well-formed s h =
     let k = num 1 5 s in
     let l = entriesOk (countOf k s) (drop (roomOf k s) s) in
@@ -85,11 +87,28 @@ well-formed s h =
     let r = and-both (fieldsOk k s) (x and l) (q .1) in
     let t = and-both x l (r .1) in
     let w = within-both 1 11 k (q .0) in
+    let a = and-both (leb 7 (length s)) (eqb (num 4 0 s + 4) (length s) and eqb (num 1 4 s) 1) (p .0) in
+    let b = and-both (eqb (num 4 0 s + 4) (length s)) (eqb (num 1 4 s) 1) (a .1) in
     record {
-      long = head-long s (p .0);
+      long = leb-true 7 (length s) (a .0);
+      size = eqb-true (num 4 0 s + 4) (length s) (b .0);
+      version = eqb-true (num 1 4 s) 1 (b .1);
       low = w .0;
       high = w .1;
       fields = r .0;
       exact = eqb-true (length s) (roomOf k s + 32 * countOf k s) (t .0);
       log = t .1;
     }
+
+pub formed : (s : List ℕ) → WellFormed s → wellFormed s ≡ true
+unfolding wellFormed headOk bodyOk _and_
+formed s f =
+    rw (
+      le-leb 7 (length s) (f .long),
+      eq-eqb (num 4 0 s + 4) (length s) (f .size),
+      eq-eqb (num 1 4 s) 1 (f .version),
+      both-within 1 11 (num 1 5 s) (f .low) (f .high),
+      f .fields,
+      eq-eqb (length s) (roomOf (num 1 5 s) s + 32 * countOf (num 1 5 s) s) (f .exact),
+      f .log,
+    )

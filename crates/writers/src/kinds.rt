@@ -1,24 +1,15 @@
-// A writer for each kind: the whole frame over the front of the area, the count of its bytes as the answer. A log is lent as a run of entries.
+// The writers of the kinds that replicas send each other: `write_frame` chooses among them.
 ghost use mathlib.Core.List.{[]};
 ghost use Prim.Native.Nat.{_+_, _-_, _*_, _≤_};
 ghost use lib.ListN.{length, take};
 ghost use Rattle.numbers.specs.Numbers.{Wrote};
-ghost use Rattle.writers.specs.Writers.{encode, reply};
+ghost use Rattle.writers.specs.Writers.{encode};
 use crate::parts;
 use entries::Entry;
 use frames::Message;
 use frames::RecoveryState;
 use numbers::Op;
 use numbers::View;
-
-pub fn request(area: &mut [u8], to: u8, e: Entry) -> usize
-    requires { ⌜ 39 ≤ length (now area) ⌝ }
-    ensures { λ k. ⌜ Wrote (encode to (Message.Request e) []) (now (area .entry)) (now (area .exit)) k ⌝ }
-{
-    parts::write_header(area, 35, 1, to);
-    entries::write_entry(&mut area[7..], e);
-    39
-}
 
 pub fn prepare(area: &mut [u8], to: u8, v: View, o: Op, c: Op, e: Entry) -> usize
     requires { ⌜ 51 ≤ length (now area) ⌝ }
@@ -68,9 +59,7 @@ pub fn new_state(area: &mut [u8], to: u8, v: View, a: Op, z: Op, c: Op, log: &[u
 {
     let k = crate::span(a, z);
     let n = 32 * (k as usize);
-    parts::write_viewed(area, 19 + 32 * k, 6, to, v);
-    numbers::write_u32(&mut area[11..], a.0);
-    numbers::write_u32(&mut area[15..], z.0);
+    parts::write_span(area, 19 + 32 * k, to, v, a, z);
     numbers::write_u32(&mut area[19..], c.0);
     numbers::copy(&mut area[23..], log, n);
     23 + n
@@ -158,24 +147,4 @@ pub fn response_full(
     numbers::write_u32(&mut area[25..], c.0);
     numbers::copy(&mut area[29..], log, n);
     29 + n
-}
-
-// A Reply: view, client, request, outcome's number and total.
-pub fn write_reply(
-    area: &mut [u8],
-    v: View,
-    client: u64,
-    request: u64,
-    outcome: u8,
-    total: u64,
-) -> usize
-    requires { ⌜ 36 ≤ length (now area) ⌝ }
-    ensures { λ k. ⌜ Wrote (reply v client request outcome total) (now (area .entry)) (now (area .exit)) k ⌝ }
-{
-    parts::write_viewed(area, 32, 12, 0, v);
-    numbers::write_u64(&mut area[11..], client);
-    numbers::write_u64(&mut area[19..], request);
-    numbers::write_u8(&mut area[27..], outcome);
-    numbers::write_u64(&mut area[28..], total);
-    36
 }

@@ -6,19 +6,48 @@ ghost use Rattle.numbers.specs.Numbers.{Wrote};
 ghost use mathlib.Core.List.{[]};
 ghost use lib.Dec.{eqb};
 ghost use Rattle.numbers.specs.Words.{if_then_else_};
-ghost use Rattle.writers.specs.Writers.{encode, stateSize, sizeOf, lengthOf, Room, toOthers};
+ghost use Rattle.writers.specs.Writers.{encode, reply, stateSize, sizeOf, lengthOf, Room, toOthers};
+use entries::Entry;
 use frames::Message;
 use frames::RecoveryState;
 use numbers::Op;
 use numbers::View;
 
 mod parts; // the header, and the fields of frames that carry a log
-pub mod kinds; // a writer for each kind
+mod kinds; // the other kinds, a writer each
 
 // The bytes of a frame before the log that it carries, and how many entries that has.
 pub struct Size {
     pub fields: usize,
     pub entries: u32,
+}
+
+// A Request to replica `to`.
+pub fn write_request(area: &mut [u8], to: u8, e: Entry) -> usize
+    requires { ⌜ 39 ≤ length (now area) ⌝ }
+    ensures { λ k. ⌜ Wrote (encode to (Message.Request e) []) (now (area .entry)) (now (area .exit)) k ⌝ }
+{
+    parts::write_header(area, 35, 1, to);
+    entries::write_entry(&mut area[7..], e);
+    39
+}
+
+// A Reply: view, client, request, outcome's number and total.
+pub fn write_reply(
+    area: &mut [u8],
+    v: View,
+    client: u64,
+    request: u64,
+    outcome: u8,
+    total: u64,
+) -> usize
+    requires { ⌜ 36 ≤ length (now area) ⌝ }
+    ensures { λ k. ⌜ Wrote (reply v client request outcome total) (now (area .entry)) (now (area .exit)) k ⌝ }
+{
+    parts::write_answered(area, v, client, request);
+    numbers::write_u8(&mut area[27..], outcome);
+    numbers::write_u64(&mut area[28..], total);
+    36
 }
 
 // z less a, or 0.
@@ -142,7 +171,7 @@ pub fn write_frame(area: &mut [u8], to: u8, m: Message, log: &[u8]) -> usize
     ensures { λ k. ⌜ Wrote (encode to m (take (32 * sizeOf m .entries) (now (log .entry)))) (now (area .entry)) (now (area .exit)) k ⌝ }
 {
     match m {
-        Message::Request { entry } => kinds::request(area, to, entry),
+        Message::Request { entry } => write_request(area, to, entry),
         Message::Prepare {
             view,
             op,

@@ -5,6 +5,7 @@ ghost use Prim.Native.Nat.{_≤_};
 ghost use lib.ListN.{length};
 ghost use Rattle.numbers.specs.Numbers.{big, over};
 ghost use Rattle.writers.specs.Writers.{header};
+use numbers::Op;
 use numbers::View;
 
 // Length, version, kind, addressee.
@@ -25,6 +26,26 @@ pub fn write_viewed(area: &mut [u8], len: u32, kind: u8, to: u8, v: View)
 {
     write_header(area, len, kind, to);
     numbers::write_u32(&mut area[7..], v.0);
+}
+
+// A NewState up to its end.
+pub fn write_span(area: &mut [u8], len: u32, to: u8, v: View, a: Op, z: Op)
+    requires { ⌜ 19 ≤ length (now area) ⌝ }
+    ensures { λ n. ⌜ now (area .exit) ≡ over (header len 6 to ++ big 4 (v .0) ++ big 4 (a .0) ++ big 4 (z .0)) (now (area .entry)) ⌝ }
+{
+    write_viewed(area, len, 6, to, v);
+    numbers::write_u32(&mut area[11..], a.0);
+    numbers::write_u32(&mut area[15..], z.0);
+}
+
+// A Reply up to the request number.
+pub fn write_answered(area: &mut [u8], v: View, client: u64, request: u64)
+    requires { ⌜ 27 ≤ length (now area) ⌝ }
+    ensures { λ n. ⌜ now (area .exit) ≡ over (header 32 12 0 ++ big 4 (v .0) ++ big 8 client ++ big 8 request) (now (area .entry)) ⌝ }
+{
+    write_viewed(area, 32, 12, 0, v);
+    numbers::write_u64(&mut area[11..], client);
+    numbers::write_u64(&mut area[19..], request);
 }
 
 // A DoViewChange up to the last normal view.

@@ -5,9 +5,9 @@ use borrow.Author.Needs.{needs}
 use Rattle.writers.proofs.write_frame.Statement.{statement}
 use Rattle.writers.proofs.write_frame.Tie as tie
 
-request-requires : tie.Need-request-requires
+write-request-requires : tie.Need-write-request-requires
 unfolding encode sizeOf lengthOf
-request-requires c κs = omega (arith, (rw (c .before .before .m .given .1) at (c .before .before .before .before .before .before .pre)) .fits)
+write-request-requires c κs = omega (arith, (rw (c .before .before .m .given .1) at (c .before .before .before .before .before .before .pre)) .fits)
 
 prepare-requires : tie.Need-prepare-requires
 unfolding encode sizeOf lengthOf
@@ -51,7 +51,7 @@ write-state-requires c κs = rw (c .before .before .m11 .given .1) at (c .before
 
 returns : tie.Need-returns
 unfolding encode sizeOf lengthOf
-returns c = rw (c .before .before .before .before .before .m .given .1) (c .before .before .request .ensures)
+returns c = rw (c .before .before .before .before .before .m .given .1) (c .before .before .write-request .ensures)
 
 returns-2 : tie.Need-returns-2
 unfolding encode sizeOf lengthOf
@@ -98,7 +98,7 @@ write-frame-spec =
     tie.close
     (tie.spec
     (λ c. search needs)
-    request-requires
+    write-request-requires
     (λ c. search needs)
     prepare-requires
     (λ c. search needs)

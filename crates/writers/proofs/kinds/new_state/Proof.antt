@@ -15,19 +15,15 @@ use Rattle.writers.proofs.kinds.new_state.Tie as tie
 returns : tie.Need-returns
 unfolding big header encode sizeOf lengthOf
 returns c =
-    let c5 = c .before .before in
-    let c4 = c5 .before .before .before .before in
-    let c3 = c4 .before .before .before .before in
+    let c3 = c .before .before in
     let c2 = c3 .before .before .before .before in
     let c1 = c2 .before .before .before .before in
     let t = c1 .before .before .before .before .before in
     let a = t .args in
     let k = c1 .before .before .span .ensures in
-    let s2 = over-lend _ _ _ 11 refl (rw k at (c1 .write-viewed .ensures)) (c2 .write-u32 .ensures) in
-    let s3 = over-lend _ _ _ 15 refl s2 (c3 .write-u322 .ensures) in
-    let s4 = over-lend _ _ _ 19 refl s3 (c4 .write-u323 .ensures) in
+    let s2 = over-lend _ _ _ 19 refl (rw k at (c1 .write-span .ensures)) (c2 .write-u32 .ensures) in
     record {
-      bytes = over-lend _ _ _ 23 refl s4 (rw k at (c5 .copy .ensures));
+      bytes = over-lend _ _ _ 23 refl s2 (rw k at (c3 .copy .ensures));
       count =
           ap (λ (x : ℕ). 23 + 32 * x) k
           ∙ sym (encode-length (a .to) (NewState (a .v) (a .a) (a .z) (a .c)) (take (32 * (a .z .0 - a .a .0)) (a .log .now)) (length-take-le (32 * (a .z .0 - a .a .0)) (a .log .now) (t .pre .1 .0)));
@@ -39,14 +35,6 @@ new-state-spec =
     (tie.spec
     (λ c κs. search needs)
     (λ c. search needs)
-    (λ c. search needs)
-    (λ c. search needs)
-    (λ c. search needs)
-    (λ c κs. search needs)
-    (λ c. search needs)
-    (λ c. search needs)
-    (λ c. search needs)
-    (λ c κs. search needs)
     (λ c. search needs)
     (λ c. search needs)
     (λ c. search needs)

@@ -1,12 +1,12 @@
--- `writers::kinds::request` meets its contract: each part stands straight behind the one before. Assumes nothing.
+-- `writers::write_request` meets its contract: each part stands straight behind the one before. Assumes nothing.
 use mathlib.Core.Path.{refl}
 use Rattle.numbers.specs.Numbers.{big}
 use Rattle.numbers.proofs.RunLaws.{over-lend}
 use Rattle.writers.specs.Writers.{header, encode}
 use Rattle.entries.specs.Entries.{encodeEntry}
 use borrow.Author.Needs.{needs}
-use Rattle.writers.proofs.kinds.request.Statement.{statement}
-use Rattle.writers.proofs.kinds.request.Tie as tie
+use Rattle.writers.proofs.write_request.Statement.{statement}
+use Rattle.writers.proofs.write_request.Tie as tie
 
 returns : tie.Need-returns
 unfolding big header encode encodeEntry
@@ -15,8 +15,8 @@ returns c =
     let c1 = c2 .before .before .before .before in
     record { bytes = over-lend _ _ _ 7 refl (c1 .write-header .ensures) (c2 .write-entry .ensures); count = refl }
 
-pub request-spec : {M : Type 1} → statement M
-request-spec =
+pub write-request-spec : {M : Type 1} → statement M
+write-request-spec =
     tie.close
     (tie.spec
     (λ c κs. search needs)
