@@ -32,45 +32,21 @@ pub fn carried(m: Message) -> Carried
     ensures { λ r. ⌜ r ≡ carriedOf m ⌝ }
 {
     match m {
-        Message::Request { entry: _ } => row(1, 0, Op(0), Op(0), 0, 0),
-        Message::Prepare {
-            view: _,
-            op,
-            commit: _,
-            entry: _,
-        } => row(2, 0, op, Op(0), 0, 0),
-        Message::PrepareOk { view: _, op, from } => row(3, from, op, Op(0), 0, 0),
-        Message::Commit { view: _, commit: _ } => row(4, 0, Op(0), Op(0), 0, 0),
-        Message::GetState { from, view: _, op } => row(5, from, op, Op(0), 0, 0),
-        Message::NewState {
-            view: _,
-            start: _,
-            end,
-            commit,
-        } => row(6, 0, end, commit, 23, 0),
-        Message::StartViewChange { view: _, from } => row(7, from, Op(0), Op(0), 0, 0),
+        Message::Request { .. } => row(1, 0, Op(0), Op(0), 0, 0),
+        Message::Prepare { op, .. } => row(2, 0, op, Op(0), 0, 0),
+        Message::PrepareOk { op, from, .. } => row(3, from, op, Op(0), 0, 0),
+        Message::Commit { .. } => row(4, 0, Op(0), Op(0), 0, 0),
+        Message::GetState { from, op, .. } => row(5, from, op, Op(0), 0, 0),
+        Message::NewState { end, commit, .. } => row(6, 0, end, commit, 23, 0),
+        Message::StartViewChange { from, .. } => row(7, from, Op(0), Op(0), 0, 0),
         Message::DoViewChange {
-            view: _,
             from,
-            last_normal: _,
             op,
             commit,
+            ..
         } => row(8, from, op, commit, 24, op.0),
-        Message::StartView {
-            view: _,
-            op,
-            commit,
-        } => row(9, 0, op, commit, 19, op.0),
-        Message::Recovery {
-            from,
-            nonce: _,
-            view: _,
-        } => row(10, from, Op(0), Op(0), 0, 0),
-        Message::RecoveryResponse {
-            view: _,
-            nonce: _,
-            from,
-            state,
-        } => response(from, state),
+        Message::StartView { op, commit, .. } => row(9, 0, op, commit, 19, op.0),
+        Message::Recovery { from, .. } => row(10, from, Op(0), Op(0), 0, 0),
+        Message::RecoveryResponse { from, state, .. } => response(from, state),
     }
 }

@@ -1,4 +1,4 @@
-// The writers of the kinds that replicas send each other: `write_frame` chooses among them.
+// A writer for each kind that replicas send each other; `write_frame` chooses among them. `log` begins with the entries that are carried.
 ghost use mathlib.Core.List.{[]};
 ghost use Prim.Native.Nat.{_+_, _-_, _*_, _≤_};
 ghost use lib.ListN.{length, take};

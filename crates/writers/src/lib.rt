@@ -14,7 +14,7 @@ use numbers::Op;
 use numbers::View;
 
 mod parts; // the header, and the fields of frames that carry a log
-mod kinds; // the other kinds, a writer each
+pub mod kinds; // a writer for each kind that replicas send each other
 
 // The bytes of a frame before the log that it carries, and how many entries that has.
 pub struct Size {
@@ -71,7 +71,7 @@ fn response_size(state: RecoveryState) -> Size
 {
     match state {
         RecoveryState::Absent => sized(21, 0),
-        RecoveryState::Present { op, commit: _ } => sized(29, op.0),
+        RecoveryState::Present { op, .. } => sized(29, op.0),
     }
 }
 
@@ -79,54 +79,17 @@ fn frame_size(m: Message) -> Size
     ensures { λ r. ⌜ r ≡ sizeOf m ⌝ }
 {
     match m {
-        Message::Request { entry: _ } => sized(39, 0),
-        Message::Prepare {
-            view: _,
-            op: _,
-            commit: _,
-            entry: _,
-        } => sized(51, 0),
-        Message::PrepareOk {
-            view: _,
-            op: _,
-            from: _,
-        } => sized(16, 0),
-        Message::Commit { view: _, commit: _ } => sized(15, 0),
-        Message::GetState {
-            from: _,
-            view: _,
-            op: _,
-        } => sized(16, 0),
-        Message::NewState {
-            view: _,
-            start,
-            end,
-            commit: _,
-        } => sized(23, span(start, end)),
-        Message::StartViewChange { view: _, from: _ } => sized(12, 0),
-        Message::DoViewChange {
-            view: _,
-            from: _,
-            last_normal: _,
-            op,
-            commit: _,
-        } => sized(24, op.0),
-        Message::StartView {
-            view: _,
-            op,
-            commit: _,
-        } => sized(19, op.0),
-        Message::Recovery {
-            from: _,
-            nonce: _,
-            view: _,
-        } => sized(20, 0),
-        Message::RecoveryResponse {
-            view: _,
-            nonce: _,
-            from: _,
-            state,
-        } => response_size(state),
+        Message::Request { .. } => sized(39, 0),
+        Message::Prepare { .. } => sized(51, 0),
+        Message::PrepareOk { .. } => sized(16, 0),
+        Message::Commit { .. } => sized(15, 0),
+        Message::GetState { .. } => sized(16, 0),
+        Message::NewState { start, end, .. } => sized(23, span(start, end)),
+        Message::StartViewChange { .. } => sized(12, 0),
+        Message::DoViewChange { op, .. } => sized(24, op.0),
+        Message::StartView { op, .. } => sized(19, op.0),
+        Message::Recovery { .. } => sized(20, 0),
+        Message::RecoveryResponse { state, .. } => response_size(state),
     }
 }
 
