@@ -1,0 +1,6 @@
+pub mod RefusalLaws
+pub mod StepLaws
+pub mod ReplyLaws
+pub mod CallLaws
+pub mod RequestLaws
+pub mod OneAnswer

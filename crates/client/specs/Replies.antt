@@ -1,0 +1,54 @@
+-- Document 01, "Frames", kind 12, read by the desk: a Reply is 36 bytes, its length field is 32, version 1, kind 12, addressee 0, then
+-- v client request outcome total(8), and the outcome is one of the six of "Fee rules". Anything else is malformed: 2. Assumes nothing.
+use mathlib.Core.Bool.{Bool}
+use mathlib.Core.List.{List}
+use Prim.Native.Nat.{ℕ}
+use lib.Dec.{eqb}
+use lib.ListN.{length}
+use Rattle.numbers.specs.Words.{if_then_else_, _and_}
+use Rattle.numbers.specs.Numbers.{num, viewAt, within}
+use Rattle.client.specs.declared.Outcome.{Outcome}
+use Rattle.client.specs.declared.Outcome.the-variants.{Fee, Refund, Ask, NoMember, PastLimit, PastTotal}
+use Rattle.client.specs.declared.Read.{Read}
+use Rattle.client.specs.declared.Read.the-variants.{Reply, Malformed}
+
+-- the document's number of each outcome
+abbrev pub outcomeNumber : Outcome → ℕ
+outcomeNumber Fee = 1
+outcomeNumber Refund = 2
+outcomeNumber Ask = 3
+outcomeNumber NoMember = 4
+outcomeNumber PastLimit = 5
+outcomeNumber PastTotal = 6
+
+-- The outcome of a number. Only 1 to 6 pass `replyOk`; any other number is read as PastTotal.
+unfoldable pub outcomeOf : ℕ → Outcome
+outcomeOf k =
+    if eqb k 1 then Fee else
+    if eqb k 2 then Refund else
+    if eqb k 3 then Ask else
+    if eqb k 4 then NoMember else
+    if eqb k 5 then PastLimit else
+    PastTotal
+
+-- malformed exactly where this is false
+unfoldable pub replyOk : List ℕ → Bool
+replyOk s =
+    eqb (length s) 36
+    and eqb (num 4 0 s) 32
+    and eqb (num 1 4 s) 1
+    and eqb (num 1 5 s) 12
+    and eqb (num 1 6 s) 0
+    and within 1 6 (num 1 27 s)
+
+-- what the frame says
+abbrev pub replySaid : List ℕ → Read
+replySaid s = Reply (viewAt 7 s) (num 8 11 s) (num 8 19 s) (outcomeOf (num 1 27 s)) (num 8 28 s)
+
+unfoldable pub readReply : List ℕ → Read
+readReply s = if replyOk s then replySaid s else Malformed
+
+-- the document's refusal number of a read
+abbrev pub readNumber : Read → ℕ
+readNumber (Reply view client request outcome total) = 0
+readNumber Malformed = 2

@@ -1,0 +1,34 @@
+// The client's record, lent and changed in its place: thin functions over `&mut Client` that call the covered ones of `client` by value.
+ghost use mathlib.Core.Path.{_≡_};
+ghost use lib.ListN.{length};
+ghost use Rattle.client.specs.Client.{requestedOf, requestedArea, repliedOf, idledOf, idledArea};
+use client::Client;
+use client::Heard;
+use client::Resent;
+use client::Sent;
+use numbers::View;
+
+// The Rust's `on_request`: the answer, the record behind the reference, and the area, are those of `client::requested`.
+pub fn request(c: &mut Client, operation: u8, member: u32, cents: u64, area: &mut [u8]) -> Sent
+    ensures { λ r. ⌜ (r ≡ requestedOf (now (c .entry)) operation member cents (length (now (area .entry))) .answer) × ((now (c .exit) ≡ requestedOf (now (c .entry)) operation member cents (length (now (area .entry))) .client) × (now (area .exit) ≡ requestedArea (now (c .entry)) operation member cents (now (area .entry)))) ⌝ }
+{
+    let r = client::requested(*c, operation, member, cents, area);
+    *c = r.client;
+    r.answer
+}
+
+// The Rust's `on_reply`.
+pub fn reply(c: &mut Client, number: u64, view: View) -> Heard
+    ensures { λ r. ⌜ (r ≡ repliedOf (now (c .entry)) number view .answer) × (now (c .exit) ≡ repliedOf (now (c .entry)) number view .client) ⌝ }
+{
+    let r = client::replied(*c, number, view);
+    *c = r.client;
+    r.answer
+}
+
+// The Rust's `on_idle`: the record is only read.
+pub fn idle(c: &mut Client, area: &mut [u8]) -> Resent
+    ensures { λ r. ⌜ (r ≡ idledOf (now (c .entry)) (length (now (area .entry)))) × ((now (c .exit) ≡ now (c .entry)) × (now (area .exit) ≡ idledArea (now (c .entry)) (now (area .entry)))) ⌝ }
+{
+    client::idled(*c, area)
+}

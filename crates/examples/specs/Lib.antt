@@ -1,0 +1,6 @@
+pub mod Shape
+pub mod Frames
+pub mod Marked
+pub mod Directed
+pub mod Misread
+pub mod Surprises

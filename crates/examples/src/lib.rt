@@ -1,0 +1,1 @@
+// The marked examples of document 01 and more of them, under specs/ and proofs/. No code.

@@ -1,0 +1,3 @@
+pub mod CaseLaws
+pub mod BookLaws
+pub mod StepLaws

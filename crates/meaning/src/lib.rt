@@ -1,0 +1,1 @@
+// The replica as a model, under specs/. No code.

@@ -1,0 +1,197 @@
+-- What every book that a call can reach has, and that append, commit and install keep it. Assumes nothing.
+use Prim.Native.Nat.{ℕ, _+_, _-_, _≤_, _<_}
+use native.Mathlib.Nat.{le-refl}
+use native.Mathlib.Omega.{arith}
+use mathlib.Core.Path.{_≡_, refl, sym, ap, _∙_}
+use mathlib.Core.Bool.{true}
+use mathlib.Core.List.{List, [], _∷_, _++_, append-assoc, append-nil}
+use mathlib.Core.Option.{none}
+use lib.ListN.{length, take, length-append, length-take, length-drop}
+use lib.Seq.{take-append-le, take-add, take-at, length-take-le}
+use Rattle.entries.specs.Rising.{rising}
+use Rattle.entries.specs.declared.Entry.{Entry}
+use Rattle.config.specs.declared.Setup.{Setup}
+use Rattle.fees.specs.declared.Outcome.{Outcome}
+use Rattle.meaning.specs.State.{Row, Book}
+use Rattle.meaning.specs.Book.{through, answersOf, put, rowOf, append, appendAll, commitOne, commitAll, commitUpTo, due, install, agree}
+use Rattle.meaning.proofs.BookLaws.{through-append, answers-append, commitAll-log, commitAll-commit, commitAll-applied, commitAll-totals, commitAll-results}
+use Rattle.meaning.proofs.BookLaws.{agree-take, agree-le, length-due, appendAll-log, appendAll-length}
+use Rattle.safety.specs.Demand.{Rises, bare, rowsOf, zeros}
+use Rattle.safety.proofs.Tables.{put-rises, keep-rises, keep-bare, append-bare, rows-append, rebuilt-rises, rebuilt-bare}
+
+-- the invariant
+pub record BookInv (u : Setup) (b : Book) : Type 0 where
+  pub applied-is : b .applied ≡ take (b .commit) (b .log)
+  pub commit-le : b .commit ≤ length (b .log)
+  pub log-fits : length (b .log) ≤ u .room
+  pub log-rises : rising (b .log) ≡ true
+  pub table-rises : Rises (b .table)
+  pub table-is : bare (b .table) ≡ rowsOf [] (b .log)
+  pub totals-are : b .totals ≡ through (zeros u) (b .applied)
+  pub results-are : b .results ≡ answersOf (zeros u) (b .applied)
+
+-- what a book that followed has besides
+pub record Grown (u : Setup) (b b′ : Book) : Type 0 where
+  pub inv : BookInv u b′
+  pub commit-up : b .commit ≤ b′ .commit
+  pub more : List Entry
+  pub grows : b′ .applied ≡ b .applied ++ more
+
+abbrev pub Ok : Setup → Book → Book → Type 0
+Ok u b b′ = BookInv u b → Grown u b b′
+
+-- a commit of entries keeps the table
+commitAll-table : (b : Book) (es : List Entry) → Rises (b .table) → Rises (commitAll b es .table) × (bare (commitAll b es .table) ≡ bare (b .table))
+unfolding commitAll commitOne
+commitAll-table b [] p = (p, refl)
+commitAll-table b (e ∷ es) p =
+    let r : Rises (commitAll (commitOne b e) es .table) × (bare (commitAll (commitOne b e) es .table) ≡ bare (commitOne b e .table)) =
+    commitAll-table (commitOne b e) es (keep-rises (b .table) e _ p) in
+    (r .0, r .1 ∙ keep-bare (b .table) e _ p)
+
+module _ (u : Setup) (b : Book) where
+  pub same-ok : Ok u b b
+  same-ok i = record { inv = i; commit-up = le-refl _; more = []; grows = sym (append-nil (b .applied)) }
+
+  append-table : (e : Entry) → bare (b .table) ≡ rowsOf [] (b .log) → bare (put (b .table) (rowOf e none)) ≡ rowsOf [] (b .log ++ (e ∷ []))
+  unfolding rowsOf
+  append-table e p =
+      append-bare (b .table) e ∙ ap (λ (t : List Row). put t (rowOf e none)) p ∙ sym (rows-append [] (b .log) (e ∷ []))
+
+  pub append-ok : (e : Entry) → length (b .log) < u .room → rising (b .log ++ (e ∷ [])) ≡ true → Ok u b (append b e)
+  unfolding append
+  append-ok e h r i =
+      record {
+        inv =
+            record {
+              applied-is = i .applied-is ∙ sym (take-append-le _ _ _ (i .commit-le));
+              commit-le = simp length-append (omega arith);
+              log-fits = simp length-append (omega arith);
+              log-rises = r;
+              table-rises = put-rises (b .table) _ (i .table-rises);
+              table-is = append-table e (i .table-is);
+              totals-are = i .totals-are;
+              results-are = i .results-are;
+            };
+        commit-up = le-refl _;
+        more = [];
+        grows = sym (append-nil (b .applied));
+      }
+
+  pub commit-ok : (k : ℕ) → k ≤ length (b .log) → Ok u b (commitUpTo b k)
+  unfolding commitUpTo due
+  commit-ok k h i =
+      record {
+        inv =
+            record {
+              applied-is = simp (commitAll-applied, commitAll-commit, commitAll-log, length-due, take-add) (cc (i .applied-is));
+              commit-le = simp (commitAll-commit, commitAll-log, length-take, length-drop) (omega arith);
+              log-fits = rw commitAll-log (i .log-fits);
+              log-rises = rw commitAll-log (i .log-rises);
+              table-rises = commitAll-table b (due b k) (i .table-rises) .0;
+              table-is = rw commitAll-log (commitAll-table b (due b k) (i .table-rises) .1 ∙ i .table-is);
+              totals-are = simp (commitAll-applied, commitAll-totals, through-append) (ap (λ (t : List ℕ). through t (due b k)) (i .totals-are));
+              results-are =
+                  commitAll-results b (due b k)
+                  ∙ ap (λ (l : List Outcome). l ++ answersOf (b .totals) (due b k)) (i .results-are)
+                  ∙ ap (λ (t : List ℕ). answersOf (zeros u) (b .applied) ++ answersOf t (due b k)) (i .totals-are)
+                  ∙ sym (answers-append (zeros u) (b .applied) (due b k))
+                  ∙ ap (answersOf (zeros u)) (sym (commitAll-applied b (due b k)));
+            };
+        commit-up = simp commitAll-commit (omega arith);
+        more = due b k;
+        grows = commitAll-applied b (due b k);
+      }
+
+  pub install-ok : (log : List Entry) → length log ≤ u .room → rising log ≡ true → b .commit ≤ length log → take (b .commit) log ≡ take (b .commit) (b .log)
+      → Ok u b (install b log)
+  unfolding install bare
+  install-ok log h r le t i =
+      record {
+        inv =
+            record {
+              applied-is = i .applied-is ∙ sym t;
+              commit-le = le;
+              log-fits = h;
+              log-rises = r;
+              table-rises = rebuilt-rises (b .table) (b .commit) [] log tt;
+              table-is = rebuilt-bare (b .table) (b .commit) [] log;
+              totals-are = i .totals-are;
+              results-are = i .results-are;
+            };
+        commit-up = le-refl _;
+        more = [];
+        grows = sym (append-nil (b .applied));
+      }
+
+  pub agreed-ok : (log : List Entry) → length log ≤ u .room → rising log ≡ true → agree (b .commit) log (b .log) ≡ true → Ok u b (install b log)
+  agreed-ok log h r a = install-ok log h r (agree-le _ _ _ a) (agree-take _ _ _ a)
+
+-- an append of entries
+appendAll-table : (u : Setup) (b : Book) (es : List Entry) → Rises (b .table) → bare (b .table) ≡ rowsOf [] (b .log)
+    → Rises (appendAll b es .table) × (bare (appendAll b es .table) ≡ rowsOf [] (appendAll b es .log))
+unfolding appendAll append
+appendAll-table u b [] p q = (p, q)
+appendAll-table u b (e ∷ es) p q = appendAll-table u (append b e) es (put-rises (b .table) _ p) (append-table u b e q)
+
+-- the fields that an append leaves
+record Left (b c : Book) : Type 0 where
+  commit : c .commit ≡ b .commit
+  totals : c .totals ≡ b .totals
+  applied : c .applied ≡ b .applied
+  results : c .results ≡ b .results
+
+appendAll-rest : (b : Book) (es : List Entry) → Left b (appendAll b es)
+unfolding appendAll append
+appendAll-rest b [] = record { commit = refl; totals = refl; applied = refl; results = refl }
+appendAll-rest b (e ∷ es) =
+    let x : Left (append b e) (appendAll (append b e) es) = appendAll-rest (append b e) es in
+    record { commit = x .commit; totals = x .totals; applied = x .applied; results = x .results }
+
+pub appendAll-ok : (u : Setup) (b : Book) (es : List Entry) → length (b .log) + length es ≤ u .room → rising (b .log ++ es) ≡ true → Ok u b (appendAll b es)
+appendAll-ok u b es h r i =
+    let x : Left b (appendAll b es) = appendAll-rest b es in
+    record {
+      inv =
+          record {
+            applied-is = simp (appendAll-log, x .commit, x .applied, take-append-le _ (b .log) es (i .commit-le)) (i .applied-is);
+            commit-le = omega (arith, appendAll-length b es, x .commit);
+            log-fits = omega (arith, appendAll-length b es);
+            log-rises = rw appendAll-log r;
+            table-rises = appendAll-table u b es (i .table-rises) (i .table-is) .0;
+            table-is = appendAll-table u b es (i .table-rises) (i .table-is) .1;
+            totals-are = simp (x .totals, x .applied) (i .totals-are);
+            results-are = simp (x .results, x .applied) (i .results-are);
+          };
+      commit-up = omega (arith, x .commit);
+      more = [];
+      grows = x .applied ∙ sym (append-nil (b .applied));
+    }
+
+-- one change after another
+pub then-ok : (u : Setup) (a b c : Book) → Ok u a b → Ok u b c → Ok u a c
+then-ok u a b c f g i =
+    let x : Grown u a b = f i in
+    let y : Grown u b c = g (x .inv) in
+    record {
+      inv = y .inv;
+      commit-up = omega arith;
+      more = x .more ++ y .more;
+      grows = y .grows ∙ ap (λ (l : List Entry). l ++ y .more) (x .grows) ∙ append-assoc (a .applied) (x .more) (y .more);
+    }
+
+-- what a NewState does: entries at the end, or in place of what is not committed; then a commit
+pub gap-ok : (u : Setup) (b : Book) (es : List Entry) (c : ℕ) → length (b .log) + length es ≤ u .room → rising (b .log ++ es) ≡ true
+    → c ≤ length (b .log) + length es → Ok u b (commitUpTo (appendAll b es) c)
+gap-ok u b es c h r k = then-ok u _ _ _ (appendAll-ok u b es h r) (commit-ok u (appendAll b es) c (omega (arith, appendAll-length b es)))
+
+pub join-ok : (u : Setup) (b : Book) (es : List Entry) (c : ℕ) → b .commit + length es ≤ u .room → rising (take (b .commit) (b .log) ++ es) ≡ true
+    → c ≤ b .commit + length es → Ok u b (commitUpTo (install b (take (b .commit) (b .log) ++ es)) c)
+unfolding install
+join-ok u b es c h r k i =
+    let kept : length (take (b .commit) (b .log)) ≡ b .commit = length-take-le _ _ (i .commit-le) in
+    let all : length (take (b .commit) (b .log) ++ es) ≡ b .commit + length es = rw (length-append, kept) in
+    then-ok u _ _ _
+    (install-ok u b (take (b .commit) (b .log) ++ es) (omega arith) r (omega arith) (take-at _ es _ kept))
+    (commit-ok u (install b (take (b .commit) (b .log) ++ es)) c (omega arith))
+    i

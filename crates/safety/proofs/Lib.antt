@@ -1,0 +1,6 @@
+pub mod Money
+pub mod Tables
+pub mod Books
+pub mod Handlers
+pub mod Messages
+pub mod Runs

@@ -1,0 +1,184 @@
+-- The client table: client ids stay in rising order, and but for the replies it is what the log's entries leave. Assumes nothing.
+use Prim.Native.Nat.{ℕ, zero, suc, _+_, _-_, _≤_, _<_}
+use native.Mathlib.Omega.{arith}
+use mathlib.Core.Path.{_≡_, refl, sym, ap, _∙_}
+use mathlib.Core.Bool.{true, false}
+use mathlib.Core.List.{List, [], _∷_, _++_}
+use mathlib.Core.Option.{Option, none}
+use lib.Dec.{eqb}
+use lib.ListN.{length, getD}
+use borrow.Author.Tests.{ltb-true, ltb-false, eqb-true, eqb-false, ne-eqb, eq-eqb}
+use Rattle.numbers.specs.Words.{_and_}
+use Rattle.numbers.proofs.WordLaws.{split, split₂, if-true, if-false}
+use Rattle.entries.specs.declared.Entry.{Entry}
+use Rattle.fees.specs.declared.Outcome.{Outcome}
+use Rattle.meaning.specs.State.{Row}
+use Rattle.meaning.specs.Book.{Seen, find, put, rowOf, keep, rebuilt}
+use Rattle.meaning.proofs.CaseLaws.{and-left, and-right}
+use Rattle.safety.specs.Demand.{Above, Rises, bare, rowsOf}
+
+above-more : (a b : ℕ) (t : List Row) → a ≤ b → Above b t → Above a t
+above-more a b [] h p = tt
+above-more a b (r ∷ rs) h p = (omega arith, above-more a b rs h (p .1))
+
+put-above : (c : ℕ) (t : List Row) (r : Row) → c < r .client → Above c t → Above c (put t r)
+unfolding put
+put-above c [] r h p = (h, tt)
+put-above c (q ∷ qs) r h p =
+    split (Above c) _ _ _ (λ _. (h, p)) λ _.
+    split (Above c) _ _ _ (λ _. (h, p .1)) (λ _. (p .0, put-above c qs r h (p .1)))
+
+pub put-rises : (t : List Row) (r : Row) → Rises t → Rises (put t r)
+unfolding put
+put-rises [] r p = (tt, tt)
+put-rises (q ∷ qs) r p =
+    split Rises _ _ _ (λ lt. let h : r .client < q .client = ltb-true _ _ lt in ((h, above-more _ _ qs (omega arith) (p .0)), p)) λ ge.
+    split Rises _ _ _
+    (λ eq. let h : r .client ≡ q .client = eqb-true _ _ eq in (rw h (p .0), p .1))
+    (λ ne. let a : q .client ≤ r .client = ltb-false _ _ ge in let b : r .client ≡ q .client → ⊥ = eqb-false _ _ ne in
+    (put-above _ qs r (omega (arith, b)) (p .0), put-rises qs r (p .1)))
+
+pub put-length : (t : List Row) (r : Row) → length (put t r) ≤ length t + 1
+unfolding put
+put-length [] r = omega arith
+put-length (q ∷ qs) r =
+    let P : List Row → Type 0 = λ l. length l ≤ length (q ∷ qs) + 1 in
+    split P _ _ _ (λ _. omega arith) λ _. split P _ _ _ (λ _. omega arith) (λ _. omega (arith, put-length qs r))
+
+absent : (c : ℕ) (t : List Row) → Above c t → find t c .there ≡ false
+unfolding find
+absent c [] p = refl
+absent c (q ∷ qs) p =
+    split (λ (x : Seen). x .there ≡ false) _ _ _
+    (λ eq. let h : q .client ≡ c = eqb-true _ _ eq in absurd (omega arith)) (λ _. absent c qs (p .1))
+
+-- ---- without the replies
+
+bareRow : Row → Row
+bareRow r = record { client = r .client; request = r .request; kept = none }
+
+bare-put : (t : List Row) (r : Row) → bare (put t r) ≡ put (bare t) (bareRow r)
+unfolding bare put bareRow
+bare-put [] r = refl
+bare-put (q ∷ qs) r =
+    split₂ (λ (a b : List Row). bare a ≡ b) _ _ _ _ _ _ refl (λ _. refl) λ _.
+    split₂ (λ (a b : List Row). bare a ≡ b) _ _ _ _ _ _ refl (λ _. refl) (λ _. ap (_∷_ (bareRow q)) (bare-put qs r))
+
+bare-length : (t : List Row) → length (bare t) ≡ length t
+unfolding bare
+bare-length [] = refl
+bare-length (r ∷ rs) = ap suc (bare-length rs)
+
+bare-there : (t : List Row) (c : ℕ) → find t c .there ≡ find (bare t) c .there
+unfolding bare find
+bare-there [] c = refl
+bare-there (r ∷ rs) c = split₂ (λ (a b : Seen). a .there ≡ b .there) _ _ _ _ _ _ refl (λ _. refl) (λ _. bare-there rs c)
+
+-- a row of the same client and number in its place
+put-same : (t : List Row) (c r : ℕ) → Rises t → find t c .there ≡ true → find t c .request ≡ r
+    → put (bare t) (record { client = c; request = r; kept = none }) ≡ bare t
+unfolding put find bare bareRow
+put-same [] c r p f e = cc
+put-same (q ∷ qs) c r p f e =
+    let P : List Row → Type 0 = λ l. l ≡ bare (q ∷ qs) in
+    split P _ _ _
+    (λ lt.
+    let h : c < q .client = ltb-true _ _ lt in
+    let no : find (q ∷ qs) c .there ≡ false = absent c (q ∷ qs) (h, above-more _ _ qs (omega arith) (p .0)) in
+    cc)
+    λ ge.
+    split P _ _ _
+    (λ eq.
+    let h : c ≡ q .client = eqb-true _ _ eq in
+    let g : q .request ≡ r = rw (if-true (eqb (q .client) c) _ _ (eq-eqb _ _ (sym h))) at e in
+    λ i. record { client = h i; request = sym g i; kept = none } ∷ bare qs)
+    (λ ne.
+    let n : eqb (q .client) c ≡ false = ne-eqb _ _ (λ x. eqb-false c (q .client) ne (sym x)) in
+    ap (_∷_ (bareRow q)) (put-same qs c r (p .1) (rw (if-false (eqb (q .client) c) _ _ n) at f) (rw (if-false (eqb (q .client) c) _ _ n) at e)))
+
+-- ---- the model's changes of the table
+
+pub keep-rises : (t : List Row) (e : Entry) (o : Outcome) → Rises t → Rises (keep t e o)
+unfolding keep
+keep-rises t e o p = split Rises _ _ _ (λ _. put-rises t _ p) (λ _. p)
+
+pub keep-bare : (t : List Row) (e : Entry) (o : Outcome) → Rises t → bare (keep t e o) ≡ bare t
+unfolding keep rowOf bareRow
+keep-bare t e o p =
+    split (λ (l : List Row). bare l ≡ bare t) _ _ _
+    (λ f. bare-put t _ ∙ put-same t (e .client) (e .request) p (and-left _ _ f) (eqb-true _ _ (and-right _ _ f))) (λ _. refl)
+
+pub append-bare : (t : List Row) (e : Entry) → bare (put t (rowOf e none)) ≡ put (bare t) (rowOf e none)
+unfolding rowOf bareRow
+append-bare t e = bare-put t _
+
+pub rows-append : (t : List Row) (es fs : List Entry) → rowsOf t (es ++ fs) ≡ rowsOf (rowsOf t es) fs
+unfolding rowsOf
+rows-append t [] fs = refl
+rows-append t (e ∷ es) fs = rows-append (put t (rowOf e none)) es fs
+
+pub rebuilt-rises : (old : List Row) (left : ℕ) (new : List Row) (es : List Entry) → Rises new → Rises (rebuilt old left new es)
+unfolding rebuilt
+rebuilt-rises old zero new [] p = p
+rebuilt-rises old (suc left) new [] p = p
+rebuilt-rises old zero new (e ∷ es) p = rebuilt-rises old zero _ es (put-rises new _ p)
+rebuilt-rises old (suc left) new (e ∷ es) p = rebuilt-rises old left _ es (put-rises new _ p)
+
+put-bare : (t : List Row) (e : Entry) (k : Option Outcome) → bare (put t (rowOf e k)) ≡ put (bare t) (rowOf e none)
+unfolding rowOf bareRow
+put-bare t e k = bare-put t _
+
+pub rebuilt-bare : (old : List Row) (left : ℕ) (new : List Row) (es : List Entry) → bare (rebuilt old left new es) ≡ rowsOf (bare new) es
+unfolding rebuilt rowsOf
+rebuilt-bare old zero new [] = refl
+rebuilt-bare old (suc left) new [] = refl
+rebuilt-bare old zero new (e ∷ es) = rebuilt-bare old zero _ es ∙ ap (λ (t : List Row). rowsOf t es) (put-bare new e none)
+rebuilt-bare old (suc left) new (e ∷ es) = rebuilt-bare old left _ es ∙ ap (λ (t : List Row). rowsOf t es) (put-bare new e _)
+
+-- ---- what entries leave
+
+rows-length : (t : List Row) (es : List Entry) → length (rowsOf t es) ≤ length t + length es
+unfolding rowsOf
+rows-length t [] = omega arith
+rows-length t (e ∷ es) = omega (arith, put-length t (rowOf e none), rows-length (put t (rowOf e none)) es)
+
+pub table-length : (t : List Row) (es : List Entry) → bare t ≡ rowsOf [] es → length t ≤ length es
+table-length t es p = omega (arith, rows-length [] es, bare-length t, ap (λ (l : List Row). length l) p)
+
+put-there : (t : List Row) (r : Row) → find (put t r) (r .client) .there ≡ true
+unfolding put find
+put-there [] r = ap (λ (x : Seen). x .there) (if-true _ _ _ (eq-eqb (r .client) (r .client) refl))
+put-there (q ∷ qs) r =
+    let P : List Row → Type 0 = λ l. find l (r .client) .there ≡ true in
+    split P _ _ _ (λ _. ap (λ (x : Seen). x .there) (if-true _ _ _ (eq-eqb (r .client) (r .client) refl))) λ _.
+    split P _ _ _ (λ _. ap (λ (x : Seen). x .there) (if-true _ _ _ (eq-eqb (r .client) (r .client) refl)))
+    (λ _. split (λ (x : Seen). x .there ≡ true) _ _ _ (λ _. refl) (λ _. put-there qs r))
+
+put-stays : (t : List Row) (r : Row) (c : ℕ) → find t c .there ≡ true → find (put t r) c .there ≡ true
+unfolding put find
+put-stays [] r c f = cc
+put-stays (q ∷ qs) r c f =
+    let P : List Row → Type 0 = λ l. find l c .there ≡ true in
+    let Q : Seen → Type 0 = λ x. x .there ≡ true in
+    split P _ _ _ (λ _. split Q _ _ _ (λ _. refl) (λ _. f)) λ _.
+    split P _ _ _
+    (λ eq. split Q _ _ _ (λ _. refl)
+    (λ ne.
+    let h : r .client ≡ q .client = eqb-true _ _ eq in
+    let n : eqb (q .client) c ≡ false = ne-eqb _ _ (λ x. eqb-false (r .client) c ne (h ∙ x)) in
+    rw (if-false (eqb (q .client) c) _ _ n) at f))
+    (λ _. split Q _ _ _ (λ _. refl) (λ ne. put-stays qs r c (rw (if-false (eqb (q .client) c) _ _ ne) at f)))
+
+rows-stay : (t : List Row) (es : List Entry) (c : ℕ) → find t c .there ≡ true → find (rowsOf t es) c .there ≡ true
+unfolding rowsOf
+rows-stay t [] c f = f
+rows-stay t (e ∷ es) c f = rows-stay _ es c (put-stays t _ c f)
+
+rows-there : (t : List Row) (es : List Entry) (d : Entry) (i : ℕ) → i < length es → find (rowsOf t es) (getD es i d .client) .there ≡ true
+unfolding rowsOf rowOf
+rows-there t [] d i h = absurd (omega arith)
+rows-there t (e ∷ es) d zero h = rows-stay _ es _ (put-there t (record { client = e .client; request = e .request; kept = none }))
+rows-there t (e ∷ es) d (suc i) h = rows-there _ es d i (omega arith)
+
+pub table-there : (t : List Row) (es : List Entry) → bare t ≡ rowsOf [] es → (d : Entry) (i : ℕ) → i < length es → find t (getD es i d .client) .there ≡ true
+table-there t es p d i h = bare-there t _ ∙ ap (λ (l : List Row). find l (getD es i d .client) .there) p ∙ rows-there [] es d i h
