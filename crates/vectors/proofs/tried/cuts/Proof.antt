@@ -1,8 +1,8 @@
 -- The count has no bound to keep: its sum wraps. The range ends at the length. Assumes nothing.
 use borrow.Author.Needs.{needs}
 use Prim.Native.Nat.{_≤_, _-_}
-use Rattle.frame_vectors.proofs.tried.cuts.Statement.{statement}
-use Rattle.frame_vectors.proofs.tried.cuts.Tie as tie
+use Rattle.vectors.proofs.tried.cuts.Statement.{statement}
+use Rattle.vectors.proofs.tried.cuts.Tie as tie
 
 abbrev Inv-loop : tie.InvT-loop
 Inv-loop v fit hits₀ n₀ n-end hits n = n ≤ n-end

@@ -1,8 +1,8 @@
 -- The counter is a byte. Assumes nothing.
 use borrow.Author.Needs.{needs}
 use Prim.Native.Nat.{_≤_, _-_}
-use Rattle.frame_vectors.proofs.tried.kind_bytes.Statement.{statement}
-use Rattle.frame_vectors.proofs.tried.kind_bytes.Tie as tie
+use Rattle.vectors.proofs.tried.kind_bytes.Statement.{statement}
+use Rattle.vectors.proofs.tried.kind_bytes.Tie as tie
 
 abbrev Inv-loop : tie.InvT-loop
 Inv-loop v b₀ b = b ≤ 255

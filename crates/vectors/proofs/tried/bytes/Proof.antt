@@ -3,8 +3,8 @@ use borrow.Author.Needs.{needs}
 use mathlib.Core.Path.{_≡_}
 use Prim.Native.Nat.{_≤_, _-_}
 use lib.ListN.{length}
-use Rattle.frame_vectors.proofs.tried.bytes.Statement.{statement}
-use Rattle.frame_vectors.proofs.tried.bytes.Tie as tie
+use Rattle.vectors.proofs.tried.bytes.Statement.{statement}
+use Rattle.vectors.proofs.tried.bytes.Tie as tie
 
 abbrev Inv-loop : tie.InvT-loop
 Inv-loop name v at values i₀ i-end i = (i ≤ i-end) × (i-end ≡ length values)
