@@ -4,14 +4,14 @@
 -- Assumes nothing.
 use mathlib.Core.Path.{_≡_, refl, sym, ap}
 use mathlib.Core.Logic.{_⊎_, inl, inr}
-use mathlib.Core.Bool.{Bool, true, false, not, false≢true}
+use mathlib.Core.Bool.{Bool, true, false, not}
 use mathlib.Core.List.{List}
 use Prim.Native.Nat.{ℕ, suc, _≤_, _<_}
 use native.Mathlib.Omega.{arith}
 use borrow.Author.Tests.{eqb-true, eqb-false, leb-false, ltb-false, not-false}
 use lib.Dec.{eqb, leb, ltb}
 use Rattle.numbers.specs.Words.{if_then_else_, _or_}
-use Rattle.numbers.proofs.WordLaws.{split}
+use Rattle.numbers.proofs.WordLaws.{split, or-left, or-right}
 use Rattle.entries.specs.Rising.{rising}
 use Rattle.config.specs.declared.Setup.{Setup}
 use Rattle.frames.specs.Messages.{parseFrame, carriedOf}
@@ -25,11 +25,6 @@ use Rattle.frames.specs.declared.Checked.the-variants.{Passed, Refused}
 use Rattle.frames.proofs.MessageLaws.{Said, parsed}
 
 -- ---- no refusal
-
-or-false : (a b : Bool) → (a or b) ≡ false → (a ≡ false) × (b ≡ false)
-unfolding _or_
-or-false true b e = absurd (false≢true (sym e))
-or-false false b e = (refl, e)
 
 -- a choice between a refusal and what follows
 if-none : (b : Bool) (k r : ℕ) → (if b then suc k else r) ≡ 0 → (b ≡ false) × (r ≡ 0)
@@ -55,10 +50,11 @@ unrefused u to x s h =
     let b = if-none (ltb (u .room) (x .op .0)) 3 r5 (a .1) in
     let d = if-none (ltb (x .op .0) (x .commit .0)) 4 r6 (b .1) in
     let e = if-none (not (rising (wholeLog x s))) 5 0 (d .1) in
-    let o = or-false (not (eqb to (u .id))) (leb (u .n) (x .sender)) (a .0) in
+    let o = or-left (not (eqb to (u .id))) (leb (u .n) (x .sender)) (a .0) in
+    let q = or-right (not (eqb to (u .id))) (leb (u .n) (x .sender)) (a .0) in
     record {
-      own = eqb-true to (u .id) (not-false (eqb to (u .id)) (o .0));
-      sender = leb-false (u .n) (x .sender) (o .1);
+      own = eqb-true to (u .id) (not-false (eqb to (u .id)) o);
+      sender = leb-false (u .n) (x .sender) q;
       op = ltb-false (u .room) (x .op .0) (b .0);
       commit = ltb-false (x .op .0) (x .commit .0) (d .0);
       rises = not-false (rising (wholeLog x s)) (e .0);

@@ -15,12 +15,11 @@ use mathlib.Core.Bool.{true}
 use mathlib.Core.List.{List, [], _∷_, _++_, append-assoc, append-nil}
 use lib.ListN.{length, take, length-append, length-take, length-drop, length-set}
 use borrow.Author.Tests.{eqb-true}
-use Rattle.numbers.proofs.WordLaws.{split}
+use Rattle.numbers.proofs.WordLaws.{split, and-left, and-right}
 use Rattle.entries.specs.declared.Entry.{Entry}
 use Rattle.fees.specs.declared.Outcome.{Outcome}
 use Rattle.meaning.specs.State.{Book}
 use Rattle.meaning.specs.Book.{outcome, totalsAfter, through, answersOf, append, appendAll, commitOne, commitAll, due, repliesOf, sameEntry, agree}
-use Rattle.meaning.proofs.CaseLaws.{and-left, and-right}
 
 -- how many totals and answers there are
 after-length : (ts : List ℕ) (e : Entry) → length (totalsAfter ts e) ≡ length ts

@@ -1,3 +1,2 @@
-pub mod CaseLaws
 pub mod BookLaws
 pub mod StepLaws

@@ -10,7 +10,7 @@ use lib.Dec.{ltb, leb, eqb}
 use lib.ListN.{length, drop, getD, set, replicate, length-drop}
 use borrow.Author.Tests.{ltb-true, ltb-false, leb-false, eqb-true, not-false}
 use Rattle.numbers.specs.Words.{if_then_else_, _or_}
-use Rattle.numbers.proofs.WordLaws.{split}
+use Rattle.numbers.proofs.WordLaws.{split, or-left, or-right}
 use Rattle.entries.specs.Rising.{rising}
 use Rattle.entries.specs.declared.Entry.{Entry}
 use Rattle.config.specs.declared.Setup.{Setup}
@@ -29,7 +29,6 @@ use Rattle.meaning.specs.ViewChange.{catchingUpWith, catchUpWithView, startedWi
 use Rattle.meaning.specs.ViewChange.{maybeSendDoViewChange, changingTo, startViewChange, onStartViewChange, onDoViewChange, joined, onStartView}
 use Rattle.meaning.specs.Recovery.{noted, noResponses, forgotten, onRecovery, recovered, recoverWith, recoverFrom, recoverLatest, onRecoveryResponse}
 use Rattle.meaning.specs.Steps.{primaryTick, nextView, followTick, changeTick, onIdle}
-use Rattle.meaning.proofs.CaseLaws.{or-left, or-right}
 use Rattle.safety.specs.Demand.{At, Every, Sound, SoundReport, SoundResponse}
 use Rattle.safety.proofs.Books.{BookInv, Grown, Ok, same-ok, append-ok, commit-ok, agreed-ok, gap-ok, join-ok, then-ok}
 

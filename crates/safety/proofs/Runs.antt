@@ -10,7 +10,7 @@ use lib.ListN.{length, getD, take, length-replicate}
 use lib.Seq.{length-take-le}
 use borrow.Author.Tests.{leb-false, eq-eqb, le-leb, not-true}
 use Rattle.numbers.specs.Words.{_and_}
-use Rattle.numbers.proofs.WordLaws.{split}
+use Rattle.numbers.proofs.WordLaws.{split, and-left, and-right, and-true}
 use Rattle.entries.specs.Rising.{breaksAt, follows, rising}
 use Rattle.entries.specs.declared.Entry.{Entry}
 use Rattle.config.specs.Setup.{setupOk}
@@ -22,7 +22,6 @@ use Rattle.meaning.specs.Book.{through, answersOf, emptyBook}
 use Rattle.meaning.specs.ViewChange.{noReports}
 use Rattle.meaning.specs.Recovery.{noResponses}
 use Rattle.meaning.specs.Steps.{fitted, heldOk, heldOkIn, reportsOk, responsesOk, stateOk, newAt, create, recover}
-use Rattle.meaning.proofs.CaseLaws.{and-left, and-right, and-true}
 use Rattle.safety.specs.Demand.{Call, run, Created, bare, rowsOf, At, Every, Sound, SoundReport, SoundResponse, zeros, Safe, Later, Demand3}
 use Rattle.safety.specs.Demand.Created.{new, back}
 use Rattle.meaning.proofs.BookLaws.{through-length, answers-length}

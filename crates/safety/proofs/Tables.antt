@@ -1,5 +1,5 @@
 -- The client table: client ids stay in rising order, and but for the replies it is what the log's entries leave. Assumes nothing.
-use Prim.Native.Nat.{ℕ, zero, suc, _+_, _-_, _≤_, _<_}
+use Prim.Native.Nat.{ℕ, zero, suc, _+_, _≤_, _<_}
 use native.Mathlib.Omega.{arith}
 use mathlib.Core.Path.{_≡_, refl, sym, ap, _∙_}
 use mathlib.Core.Bool.{true, false}
@@ -8,13 +8,11 @@ use mathlib.Core.Option.{Option, none}
 use lib.Dec.{eqb}
 use lib.ListN.{length, getD}
 use borrow.Author.Tests.{ltb-true, ltb-false, eqb-true, eqb-false, ne-eqb, eq-eqb}
-use Rattle.numbers.specs.Words.{_and_}
-use Rattle.numbers.proofs.WordLaws.{split, split₂, if-true, if-false}
+use Rattle.numbers.proofs.WordLaws.{split, split₂, if-true, if-false, and-left, and-right}
 use Rattle.entries.specs.declared.Entry.{Entry}
 use Rattle.fees.specs.declared.Outcome.{Outcome}
 use Rattle.meaning.specs.State.{Row}
 use Rattle.meaning.specs.Book.{Seen, find, put, rowOf, keep, rebuilt}
-use Rattle.meaning.proofs.CaseLaws.{and-left, and-right}
 use Rattle.safety.specs.Demand.{Above, Rises, bare, rowsOf}
 
 above-more : (a b : ℕ) (t : List Row) → a ≤ b → Above b t → Above a t
