@@ -1,0 +1,95 @@
+//! Drives the unchanged vsr-rs with fees and writes what it was given and what it answered, in the format of
+//! `vectors/FORMAT.md`: clusters under a bad network, and single replicas under an adversary. The same words on the command
+//! line give the same bytes. How refusals are told, which the Rust hasn't: see `run`.
+//!
+//! ```text
+//! schedules SEED ROUNDS [MOST]
+//! ```
+//!
+//! Each round plays one cluster of 3, 4, 5 and 7 replicas, and adversaries on single replicas of them. With MOST only that
+//! many calls are kept, chosen so that as many different things as possible happen.
+
+mod adversary;
+mod choose;
+mod cluster;
+mod fees;
+mod frames;
+mod inside;
+mod random;
+mod run;
+
+use random::Random;
+use run::{Mark, Run};
+use std::process::ExitCode;
+
+/// How many replicas the clusters have.
+const SIZES: [usize; 4] = [3, 4, 5, 7];
+
+const STATUSES: [&str; 4] = ["Normal", "StateTransfer", "ViewChange", "Recovering"];
+
+/// All runs of so many rounds.
+fn played(random: &mut Random, rounds: usize) -> Vec<Run> {
+    let mut runs = Vec::new();
+    for _ in 0..rounds {
+        for n in SIZES {
+            runs.extend(cluster::cluster(random, n, 40 * n));
+            for _ in 0..6 {
+                runs.push(adversary::adversary(random, n, 30));
+            }
+        }
+    }
+    runs
+}
+
+/// How many calls of each kind (0: a tick) came in each status, and how many of them were refused, as comment lines.
+fn counts(runs: &[Run]) -> String {
+    let marks: Vec<Mark> = runs
+        .iter()
+        .flat_map(|run| run.calls.iter().map(|call| call.mark))
+        .collect();
+    let of = |test: &dyn Fn(&Mark) -> bool| marks.iter().filter(|mark| test(mark)).count();
+    let mut text = format!("# {} runs, {} calls\n", runs.len(), marks.len());
+    text += "# calls by status, of a tick and of kinds 1 to 11:\n";
+    for (status, name) in STATUSES.iter().enumerate() {
+        let row = (0..12).map(|kind| of(&|m| m.before == status && m.kind == kind).to_string());
+        text += &format!("# {name}: {}\n", row.collect::<Vec<_>>().join(" "));
+    }
+    let row = (3..9).map(|code| of(&|m| m.code == code).to_string());
+    text += &format!(
+        "# refused by 3 to 8: {}\n",
+        row.collect::<Vec<_>>().join(" ")
+    );
+    text
+}
+
+/// The words of the command line: seed, rounds, and how many calls at most.
+fn words() -> Option<(u64, usize, usize)> {
+    let words: Vec<String> = std::env::args().skip(1).collect();
+    match words.as_slice() {
+        [seed, rounds] => Some((seed.parse().ok()?, rounds.parse().ok()?, usize::MAX)),
+        [seed, rounds, most] => {
+            Some((seed.parse().ok()?, rounds.parse().ok()?, most.parse().ok()?))
+        }
+        _ => None,
+    }
+}
+
+fn main() -> ExitCode {
+    let Some((seed, rounds, most)) = words() else {
+        eprintln!("usage: schedules SEED ROUNDS [MOST]");
+        return ExitCode::from(2);
+    };
+    let mut runs = played(&mut Random::new(seed), rounds);
+    if most < usize::MAX {
+        runs = choose::chosen(runs, &SIZES, most);
+    }
+    println!("# Answers of the unchanged vsr-rs, written by host/schedules: seed {seed}, {rounds} rounds.");
+    print!("{}", counts(&runs));
+    for run in &runs {
+        print!("{}", run.creation);
+        for call in &run.calls {
+            print!("{}", call.lines);
+        }
+    }
+    ExitCode::SUCCESS
+}
