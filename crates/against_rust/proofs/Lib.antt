@@ -1,0 +1,2 @@
+pub mod Hold0
+pub mod Hold1

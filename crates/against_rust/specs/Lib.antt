@@ -1,0 +1,3 @@
+pub mod Shape
+pub mod Runs0
+pub mod Runs1

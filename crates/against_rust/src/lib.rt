@@ -1,0 +1,1 @@
+// The model held against recorded answers of the Rust, under specs/ and proofs/. No code.
