@@ -1,7 +1,7 @@
 -- The model answers as recorded: antt computes it. By tools/model-replay. Assumes nothing.
 use mathlib.Core.Path.{refl}
 use Rattle.against_rust.specs.Shape.{Holds, open-shape}
-use Rattle.against_rust.specs.Runs1.{run49, run50, run51, run52, run53, run54, run55, run56, run57, run58, run59, run60, run61, run62, run63, run64, run65, run66, run67, run68, run69, run70, run71, run72, run73, run74, run75, run76, run77, run78, run79, run80, run81, run82, run83, run84, run85, run86, run87, run88, run89, run90, run91, run92}
+use Rattle.against_rust.specs.Runs1.{run49, run50, run51, run52, run53, run54, run55, run56, run57, run58, run59, run60, run61, run62, run63, run64, run65, run66, run67, run68, run69, run70, run71, run72, run73, run74, run75, run76, run77, run78, run79, run80, run81, run82, run83, run84, run85, run86, run87, run88, run89, run90, run91, run92, run93, run94, run95, run96, run97, run98, run99}
 
 pub hold49 : Holds run49
 unfolding open-shape run49
@@ -178,3 +178,31 @@ hold91 = refl
 pub hold92 : Holds run92
 unfolding open-shape run92
 hold92 = refl
+
+pub hold93 : Holds run93
+unfolding open-shape run93
+hold93 = refl
+
+pub hold94 : Holds run94
+unfolding open-shape run94
+hold94 = refl
+
+pub hold95 : Holds run95
+unfolding open-shape run95
+hold95 = refl
+
+pub hold96 : Holds run96
+unfolding open-shape run96
+hold96 = refl
+
+pub hold97 : Holds run97
+unfolding open-shape run97
+hold97 = refl
+
+pub hold98 : Holds run98
+unfolding open-shape run98
+hold98 = refl
+
+pub hold99 : Holds run99
+unfolding open-shape run99
+hold99 = refl

@@ -1,2 +1,3 @@
 pub mod Hold0
 pub mod Hold1
+pub mod Hold2

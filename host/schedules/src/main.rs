@@ -1,17 +1,18 @@
 //! Drives the unchanged vsr-rs with fees and writes what it was given and what it answered, in the format of
-//! `vectors/FORMAT.md`: clusters under a bad network, and single replicas under an adversary. The same words on the command
-//! line give the same bytes. How refusals are told, which the Rust hasn't: see `run`.
+//! `vectors/FORMAT.md`: clusters under a bad network, single replicas under an adversary, and some runs written by hand. The same
+//! words on the command line give the same bytes. How refusals are told, which the Rust hasn't: see `run`.
 //!
 //! ```text
 //! schedules SEED ROUNDS [MOST]
 //! ```
 //!
 //! Each round plays one cluster of 3, 4, 5 and 7 replicas, and adversaries on single replicas of them. With MOST only that
-//! many calls are kept, chosen so that as many different things as possible happen.
+//! many of their calls are kept, chosen so that as many different things as possible happen. The runs by hand come last.
 
 mod adversary;
 mod choose;
 mod cluster;
+mod directed;
 mod fees;
 mod frames;
 mod inside;
@@ -83,6 +84,7 @@ fn main() -> ExitCode {
     if most < usize::MAX {
         runs = choose::chosen(runs, &SIZES, most);
     }
+    runs.extend(directed::directed());
     println!("# Answers of the unchanged vsr-rs, written by host/schedules: seed {seed}, {rounds} rounds.");
     print!("{}", counts(&runs));
     for run in &runs {
