@@ -1,8 +1,9 @@
 """A second reading of the frame rules of document 01, as a check on the program frame_vectors.
 
 The rules here (the table of frames, the entry rules, and refusals 2 to 6 as far as the frame alone decides them) were
-read from document 01, "Frames" and "Refusal numbers", and not from the code. Only the choice of frames to try and the
-wording of the lines are the program's. What is compared is refusal numbers, not the values read out of a frame.
+written from document 01, "Frames" and "Refusal numbers", by somebody who had also read the code: a second writing, not a
+blind one. The choice of frames to try and the wording of the lines are the program's. What is compared is refusal
+numbers, not the values read out of a frame.
 
     python3 tests/second_reading.py
         prints the lines that frame_vectors must write
