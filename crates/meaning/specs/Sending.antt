@@ -107,7 +107,7 @@ module _ (u : Setup) where
       (DoViewChange (viewOf (m .place .view)) (u .id) (viewOf (m .place .lastNormal)) (opNumber (opOf m)) (opNumber (m .book .commit)))
       (m .book .log)
 
-  -- the same to all others, at the end of record_do_view_change
+  -- our StartView to all others, at the end of record_do_view_change
   unfoldable pub startViewToOthers : State → List Sent
   startViewToOthers m = toOthers (startViewOf m) (m .book .log)
 
