@@ -58,11 +58,8 @@ outcome-forth k l h =
     ⊎-elim (λ e. rw e) (λ g. rw (ne-eqb k 1 a, ne-eqb k 2 b, ne-eqb k 3 d, ne-eqb k 4 f, ne-eqb k 5 g) (last k l h a b d f g))
     (eq-or-not k 5)) (eq-or-not k 4)) (eq-or-not k 3)) (eq-or-not k 2)) (eq-or-not k 1)
   where
-    up : {n k : ℕ} → n ≤ k → (k ≡ n → ⊥) → n + 1 ≤ k
-    up h e = omega arith
-
     last : (k : ℕ) → 1 ≤ k → k ≤ 6 → (k ≡ 1 → ⊥) → (k ≡ 2 → ⊥) → (k ≡ 3 → ⊥) → (k ≡ 4 → ⊥) → (k ≡ 5 → ⊥) → 6 ≡ k
-    last k l h a b d f g = omega (arith, h, up (up (up (up (up l a) b) d) f) g)
+    last k l h a b d f g = omega arith
 
 -- ---- malformed, in both directions
 
