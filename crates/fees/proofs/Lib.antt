@@ -1,1 +1,2 @@
 pub mod FeeLaws
+pub mod ResultLaws

@@ -1,1 +1,2 @@
 pub mod Fees
+pub mod Results

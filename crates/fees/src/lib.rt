@@ -1,8 +1,10 @@
-// The fee rules, on one total and over a lent run of totals.
+// The fee rules, on one total and over a lent run of totals; what they gave, in lent bytes.
 ghost use mathlib.Core.Path.{_≡_};
-ghost use Prim.Native.Nat.{_*_, _≤_};
-ghost use lib.ListN.{length};
+ghost use Prim.Native.Nat.{_+_, _*_, _≤_};
+ghost use lib.ListN.{length, drop};
+ghost use Rattle.numbers.specs.Numbers.{over};
 ghost use Rattle.fees.specs.Fees.{rule, outcomeOf, totalsAfter};
+ghost use Rattle.fees.specs.Results.{resultOf, encodeResult};
 use entries::Entry;
 use entries::Operation;
 
@@ -67,4 +69,24 @@ pub fn apply(totals: &mut [u8], members: u32, e: Entry) -> Outcome
         return o;
     }
     Outcome { code: 4, total: 0 }
+}
+
+// The result at place `at` of a run.
+pub fn result_at(s: &[u8], at: usize) -> Outcome
+    requires { ⌜ at + 9 ≤ length (now s) ⌝ }
+    ensures { λ r. ⌜ r ≡ resultOf (drop at (now (s .entry))) ⌝ }
+{
+    Outcome {
+        code: numbers::read_u8(s, at),
+        total: numbers::read_u64(s, at + 1),
+    }
+}
+
+// A result's 9 bytes over the front of the area.
+pub fn write_result(area: &mut [u8], o: Outcome)
+    requires { ⌜ 9 ≤ length (now area) ⌝ }
+    ensures { λ r. ⌜ now (area .exit) ≡ over (encodeResult o) (now (area .entry)) ⌝ }
+{
+    numbers::write_u8(area, o.code);
+    numbers::write_u64(&mut area[1..], o.total);
 }
