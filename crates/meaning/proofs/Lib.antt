@@ -1,2 +1,3 @@
 pub mod BookLaws
 pub mod StepLaws
+pub mod LayoutLaws

@@ -1,5 +1,5 @@
 -- The book: the fee rules over the members' totals, the client table, append, commit and install. Assumes nothing.
-use Prim.Native.Nat.{ℕ, zero, suc, _+_, _-_}
+use Prim.Native.Nat.{ℕ, zero, suc, _+_, _-_, _<_}
 use mathlib.Core.Bool.{Bool, true, false}
 use mathlib.Core.List.{List, [], _∷_, _++_}
 use mathlib.Core.Option.{Option, none, some}
@@ -32,6 +32,16 @@ through ts (e ∷ es) = through (totalsAfter ts e) es
 unfoldable pub answersOf : List ℕ → List Entry → List Outcome
 answersOf ts [] = []
 answersOf ts (e ∷ es) = outcome ts e ∷ answersOf (totalsAfter ts e) es
+
+-- each row's client id is above c
+abbrev pub Above : ℕ → List Row → Type 0
+Above c [] = Unit
+Above c (r ∷ rs) = (c < r .client) × Above c rs
+
+-- each client id is above those before it
+abbrev pub Rises : List Row → Type 0
+Rises [] = Unit
+Rises (r ∷ rs) = Above (r .client) rs × Rises rs
 
 -- what the table has of a client: `client_table.get`
 pub record Seen : Type 0 where

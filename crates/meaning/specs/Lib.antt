@@ -5,3 +5,4 @@ pub mod ViewChange
 pub mod Normal
 pub mod Recovery
 pub mod Steps
+pub mod Layout

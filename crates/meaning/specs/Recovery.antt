@@ -8,9 +8,10 @@ use lib.ListN.{getD, set, replicate}
 use Rattle.numbers.specs.Words.{if_then_else_, _or_}
 use Rattle.config.specs.Replicas.{quorumOf}
 use Rattle.config.specs.declared.Setup.{Setup}
+use Rattle.state.specs.State.{isNormal}
 use Rattle.meaning.specs.State.{Held, Response, State, Answer}
 use Rattle.meaning.specs.State.Answer.{refused, done}
-use Rattle.meaning.specs.State.{ignored, withStore, isNormal}
+use Rattle.meaning.specs.State.{ignored, withStore}
 use Rattle.meaning.specs.Book.{commitUpTo, install, agree}
 use Rattle.meaning.specs.Sending.{primary, sendRecoveryResponse}
 use Rattle.meaning.specs.ViewChange.{filled, enterNormal, startViewChange}

@@ -1,7 +1,7 @@
 -- The state of a replica, what it sends, and what a call answers. It follows the Rust's `struct Replica`, in groups that change together.
 -- View, op and commit numbers are plain numbers here; in messages they are the tuple structs. Assumes nothing.
 use Prim.Native.Nat.{ℕ}
-use mathlib.Core.Bool.{Bool, true, false}
+use mathlib.Core.Bool.{Bool}
 use mathlib.Core.List.{List, []}
 use mathlib.Core.Option.{Option}
 use lib.ListN.{length}
@@ -11,8 +11,8 @@ use Rattle.entries.specs.declared.Entry.{Entry}
 use Rattle.fees.specs.declared.Outcome.{Outcome}
 use Rattle.clock.specs.declared.Clock.{Clock}
 use Rattle.frames.specs.declared.Status.{Status}
-use Rattle.frames.specs.declared.Status.the-variants.{Normal, StateTransfer, ViewChange, Recovering}
 use Rattle.frames.specs.declared.Message.{Message}
+use Rattle.state.specs.State.{isNormal, isTransfer, isChanging}
 
 -- a view number as the tuple struct that messages carry
 abbrev pub viewOf : ℕ → View
@@ -139,32 +139,11 @@ withStatus m s =
 unfoldable pub withAcks : State → List ℕ → State
 withAcks m a = withVotes m (record { acks = a; starts = m .votes .starts; sent = m .votes .sent })
 
--- tests on the status: Normal
-unfoldable pub isNormal : Status → Bool
-isNormal Normal = true
-isNormal StateTransfer = false
-isNormal ViewChange = false
-isNormal Recovering = false
-
--- StateTransfer: waiting for NewState within the view
-unfoldable pub isTransfer : Status → Bool
-isTransfer Normal = false
-isTransfer StateTransfer = true
-isTransfer ViewChange = false
-isTransfer Recovering = false
-
--- ViewChange, which catching up is too
-unfoldable pub isChanging : Status → Bool
-isChanging Normal = false
-isChanging StateTransfer = false
-isChanging ViewChange = true
-isChanging Recovering = false
-
 -- op_number: how many entries the log has
 unfoldable pub opOf : State → ℕ
 opOf m = length (m .book .log)
 
 -- opens all of this file, and of those that it rests on: for a statement that antt computes
 unfoldable pub open-state : Unit {0}
-unfolding after ignored withPlace withBook withVotes withStore withClock withStatus withAcks isNormal isTransfer isChanging opOf
+unfolding isNormal isTransfer isChanging after ignored withPlace withBook withVotes withStore withClock withStatus withAcks opOf
 open-state = tt

@@ -29,9 +29,10 @@ use Rattle.frames.specs.declared.Message.the-variants.{Request, Prepare, Prepar
 use Rattle.frames.specs.declared.Checked.{Checked}
 use Rattle.frames.specs.declared.Checked.the-variants.{Passed, Refused}
 use Rattle.writers.specs.Writers.{stateSize, sizeOf}
+use Rattle.state.specs.State.{isNormal, isTransfer, isChanging}
 use Rattle.meaning.specs.State.{Held, Report, Response, State, Sent, Answer}
 use Rattle.meaning.specs.State.Answer.{refused, done}
-use Rattle.meaning.specs.State.{ignored, withClock, isNormal, isTransfer, isChanging, opOf, open-state}
+use Rattle.meaning.specs.State.{ignored, withClock, opOf, open-state}
 use Rattle.meaning.specs.Book.{emptyBook, open-book}
 use Rattle.meaning.specs.Sending.{isPrimary, messagesOut, repliesOut, sendPrepares, sendCommit, sendGetState, sendStartViewChange, sendRecovery, open-sending}
 use Rattle.meaning.specs.Normal.{onRequest, onPrepare, onPrepareOk, onCommit, onGetState, onNewState, open-normal}

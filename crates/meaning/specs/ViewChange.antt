@@ -13,9 +13,10 @@ use Rattle.config.specs.Replicas.{withMember, quorumOf}
 use Rattle.config.specs.declared.Setup.{Setup}
 use Rattle.clock.specs.Clock.{resetOf, startOf, restartOf}
 use Rattle.frames.specs.declared.Status.the-variants.{Normal, ViewChange}
+use Rattle.state.specs.State.{isNormal, isChanging}
 use Rattle.meaning.specs.State.{Book, Votes, Held, Report, Store, State, Sent, Answer}
 use Rattle.meaning.specs.State.Answer.{refused, done}
-use Rattle.meaning.specs.State.{ignored, withVotes, withStore, isNormal, isChanging}
+use Rattle.meaning.specs.State.{ignored, withVotes, withStore}
 use Rattle.meaning.specs.Book.{commitUpTo, commitReplies, install, agree}
 use Rattle.meaning.specs.Sending.{primary, isPrimary, sendPrepareOk, sendGetState, sendStartViewChange, doViewChangeToPrimary, sendStartView, startViewToOthers}
 

@@ -13,10 +13,10 @@ use Rattle.entries.specs.declared.Entry.{Entry}
 use Rattle.config.specs.declared.Setup.{Setup}
 use Rattle.fees.specs.declared.Outcome.{Outcome}
 use Rattle.meaning.specs.State.{Row, Book}
-use Rattle.meaning.specs.Book.{through, answersOf, put, rowOf, append, appendAll, commitOne, commitAll, commitUpTo, due, install, agree}
+use Rattle.meaning.specs.Book.{through, answersOf, put, rowOf, append, appendAll, commitOne, commitAll, commitUpTo, due, install, agree, Rises}
 use Rattle.meaning.proofs.BookLaws.{through-append, answers-append, commitAll-log, commitAll-commit, commitAll-applied, commitAll-totals, commitAll-results}
 use Rattle.meaning.proofs.BookLaws.{agree-take, agree-le, length-due, appendAll-log, appendAll-length}
-use Rattle.safety.specs.Demand.{Rises, bare, rowsOf, zeros}
+use Rattle.safety.specs.Demand.{bare, rowsOf, zeros}
 use Rattle.safety.proofs.Tables.{put-rises, keep-rises, keep-bare, append-bare, rows-append, rebuilt-rises, rebuilt-bare}
 
 -- the invariant

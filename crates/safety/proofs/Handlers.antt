@@ -38,26 +38,28 @@ module _ {A : Type 0} (P : A → Type 0) where
   every-none zero = tt
   every-none (suc n) = (tt, every-none n)
 
-  every-set : (xs : List (Option A)) (i : ℕ) (a : A) → Every P xs → P a → Every P (set xs i (some a))
+  pub every-set : (xs : List (Option A)) (i : ℕ) (a : A) → Every P xs → P a → Every P (set xs i (some a))
   every-set [] i a h p = tt
   every-set (x ∷ xs) zero a h p = (p, h .1)
   every-set (x ∷ xs) (suc i) a h p = (h .0, every-set xs i a (h .1) p)
 
-  every-get : (xs : List (Option A)) (i : ℕ) → Every P xs → At P (getD xs i none)
+  pub every-get : (xs : List (Option A)) (i : ℕ) → Every P xs → At P (getD xs i none)
   every-get [] i h = tt
   every-get (x ∷ xs) zero h = h .0
   every-get (x ∷ xs) (suc i) h = every-get xs i (h .1)
 
-better-sound : (u : Setup) (a : Report) (b : Option Report) → SoundReport u a → At (SoundReport u) b → SoundReport u (better a b)
-unfolding better
-better-sound u a none p q = p
-better-sound u a (some b) p q = split (SoundReport u) _ _ _ (λ _. p) λ _. split (SoundReport u) _ _ _ (λ _. p) (λ _. q)
+-- what holds of each report holds of the chosen one
+module _ (P : Report → Type 0) where
+  better-has : (a : Report) (b : Option Report) → P a → At P b → P (better a b)
+  unfolding better
+  better-has a none p q = p
+  better-has a (some b) p q = split P _ _ _ (λ _. p) λ _. split P _ _ _ (λ _. p) (λ _. q)
 
-chosen-sound : (u : Setup) (xs : List (Option Report)) → Every (SoundReport u) xs → At (SoundReport u) (chosen xs)
-unfolding chosen
-chosen-sound u [] h = tt
-chosen-sound u (none ∷ xs) h = chosen-sound u xs (h .1)
-chosen-sound u (some a ∷ xs) h = better-sound u a (chosen xs) (h .0) (chosen-sound u xs (h .1))
+  pub chosen-has : (xs : List (Option Report)) → Every P xs → At P (chosen xs)
+  unfolding chosen
+  chosen-has [] h = tt
+  chosen-has (none ∷ xs) h = chosen-has xs (h .1)
+  chosen-has (some a ∷ xs) h = better-has a (chosen xs) (h .0) (chosen-has xs (h .1))
 
 -- the invariant
 pub record StoreInv (u : Setup) (t : Store) : Type 0 where
@@ -300,7 +302,7 @@ module _ (u : Setup) where
   unfolding recordDoViewChange
   record-good m r d out p =
       cases _ _ _ (λ _. moved _ _ (recorded-next m r d p)) λ _.
-      since (recorded-next m r d p) (chosen-good _ _ out (λ i. chosen-sound u _ (i .store .reports)))
+      since (recorded-next m r d p) (chosen-good _ _ out (λ i. chosen-has (SoundReport u) _ (i .store .reports)))
 
   own-sound : (m : State) → Inv u m → SoundReport u (ownReport m)
   unfolding ownReport heldBy

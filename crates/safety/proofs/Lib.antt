@@ -4,3 +4,5 @@ pub mod Books
 pub mod Handlers
 pub mod Messages
 pub mod Runs
+pub mod Changes
+pub mod Ranges

@@ -103,31 +103,28 @@ module _ (u : Setup) where
         store = record { reports = every-none (SoundReport u) (u .n); responses = every-none (SoundResponse u) (u .n) };
       }
 
-  -- what a creation that was not refused tells
-  Began : State → Type 0
-  Began m = (setupOk u ≡ true) × Inv u m
+  -- what holds of every new replica holds of what a creation that was not refused gives
+  module _ (P : State → Type 0) (new-has : setupOk u ≡ true → (t : Status) (v x : ℕ) → P (newAt u t v x)) where
+    not-done : (k : ℕ) (m : State) (out : List Sent) (rs : List Reply) → refused k ≡ done m out rs → P m
+    not-done k m out rs e = let z : _≡_ {A = ℕ} 0 1 = cc in absurd (omega arith)
 
-  not-done : (k : ℕ) (m : State) (out : List Sent) (rs : List Reply) → refused k ≡ done m out rs → Began m
-  not-done k m out rs e = let z : _≡_ {A = ℕ} 0 1 = cc in absurd (omega arith)
+    began : (t : Status) (v x : ℕ) (sent out : List Sent) (rs : List Reply) (m : State) → setupOk u ≡ true
+        → done (newAt u t v x) sent [] ≡ done m out rs → P m
+    began t v x sent out rs m s e = let same : m ≡ newAt u t v x = cc in rw same (new-has s t v x)
 
-  began : (t : Status) (v x : ℕ) (sent out : List Sent) (rs : List Reply) (m : State) → setupOk u ≡ true
-      → done (newAt u t v x) sent [] ≡ done m out rs → Began m
-  unfolding Began
-  began t v x sent out rs m s e = (s, (let same : m ≡ newAt u t v x = cc in rw same (new-inv t v x)))
+    fitted-began : (t : Status) (v x a : ℕ) (sent out : List Sent) (rs : List Reply) (m : State) → setupOk u ≡ true
+        → fitted a 0 (done (newAt u t v x) sent []) ≡ done m out rs → P m
+    unfolding fitted
+    fitted-began t v x a sent out rs m s =
+        split (λ (y : Answer). y ≡ done m out rs → P m) _ _ _ (λ _. not-done 9 m out rs) λ _.
+        split (λ (y : Answer). y ≡ done m out rs → P m) _ _ _ (λ _. not-done 10 m out rs) (λ _. began t v x sent out rs m s)
 
-  fitted-began : (t : Status) (v x a : ℕ) (sent out : List Sent) (rs : List Reply) (m : State) → setupOk u ≡ true
-      → fitted a 0 (done (newAt u t v x) sent []) ≡ done m out rs → Began m
-  unfolding fitted
-  fitted-began t v x a sent out rs m s =
-      split (λ (y : Answer). y ≡ done m out rs → Began m) _ _ _ (λ _. not-done 9 m out rs) λ _.
-      split (λ (y : Answer). y ≡ done m out rs → Began m) _ _ _ (λ _. not-done 10 m out rs) (λ _. began t v x sent out rs m s)
-
-  created : (m : State) → Created u m → Began m
-  unfolding create recover
-  created m (new out rs e) =
-      split (λ (y : Answer). y ≡ done m out rs → Began m) _ _ _ (λ s. began _ _ _ _ out rs m s) (λ _. not-done 1 m out rs) e
-  created m (back v x a out rs e) =
-      split (λ (y : Answer). y ≡ done m out rs → Began m) _ _ _ (λ s. fitted-began _ v x a _ out rs m s) (λ _. not-done 1 m out rs) e
+    pub created : (m : State) → Created u m → P m
+    unfolding create recover
+    created m (new out rs e) =
+        split (λ (y : Answer). y ≡ done m out rs → P m) _ _ _ (λ s. began _ _ _ _ out rs m s) (λ _. not-done 1 m out rs) e
+    created m (back v x a out rs e) =
+        split (λ (y : Answer). y ≡ done m out rs → P m) _ _ _ (λ s. fitted-began _ v x a _ out rs m s) (λ _. not-done 1 m out rs) e
 
   -- ---- any calls
 
@@ -172,8 +169,7 @@ module _ (u : Setup) where
 
 -- Demand 3. After a creation that was not refused and any calls cs the state is safe; after any further calls ds it is a later one.
 pub demand3 : (u : Setup) (m : State) → Created u m → (cs ds : List Call) → Demand3 u (run u m cs) (run u (run u m cs) ds)
-unfolding Began
 demand3 u m from cs ds =
-    let b : (setupOk u ≡ true) × Inv u m = created u m from in
+    let b : (setupOk u ≡ true) × Inv u m = created u (λ n. (setupOk u ≡ true) × Inv u n) (λ s t v x. (s, new-inv u t v x)) m from in
     let i : Inv u (run u m cs) = reached u m (b .1) cs in
     record { safe = safe-of u (run u m cs) (b .0) i; later = later-of u (run u m cs) i ds }

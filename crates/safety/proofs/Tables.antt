@@ -12,8 +12,8 @@ use Rattle.numbers.proofs.WordLaws.{split, split₂, if-true, if-false, and-lef
 use Rattle.entries.specs.declared.Entry.{Entry}
 use Rattle.fees.specs.declared.Outcome.{Outcome}
 use Rattle.meaning.specs.State.{Row}
-use Rattle.meaning.specs.Book.{Seen, find, put, rowOf, keep, rebuilt}
-use Rattle.safety.specs.Demand.{Above, Rises, bare, rowsOf}
+use Rattle.meaning.specs.Book.{Seen, find, put, rowOf, keep, rebuilt, Above, Rises}
+use Rattle.safety.specs.Demand.{bare, rowsOf}
 
 above-more : (a b : ℕ) (t : List Row) → a ≤ b → Above b t → Above a t
 above-more a b [] h p = tt

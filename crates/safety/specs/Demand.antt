@@ -11,7 +11,7 @@ use Rattle.entries.specs.declared.Entry.{Entry}
 use Rattle.config.specs.declared.Setup.{Setup}
 use Rattle.meaning.specs.State.{Row, Held, Report, Response, State, Sent, Reply, Answer, after}
 use Rattle.meaning.specs.State.Answer.{done}
-use Rattle.meaning.specs.Book.{answersOf, find, put, rowOf}
+use Rattle.meaning.specs.Book.{answersOf, find, put, rowOf, Rises}
 use Rattle.meaning.specs.Steps.{onFrame, onTick, create, recover, stateOk}
 use Rattle.safety.specs.Money.{feesOf, refundsOf, allFees, allRefunds, sum}
 
@@ -34,16 +34,6 @@ run u m (c ∷ cs) = run u (after m (answer u m c)) cs
 pub data Created (u : Setup) (m : State) : Type 0 where
   new : (out : List Sent) (rs : List Reply) → create u ≡ done m out rs → Created u m
   back : (v x a : ℕ) (out : List Sent) (rs : List Reply) → recover u v x a ≡ done m out rs → Created u m
-
--- each row's client id is above c
-abbrev pub Above : ℕ → List Row → Type 0
-Above c [] = Unit
-Above c (r ∷ rs) = (c < r .client) × Above c rs
-
--- each client id is above those before it
-abbrev pub Rises : List Row → Type 0
-Rises [] = Unit
-Rises (r ∷ rs) = Above (r .client) rs × Rises rs
 
 -- the rows without their replies
 unfoldable pub bare : List Row → List Row

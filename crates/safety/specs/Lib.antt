@@ -1,2 +1,3 @@
 pub mod Money
 pub mod Demand
+pub mod Ranges
