@@ -109,13 +109,10 @@ pub fn entries_ok(s: &[u8], at: usize, k: usize) -> bool
     true
 }
 
-// Whether the entries at p and q, that at p standing earlier, are of one client and the request number does not rise.
-fn breaks(s: &[u8], p: usize, q: usize) -> bool
-    requires { ⌜ (p + 32 ≤ length (now s)) × (q + 32 ≤ length (now s)) ⌝ }
-    ensures { λ r. ⌜ r ≡ breaksAt (entryOf (drop p (now (s .entry)))) (entryOf (drop q (now (s .entry)))) ⌝ }
+// Whether f, which stands after e, is of the same client and its request number does not rise.
+pub fn breaks(e: Entry, f: Entry) -> bool
+    ensures { λ r. ⌜ r ≡ breaksAt e f ⌝ }
 {
-    let e = entry_at(s, p);
-    let f = entry_at(s, q);
     if e.client != f.client {
         return false;
     }
@@ -130,9 +127,10 @@ pub fn is_rising(s: &[u8], k: usize) -> bool
     let mut ok = true;
     let mut i = 0;
     'pairs: while i < k {
+        let e = entry_at(s, 32 * i);
         let mut j = i + 1;
         while j < k {
-            if breaks(s, 32 * i, 32 * j) {
+            if breaks(e, entry_at(s, 32 * j)) {
                 ok = false;
                 break 'pairs;
             }

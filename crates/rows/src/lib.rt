@@ -2,6 +2,7 @@
 ghost use mathlib.Core.Path.{_≡_};
 ghost use Prim.Native.Nat.{_≤_, _<_};
 ghost use Rattle.rows.specs.Search.{midOf, halved, isBefore};
+use fees::Outcome;
 use numbers::Op;
 
 // Where a search has come to: the place is from `lo` up to `hi`.
@@ -14,6 +15,14 @@ pub struct Span {
 pub enum Goal {
     Client { id: u64 },
     End,
+}
+
+// What the table has of a client: whether it has a row, its latest request, and the reply that is kept for it, if there is one.
+pub struct Latest {
+    pub there: bool,
+    pub request: u64,
+    pub replied: bool,
+    pub reply: Outcome,
 }
 
 // What a call did to a log that had `op` entries, `commit` of them committed: it was installed anew, or appended to, and has `to` entries now,

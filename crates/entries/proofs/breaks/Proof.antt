@@ -1,5 +1,4 @@
 -- `entries::breaks` meets its contract. Assumes nothing.
-use borrow.Author.Needs.{needs}
 use borrow.Author.Tests.{ne-eqb, eq-eqb}
 use Rattle.numbers.specs.Words.{_and_}
 use Rattle.entries.specs.Rising.{breaksAt}
@@ -8,13 +7,11 @@ use Rattle.entries.proofs.breaks.Tie as tie
 
 returns : tie.Need-returns
 unfolding breaksAt _and_
-returns c = rw (← c .before .before .before .before .entry-at .ensures, ← c .before .before .before .entry-at2 .ensures, ne-eqb _ _ (c .if1 .taken))
+returns c = rw (ne-eqb _ _ (c .if1 .taken))
 
 returns-2 : tie.Need-returns-2
 unfolding breaksAt _and_
-returns-2 c =
-    let d = c .before .before in
-    rw (← d .before .before .before .before .entry-at .ensures, ← d .before .before .before .entry-at2 .ensures, eq-eqb _ _ (d .if1 .left))
+returns-2 c = rw (eq-eqb _ _ (c .before .before .if1 .left))
 
 pub breaks-spec : {M : Type 1} → statement M
-breaks-spec = tie.close (tie.spec (λ c κs. search needs) (λ c κs. search needs) returns returns-2)
+breaks-spec = tie.close (tie.spec returns returns-2)

@@ -1,10 +1,10 @@
 -- `entries::is_rising` meets its contract. Assumes nothing.
 use mathlib.Core.Path.{_≡_, refl, sym, _∙_}
 use mathlib.Core.Bool.{true, false}
-use Prim.Native.Nat.{ℕ, suc, _+_, _-_, _*_, _≤_, _<_}
+use Prim.Native.Nat.{_+_, _-_, _*_, _≤_}
 use native.Mathlib.Omega.{arith}
 use native.Mathlib.Nat.{sub-zero}
-use lib.ListN.{length, drop}
+use lib.ListN.{drop}
 use Rattle.numbers.specs.Words.{_and_}
 use Rattle.entries.specs.Entries.{entryOf, entries}
 use Rattle.entries.specs.Rising.{rising, follows, breaksAt}
@@ -15,11 +15,10 @@ use Rattle.entries.proofs.is_rising.Tie as tie
 
 -- the whole answer is that of what is left
 abbrev Inv-loop : tie.InvT-loop
-Inv-loop s k ok₀ i j₀ ok j =
-    (j ≤ k) × (ok ≡ true) × (rising (entries k s) ≡ (follows (entryOf (drop (32 * i) s)) (fromAt k s j) and rising (fromAt k s (i + 1))))
+Inv-loop s k ok₀ i e j₀ ok j = (j ≤ k) × (ok ≡ true) × (rising (entries k s) ≡ (follows e (fromAt k s j) and rising (fromAt k s (i + 1))))
 
 abbrev μ-loop : tie.MeasureT-loop
-μ-loop s k ok₀ i j₀ ok j = k - j
+μ-loop s k ok₀ i e j₀ ok j = k - j
 
 abbrev Inv-pairs : tie.InvT-pairs
 Inv-pairs s k ok₀ i₀ ok i = (i ≤ k) × (ok ≡ true) × (rising (entries k s) ≡ rising (fromAt k s i))
@@ -32,25 +31,24 @@ pairs-holds c = (omega arith, refl, rw sub-zero)
 
 loop-holds : tie.Need-loop-holds Inv-loop μ-loop Inv-pairs μ-pairs
 loop-holds c =
-    let p = c .before .pairs in
-    let a = c .before .before .before .args in
-    (omega arith, p .inv .1, p .inv .2 ∙ rising-next (a .k) (a .s .now) (p .i) (c .pairs-test .taken))
+    let p = c .before .before .pairs in
+    let a = c .before .before .before .before .args in
+    (omega arith, p .inv .1, p .inv .2 ∙ rw (c .entry-at .ensures) (rising-next (a .k) (a .s .now) (p .i) (c .before .pairs-test .taken)))
 
 loop-again : tie.Need-loop-again Inv-loop μ-loop Inv-pairs μ-pairs
 loop-again c =
-    let l = c .before .before .before .loop in
-    let p = c .before .before .before .before .before .pairs in
-    let a = c .before .before .before .before .before .before .before .args in
-    let e = entryOf (drop (32 * p .i) (a .s .now)) in
-    let b : breaksAt e (entryOf (drop (32 * l .j) (a .s .now))) ≡ false = sym (c .before .breaks .ensures) ∙ c .if1 .left in
-    (omega arith, l .inv .1, l .inv .2 ∙ rw (follows-next e (a .k) (a .s .now) (l .j) (c .before .before .loop-test .taken) b))
+    let l = c .before .before .before .before .loop in
+    let e = c .before .before .before .before .before .entry-at .result in
+    let a = c .before .before .before .before .before .before .before .before .before .args in
+    let f : breaksAt e (entryOf (drop (32 * l .j) (a .s .now))) ≡ false =
+    rw (← c .before .before .entry-at2 .ensures) (sym (c .before .breaks .ensures) ∙ c .if1 .left) in
+    (omega arith, l .inv .1, l .inv .2 ∙ rw (follows-next e (a .k) (a .s .now) (l .j) (c .before .before .before .loop-test .taken) f))
 
 pairs-again : tie.Need-pairs-again Inv-loop μ-loop Inv-pairs μ-pairs
 unfolding follows _and_
 pairs-again c =
     let l = c .before .loop in
-    let p = c .before .before .before .pairs in
-    let a = c .before .before .before .before .before .args in
+    let a = c .before .before .before .before .before .before .args in
     let e : l .j ≡ a .k = omega arith in
     (omega arith, l .inv .1, l .inv .2 ∙ rw (e, from-end))
 
@@ -65,12 +63,12 @@ returns c =
 returns-2 : tie.Need-returns-2 Inv-loop μ-loop Inv-pairs μ-pairs
 unfolding _and_
 returns-2 c =
-    let l = c .before .before .before .loop in
-    let p = c .before .before .before .before .before .pairs in
-    let a = c .before .before .before .before .before .before .before .args in
-    let e = entryOf (drop (32 * p .i) (a .s .now)) in
-    let b : breaksAt e (entryOf (drop (32 * l .j) (a .s .now))) ≡ true = sym (c .before .breaks .ensures) ∙ c .if1 .taken in
-    sym (l .inv .2 ∙ rw (follows-stop e (a .k) (a .s .now) (l .j) (c .before .before .loop-test .taken) b))
+    let l = c .before .before .before .before .loop in
+    let e = c .before .before .before .before .before .entry-at .result in
+    let a = c .before .before .before .before .before .before .before .before .before .args in
+    let f : breaksAt e (entryOf (drop (32 * l .j) (a .s .now))) ≡ true =
+    rw (← c .before .before .entry-at2 .ensures) (sym (c .before .breaks .ensures) ∙ c .if1 .taken) in
+    sym (l .inv .2 ∙ rw (follows-stop e (a .k) (a .s .now) (l .j) (c .before .before .before .loop-test .taken) f))
 
 pub is-rising-spec : {M : Type 1} → statement M
 is-rising-spec =
@@ -82,10 +80,12 @@ is-rising-spec =
     μ-pairs
     pairs-holds
     (λ c. omega arith)
+    (λ c κs. omega arith)
+    (λ c. omega arith)
     loop-holds
     (λ c. omega arith)
-    (λ c. omega arith)
     (λ c κs. omega arith)
+    (λ c κs. search needs)
     (λ c. omega arith)
     (λ c. omega arith)
     loop-again

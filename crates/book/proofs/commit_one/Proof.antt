@@ -1,0 +1,26 @@
+-- `book::commit_one` meets its contract. Assumes nothing.
+use borrow.Author.Needs.{needs}
+use Rattle.book.proofs.RunLaws.{applied-of}
+use Rattle.book.proofs.commit_one.Statement.{statement}
+use Rattle.book.proofs.commit_one.Tie as tie
+
+returns : tie.Need-returns
+returns c =
+    let a = c .before .before .before .before .before .before .before .before .before .before .args in
+    let o = c .before .before .before .before .before .before .apply in
+    let w = c .before .before .write-result in
+    applied-of (a .members) (a .e) (a .i) (a .results .now) (a .totals .now) (o .result) (o .ensures .0) (o .ensures .1) (w .ensures)
+
+pub commit-one-spec : {M : Type 1} → statement M
+commit-one-spec =
+    tie.close
+    (tie.spec
+    (λ c κs. search needs)
+    (λ c. search needs)
+    (λ c. search needs)
+    (λ c. search needs)
+    (λ c. search needs)
+    (λ c κs. search needs)
+    (λ c. search needs)
+    (λ c. search needs)
+    returns)

@@ -1,0 +1,64 @@
+-- `book::commit_up_to` meets its contract. Assumes nothing.
+use mathlib.Core.Path.{_≡_, refl, ap, _∙_}
+use Prim.Native.Nat.{ℕ, _+_, _-_, _≤_}
+use native.Mathlib.Omega.{arith}
+use lib.ListN.{length}
+use Rattle.book.specs.Runs.{money, committed}
+use Rattle.book.proofs.LogLaws.{entry-room}
+use Rattle.book.proofs.RunLaws.{commit-none, commit-more}
+use Rattle.book.proofs.commit_up_to.Statement.{statement}
+use Rattle.book.proofs.commit_up_to.Tie as tie
+
+abbrev Inv-loop : tie.InvT-loop
+Inv-loop log results₀ totals₀ members from count k₀ results totals k =
+    (k ≤ count) × (length results ≡ length results₀) × (length totals ≡ length totals₀)
+    × (money results totals ≡ committed members log from k (money results₀ totals₀))
+
+abbrev μ-loop : tie.MeasureT-loop
+μ-loop log results₀ totals₀ members from count k₀ results totals k = count - k
+
+loop-holds : tie.Need-loop-holds Inv-loop μ-loop
+loop-holds c =
+    let a = c .before .before .before .args in
+    (omega arith, refl, refl, commit-none (a .members) (a .log .now) (a .from) (money (a .results .now) (a .totals .now)))
+
+entry-requires : tie.Need-entry-requires Inv-loop μ-loop
+entry-requires c κs =
+    let s = c .before .before .before .before .before .before .before in
+    entry-room (s .args .from + s .args .count) (s .pre .0) (s .pre .1 .1 .1) (omega arith)
+
+loop-again : tie.Need-loop-again Inv-loop μ-loop
+loop-again c =
+    let a = c .before .before .before .before .before .before .before .before .before .before .before .before .before .args in
+    let l = c .before .before .before .before .before .before .before .before .before .loop in
+    let e = c .before .before .before .before .before .entry in
+    let o = c .before .before .before .before .commit-one in (
+      omega arith,
+      o .kept .0 ∙ l .inv .1,
+      o .kept .1 .0 ∙ l .inv .2,
+      commit-more (a .members) (a .log .now) (a .from) (l .k) _ _ _ (e .result) (l .inv .3) (e .ensures) (o .ensures),
+    )
+
+returns : tie.Need-returns Inv-loop μ-loop
+returns c =
+    let l = c .before .loop in
+    let a = c .before .before .before .before .before .args in
+    let e : l .k ≡ a .count = omega arith in
+    l .inv .3 ∙ ap (λ (k : ℕ). committed (a .members) (a .log .now) (a .from) k (money (a .results .now) (a .totals .now))) e
+
+pub commit-up-to-spec : {M : Type 1} → statement M
+commit-up-to-spec =
+    tie.close
+    (tie.spec
+    Inv-loop
+    μ-loop
+    loop-holds
+    (λ c. omega arith)
+    entry-requires
+    (λ c κs. (omega arith, omega arith))
+    (λ c. omega arith)
+    (λ c. omega arith)
+    loop-again
+    (λ c. c .before .loop .inv .1)
+    (λ c. c .before .loop .inv .2)
+    returns)
