@@ -2,7 +2,7 @@
 --     place-is, place-small, place-next, place-add, place-mono, place-long    places
 --     entry-room, entry-is                          what reading an entry asks and gives
 --     with-part, with-length                        entries written behind the first n
---     entry-get, append-entries, part-entries       the run as a list of entries; entries-front: they see their own bytes alone
+--     entry-get, append-entries, part-entries       the run as a list of entries
 --     none-next                                     one entry of the log further, by places
 --     rises-after                                   what the look over pairs says of the two logs joined
 --     same-refl, same-eq, same-next, same-stop, same-end         two runs compared, and by places
@@ -23,7 +23,7 @@ use Rattle.numbers.specs.Numbers.{over, putAt}
 use Rattle.numbers.specs.Cells.{cells}
 use Rattle.numbers.proofs.WordLaws.{and-both}
 use Rattle.numbers.proofs.RunLaws.{put-part, put-length, put-split}
-use Rattle.numbers.proofs.CellLaws.{cells-get, cells-more}
+use Rattle.numbers.proofs.CellLaws.{cells-get, cells-more, cells-join, cells-front, cells-taken}
 use Rattle.entries.specs.Entries.{entryOf, encodeEntry, entries, EntryFits}
 use Rattle.entries.specs.Rising.{breaksAt, follows, rising}
 use Rattle.entries.specs.declared.Entry.{Entry}
@@ -90,38 +90,17 @@ pub append-entries : (n : ℕ) (log : List ℕ) (e : Entry) → EntryFits e → 
 unfolding withEntries placeOf
 append-entries n log e f h = cells-more 32 entryOf encodeEntry EntryFits entry-codec n log e f h
 
--- the first entry sees its own bytes alone
-first : (s t : List ℕ) → 32 ≤ length s → entryOf (take 32 s ++ t) ≡ entryOf s
-first s t h =
-    let e : 32 ≤ length (take 32 s) = simp length-take (omega arith) in
-    entry-codec .front (take 32 s) t e ∙ sym (entry-codec .front (take 32 s) (drop 32 s) e) ∙ ap entryOf (take-append-drop 32 s)
-
-later : (s t : List ℕ) → 32 ≤ length s → drop 32 (take 32 s ++ t) ≡ t
-later s t h = drop-at (take 32 s) t 32 (length-take-le 32 s h)
-
--- the first k entries see their own bytes alone
-pub entries-front : (k : ℕ) (s t : List ℕ) → 32 * k ≤ length s → entries k (take (32 * k) s ++ t) ≡ entries k s
-unfolding cells
-entries-front zero s t h = refl
-entries-front (suc k) s t h =
-    let e : 32 * suc k ≡ 32 + 32 * k = omega arith in
-    let u = take (32 * k) (drop 32 s) in
-    rw (e, take-add 32 (32 * k) s, append-assoc (take 32 s) u t, first s (u ++ t) (omega arith), later s (u ++ t) (omega arith))
-    (ap (λ (es : List Entry). entryOf s ∷ es) (entries-front k (drop 32 s) t (simp length-drop (omega arith))))
-
 pub part-entries : (n : ℕ) (log : List ℕ) (k : ℕ) (part : List ℕ) → placeOf (n + k) ≤ length log → 32 * k ≤ length part
     → entries (n + k) (withEntries n (take (32 * k) part) log) ≡ entries n log ++ entries k part
-unfolding withEntries placeOf cells putAt over
-part-entries zero log k part h g =
-    let z : 0 + k ≡ k = omega arith in
-    rw z (entries-front k part (drop (length (take (32 * k) part)) log) g)
-part-entries (suc n) log k part h g =
-    let e : 32 * suc n ≡ 32 + 32 * n = omega arith in
-    let m : suc n + k ≡ suc (n + k) = omega arith in
+unfolding withEntries placeOf putAt over
+part-entries n log k part h g =
+    let l : 32 * n ≤ length log = omega (arith, h) in
     let w = take (32 * k) part in
-    let u = putAt (32 * n) w (drop 32 log) in
-    rw (m, e, put-split 32 (32 * n) w log, first log u (omega arith), later log u (omega arith))
-    (ap (λ (es : List Entry). entryOf log ∷ es) (part-entries n (drop 32 log) k part (simp length-drop (omega arith)) g))
+    cells-join 32 entryOf encodeEntry EntryFits entry-codec n k (take (32 * n) log) (over w (drop (32 * n) log)) (length-take-le (32 * n) log l)
+    ∙ rw (
+      cells-taken 32 entryOf encodeEntry EntryFits entry-codec n log l,
+      cells-front 32 entryOf encodeEntry EntryFits entry-codec k part (drop (length w) (drop (32 * n) log)) g,
+    )
 
 -- ---- pairs of two logs
 
@@ -210,7 +189,8 @@ module _ (n : ℕ) (log : List ℕ) (k : ℕ) (part : List ℕ) where
   pub keeps-entries : keepsFirst n log k part ≡ true → placeOf n ≤ length log → 32 * k ≤ length part → entries n log ≡ entries n part
   keeps-entries h g f =
       let p = keeps-prefix h in
-      sym (entries-front n log [] (omega (arith, place-long n))) ∙ rw (p .1) (entries-front n part [] (omega (arith, p .0)))
+      sym (cells-taken 32 entryOf encodeEntry EntryFits entry-codec n log (omega (arith, place-long n)))
+      ∙ rw (p .1) (cells-taken 32 entryOf encodeEntry EntryFits entry-codec n part (omega (arith, p .0)))
 
   pub prefix-keeps : n ≤ k → take (32 * n) log ≡ take (32 * n) part → keepsFirst n log k part ≡ true
   prefix-keeps h e = keeps-long h ∙ rw e (same-refl (take (32 * n) part))

@@ -8,9 +8,8 @@ use mathlib.Core.Bool.{true, false}
 use Prim.Native.Nat.{ℕ, zero, suc, _+_, _-_, _*_, _<_}
 use native.Mathlib.Omega.{arith}
 use lib.ListN.{drop}
-use lib.Seq.{drop-drop}
 use Rattle.numbers.specs.Words.{_and_}
-use Rattle.numbers.specs.Cells.{cells}
+use Rattle.numbers.proofs.CellLaws.{cells-next, cells-none}
 use Rattle.entries.specs.Entries.{entryOf, entries}
 use Rattle.entries.specs.Rising.{breaksAt, follows, rising}
 use Rattle.entries.specs.declared.Entry.{Entry}
@@ -20,17 +19,10 @@ abbrev pub fromAt : ℕ → List ℕ → ℕ → List Entry
 fromAt k s i = entries (k - i) (drop (32 * i) s)
 
 pub from-next : (k : ℕ) (s : List ℕ) (i : ℕ) → i < k → fromAt k s i ≡ entryOf (drop (32 * i) s) ∷ fromAt k s (i + 1)
-unfolding cells
-from-next k s i h =
-    let e : k - i ≡ suc (k - (i + 1)) = omega arith in
-    let d : 32 * i + 32 ≡ 32 * (i + 1) = omega arith in
-    rw (e, drop-drop, d)
+from-next k s i h = cells-next 32 entryOf k s i (entryOf (drop (32 * i) s)) h refl
 
 pub from-end : (k : ℕ) (s : List ℕ) → fromAt k s k ≡ []
-unfolding cells
-from-end k s =
-    let e : k - k ≡ 0 = omega arith in
-    rw e
+from-end k s = cells-none 32 entryOf k (drop (32 * k) s) k (omega arith)
 
 pub rising-next : (k : ℕ) (s : List ℕ) (i : ℕ) → i < k → rising (fromAt k s i) ≡ (follows (entryOf (drop (32 * i) s)) (fromAt k s (i + 1)) and rising (fromAt k s (i + 1)))
 unfolding rising

@@ -1,10 +1,11 @@
 -- Laws of the book.
+--     outcome-code                                   an outcome is 1 to 6
 --     through-, answers-length, -append              the fee rules over a list of entries
 --     commitAll-log, -commit, -results, -totals, -applied   what a commit of entries leaves in each field
 --     commitAll-end, appendAll-end                   one entry more: for a loop that goes on at the end
 --     replies-end                                    likewise for the replies
 --     length-due                                     how many entries a commit puts through the rules
---     appendAll-log, appendAll-length                an append of entries
+--     appendAll-log, appendAll-length, appendAll-rest    an append of entries
 --     agree-take, agree-le                           what refusal 7's look over the committed entries says
 -- Assumes nothing.
 use Prim.Native.Nat.{ℕ, zero, suc, _+_, _-_, _≤_}
@@ -17,9 +18,26 @@ use lib.ListN.{length, take, length-append, length-take, length-drop, length-set
 use borrow.Author.Tests.{eqb-true}
 use Rattle.numbers.proofs.WordLaws.{split, and-left, and-right}
 use Rattle.entries.specs.declared.Entry.{Entry}
+use Rattle.entries.specs.declared.Operation.{Operation}
+use Rattle.entries.specs.declared.Operation.the-variants.{Fee, Refund, Ask}
+use Rattle.fees.specs.Fees.{rule}
 use Rattle.fees.specs.declared.Outcome.{Outcome}
 use Rattle.meaning.specs.State.{Book}
 use Rattle.meaning.specs.Book.{outcome, totalsAfter, through, answersOf, append, appendAll, commitOne, commitAll, due, repliesOf, sameEntry, agree}
+
+-- the numbers of outcomes
+abbrev Coded : Outcome → Type 0
+Coded o = (1 ≤ o .code) × (o .code ≤ 6)
+
+rule-code : (t cents : ℕ) (op : Operation) → Coded (rule t op cents)
+unfolding rule
+rule-code t cents Fee = split Coded _ _ _ (λ _. omega arith) (λ _. omega arith)
+rule-code t cents Refund = split Coded _ _ _ (λ _. omega arith) (λ _. omega arith)
+rule-code t cents Ask = omega arith
+
+pub outcome-code : (ts : List ℕ) (e : Entry) → (1 ≤ outcome ts e .code) × (outcome ts e .code ≤ 6)
+unfolding outcome
+outcome-code ts e = split Coded _ _ _ (λ _. rule-code _ (e .cents) _) (λ _. omega arith)
 
 -- how many totals and answers there are
 after-length : (ts : List ℕ) (e : Entry) → length (totalsAfter ts e) ≡ length ts
@@ -106,6 +124,20 @@ appendAll-log b (e ∷ es) = appendAll-log (append b e) es ∙ append-assoc (b .
 
 pub appendAll-length : (b : Book) (es : List Entry) → length (appendAll b es .log) ≡ length (b .log) + length es
 appendAll-length b es = rw (appendAll-log, length-append)
+
+-- the fields that an append leaves
+pub record Rest (b c : Book) : Type 0 where
+  pub commit : c .commit ≡ b .commit
+  pub totals : c .totals ≡ b .totals
+  pub applied : c .applied ≡ b .applied
+  pub results : c .results ≡ b .results
+
+pub appendAll-rest : (b : Book) (es : List Entry) → Rest b (appendAll b es)
+unfolding appendAll append
+appendAll-rest b [] = record { commit = refl; totals = refl; applied = refl; results = refl }
+appendAll-rest b (e ∷ es) =
+    let x : Rest (append b e) (appendAll (append b e) es) = appendAll-rest (append b e) es in
+    record { commit = x .commit; totals = x .totals; applied = x .applied; results = x .results }
 
 -- agreement of logs
 same-eq : (a b : Entry) → sameEntry a b ≡ true → a ≡ b

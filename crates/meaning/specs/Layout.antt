@@ -14,6 +14,7 @@ use Rattle.entries.specs.declared.Entry.{Entry}
 use Rattle.config.specs.declared.Setup.{Setup}
 use Rattle.fees.specs.Results.{outcomes}
 use Rattle.rows.specs.Rows.{Shape, rowAt}
+use Rattle.book.specs.Runs.{Money, money}
 use Rattle.state.specs.State.{isRecovering}
 use Rattle.state.specs.Lengths.{logLength, resultsLength, acksLength, totalsLength, storedPlace, storedLength}
 use Rattle.state.specs.declared.Replica.{Replica}
@@ -89,21 +90,25 @@ storeOf s stored =
       nonce = s .nonce;
     }
 
--- The state. The client table is handed in as it is read from its own run. So are the applied entries, which no byte holds: what a call does to
--- them the model says alone.
+-- The book, of so many members and a log of op entries, commit of them committed. The client table is handed in as it is read from its own run. So are
+-- the applied entries, which no byte holds: what a call does to them the model says alone.
+unfoldable pub bookOf : (members op commit : ℕ) (log : List ℕ) → Money → (table : List M.Row) (applied : List Entry) → M.Book
+bookOf members op commit log x table applied =
+    record {
+      log = entries op log;
+      commit = commit;
+      results = outcomes commit (x .results);
+      table = table;
+      totals = cells 8 totalOf members (x .totals);
+      applied = applied;
+    }
+
+-- the state
 unfoldable pub modelOf : Replica → Runs → (table : List M.Row) (applied : List Entry) → M.State
 modelOf s x table applied =
     record {
       place = record { status = s .status; view = s .view .0; lastNormal = s .normal .0; catchingUp = s .catching };
-      book =
-          record {
-            log = entries (s .op .0) (x .log);
-            commit = s .commit .0;
-            results = outcomes (s .commit .0) (x .results);
-            table = table;
-            totals = cells 8 totalOf (s .setup .members) (x .totals);
-            applied = applied;
-          };
+      book = bookOf (s .setup .members) (s .op .0) (s .commit .0) (x .log) (money (x .results) (x .totals)) table applied;
       votes = record { acks = x .acks; starts = s .starts; sent = s .sent };
       store = storeOf s (x .stored);
       clock = s .clock;

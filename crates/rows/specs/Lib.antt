@@ -1,2 +1,3 @@
 pub mod Search
 pub mod Rows
+pub mod Lawful

@@ -1,5 +1,5 @@
 -- What every book that a call can reach has, and that append, commit and install keep it. Assumes nothing.
-use Prim.Native.Nat.{ℕ, _+_, _-_, _≤_, _<_}
+use Prim.Native.Nat.{ℕ, _+_, _≤_, _<_}
 use native.Mathlib.Nat.{le-refl}
 use native.Mathlib.Omega.{arith}
 use mathlib.Core.Path.{_≡_, refl, sym, ap, _∙_}
@@ -15,9 +15,10 @@ use Rattle.fees.specs.declared.Outcome.{Outcome}
 use Rattle.meaning.specs.State.{Row, Book}
 use Rattle.meaning.specs.Book.{through, answersOf, put, rowOf, append, appendAll, commitOne, commitAll, commitUpTo, due, install, agree, Rises}
 use Rattle.meaning.proofs.BookLaws.{through-append, answers-append, commitAll-log, commitAll-commit, commitAll-applied, commitAll-totals, commitAll-results}
-use Rattle.meaning.proofs.BookLaws.{agree-take, agree-le, length-due, appendAll-log, appendAll-length}
+use Rattle.meaning.proofs.BookLaws.{agree-take, agree-le, length-due, appendAll-log, appendAll-length, Rest, appendAll-rest}
 use Rattle.safety.specs.Demand.{bare, rowsOf, zeros}
-use Rattle.safety.proofs.Tables.{put-rises, keep-rises, keep-bare, append-bare, rows-append, rebuilt-rises, rebuilt-bare}
+use Rattle.meaning.proofs.TableLaws.{put-rises, keep-rises, rebuilt-rises}
+use Rattle.safety.proofs.Tables.{keep-bare, append-bare, rows-append, rebuilt-bare}
 
 -- the invariant
 pub record BookInv (u : Setup) (b : Book) : Type 0 where
@@ -134,23 +135,9 @@ unfolding appendAll append
 appendAll-table u b [] p q = (p, q)
 appendAll-table u b (e ∷ es) p q = appendAll-table u (append b e) es (put-rises (b .table) _ p) (append-table u b e q)
 
--- the fields that an append leaves
-record Left (b c : Book) : Type 0 where
-  commit : c .commit ≡ b .commit
-  totals : c .totals ≡ b .totals
-  applied : c .applied ≡ b .applied
-  results : c .results ≡ b .results
-
-appendAll-rest : (b : Book) (es : List Entry) → Left b (appendAll b es)
-unfolding appendAll append
-appendAll-rest b [] = record { commit = refl; totals = refl; applied = refl; results = refl }
-appendAll-rest b (e ∷ es) =
-    let x : Left (append b e) (appendAll (append b e) es) = appendAll-rest (append b e) es in
-    record { commit = x .commit; totals = x .totals; applied = x .applied; results = x .results }
-
 pub appendAll-ok : (u : Setup) (b : Book) (es : List Entry) → length (b .log) + length es ≤ u .room → rising (b .log ++ es) ≡ true → Ok u b (appendAll b es)
 appendAll-ok u b es h r i =
-    let x : Left b (appendAll b es) = appendAll-rest b es in
+    let x : Rest b (appendAll b es) = appendAll-rest b es in
     record {
       inv =
           record {

@@ -1,4 +1,4 @@
--- The client table: client ids stay in rising order, and but for the replies it is what the log's entries leave. Assumes nothing.
+-- The client table: but for the replies it is what the log's entries leave. Assumes nothing.
 use Prim.Native.Nat.{ℕ, zero, suc, _+_, _≤_, _<_}
 use native.Mathlib.Omega.{arith}
 use mathlib.Core.Path.{_≡_, refl, sym, ap, _∙_}
@@ -7,48 +7,14 @@ use mathlib.Core.List.{List, [], _∷_, _++_}
 use mathlib.Core.Option.{Option, none}
 use lib.Dec.{eqb}
 use lib.ListN.{length, getD}
-use borrow.Author.Tests.{ltb-true, ltb-false, eqb-true, eqb-false, ne-eqb, eq-eqb}
+use borrow.Author.Tests.{ltb-true, eqb-true, eqb-false, ne-eqb, eq-eqb}
 use Rattle.numbers.proofs.WordLaws.{split, split₂, if-true, if-false, and-left, and-right}
 use Rattle.entries.specs.declared.Entry.{Entry}
 use Rattle.fees.specs.declared.Outcome.{Outcome}
 use Rattle.meaning.specs.State.{Row}
-use Rattle.meaning.specs.Book.{Seen, find, put, rowOf, keep, rebuilt, Above, Rises}
+use Rattle.meaning.specs.Book.{Seen, find, put, rowOf, keep, rebuilt, Rises}
+use Rattle.meaning.proofs.TableLaws.{above-more, put-length, absent}
 use Rattle.safety.specs.Demand.{bare, rowsOf}
-
-above-more : (a b : ℕ) (t : List Row) → a ≤ b → Above b t → Above a t
-above-more a b [] h p = tt
-above-more a b (r ∷ rs) h p = (omega arith, above-more a b rs h (p .1))
-
-put-above : (c : ℕ) (t : List Row) (r : Row) → c < r .client → Above c t → Above c (put t r)
-unfolding put
-put-above c [] r h p = (h, tt)
-put-above c (q ∷ qs) r h p =
-    split (Above c) _ _ _ (λ _. (h, p)) λ _.
-    split (Above c) _ _ _ (λ _. (h, p .1)) (λ _. (p .0, put-above c qs r h (p .1)))
-
-pub put-rises : (t : List Row) (r : Row) → Rises t → Rises (put t r)
-unfolding put
-put-rises [] r p = (tt, tt)
-put-rises (q ∷ qs) r p =
-    split Rises _ _ _ (λ lt. let h : r .client < q .client = ltb-true _ _ lt in ((h, above-more _ _ qs (omega arith) (p .0)), p)) λ ge.
-    split Rises _ _ _
-    (λ eq. let h : r .client ≡ q .client = eqb-true _ _ eq in (rw h (p .0), p .1))
-    (λ ne. let a : q .client ≤ r .client = ltb-false _ _ ge in let b : r .client ≡ q .client → ⊥ = eqb-false _ _ ne in
-    (put-above _ qs r (omega (arith, b)) (p .0), put-rises qs r (p .1)))
-
-pub put-length : (t : List Row) (r : Row) → length (put t r) ≤ length t + 1
-unfolding put
-put-length [] r = omega arith
-put-length (q ∷ qs) r =
-    let P : List Row → Type 0 = λ l. length l ≤ length (q ∷ qs) + 1 in
-    split P _ _ _ (λ _. omega arith) λ _. split P _ _ _ (λ _. omega arith) (λ _. omega (arith, put-length qs r))
-
-absent : (c : ℕ) (t : List Row) → Above c t → find t c .there ≡ false
-unfolding find
-absent c [] p = refl
-absent c (q ∷ qs) p =
-    split (λ (x : Seen). x .there ≡ false) _ _ _
-    (λ eq. let h : q .client ≡ c = eqb-true _ _ eq in absurd (omega arith)) (λ _. absent c qs (p .1))
 
 -- ---- without the replies
 
@@ -82,7 +48,7 @@ put-same (q ∷ qs) c r p f e =
     split P _ _ _
     (λ lt.
     let h : c < q .client = ltb-true _ _ lt in
-    let no : find (q ∷ qs) c .there ≡ false = absent c (q ∷ qs) (h, above-more _ _ qs (omega arith) (p .0)) in
+    let no : find (q ∷ qs) c ≡ find [] c = absent c (q ∷ qs) (h, above-more _ _ qs (omega arith) (p .0)) in
     cc)
     λ ge.
     split P _ _ _
@@ -95,10 +61,6 @@ put-same (q ∷ qs) c r p f e =
     ap (_∷_ (bareRow q)) (put-same qs c r (p .1) (rw (if-false (eqb (q .client) c) _ _ n) at f) (rw (if-false (eqb (q .client) c) _ _ n) at e)))
 
 -- ---- the model's changes of the table
-
-pub keep-rises : (t : List Row) (e : Entry) (o : Outcome) → Rises t → Rises (keep t e o)
-unfolding keep
-keep-rises t e o p = split Rises _ _ _ (λ _. put-rises t _ p) (λ _. p)
 
 pub keep-bare : (t : List Row) (e : Entry) (o : Outcome) → Rises t → bare (keep t e o) ≡ bare t
 unfolding keep rowOf bareRow
@@ -114,13 +76,6 @@ pub rows-append : (t : List Row) (es fs : List Entry) → rowsOf t (es ++ fs) �
 unfolding rowsOf
 rows-append t [] fs = refl
 rows-append t (e ∷ es) fs = rows-append (put t (rowOf e none)) es fs
-
-pub rebuilt-rises : (old : List Row) (left : ℕ) (new : List Row) (es : List Entry) → Rises new → Rises (rebuilt old left new es)
-unfolding rebuilt
-rebuilt-rises old zero new [] p = p
-rebuilt-rises old (suc left) new [] p = p
-rebuilt-rises old zero new (e ∷ es) p = rebuilt-rises old zero _ es (put-rises new _ p)
-rebuilt-rises old (suc left) new (e ∷ es) p = rebuilt-rises old left _ es (put-rises new _ p)
 
 put-bare : (t : List Row) (e : Entry) (k : Option Outcome) → bare (put t (rowOf e k)) ≡ put (bare t) (rowOf e none)
 unfolding rowOf bareRow

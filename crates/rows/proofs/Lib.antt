@@ -1,0 +1,4 @@
+pub mod SearchLaws
+pub mod SeekLaws
+pub mod StoreLaws
+pub mod Turns

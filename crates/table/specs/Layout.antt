@@ -1,0 +1,77 @@
+-- The client table in lent bytes, 25 a row: client 8, request 8, mark 1 (0 unused, 255 no reply yet, else the outcome), total 8. Every byte has a
+-- meaning, so that bytes and rows say the same. Assumes nothing.
+use mathlib.Core.Path.{_≡_}
+use mathlib.Core.Bool.{not}
+use mathlib.Core.List.{List, _++_}
+use mathlib.Core.Option.{Option, none, some}
+use Prim.Native.Nat.{ℕ, _*_, _^_, _<_}
+use lib.Dec.{eqb}
+use lib.ListN.{take, drop}
+use Rattle.numbers.specs.Words.{if_then_else_}
+use Rattle.numbers.specs.Numbers.{big, num, over}
+use Rattle.numbers.specs.Cells.{cells, packed}
+use Rattle.entries.specs.declared.Entry.{Entry}
+use Rattle.fees.specs.Fees.{gives}
+use Rattle.fees.specs.declared.Outcome.{Outcome}
+use Rattle.rows.specs.Rows.{Shape, rowAt, spotOf, isThere}
+use Rattle.rows.specs.declared.Change.{Change}
+use Rattle.table.specs.declared.Row.{Row}
+use Rattle.table.specs.declared.Found.{Found}
+
+-- an unused row
+abbrev pub noRow : Row
+noRow = record { client = 0; request = 0; mark = 0; total = 0 }
+
+-- the row of an entry, with a mark and a total
+abbrev pub rowWith : Entry → ℕ → ℕ → Row
+rowWith e mark total = record { client = e .client; request = e .request; mark = mark; total = total }
+
+-- of an entry that has no reply yet
+abbrev pub freshOf : Entry → Row
+freshOf e = rowWith e 255 0
+
+-- what the table asks of a row, of one in bytes
+abbrev pub byteRow : Shape Row
+byteRow =
+    record {
+      used = λ x. not (eqb (x .mark) 0);
+      client = λ x. x .client;
+      request = λ x. x .request;
+      kept = λ x. if eqb (x .mark) 255 then none else some (gives (x .mark) (x .total));
+      blank = noRow;
+      fresh = freshOf;
+      answered = λ e o. rowWith e (o .code) (o .total);
+      again = λ e x. rowWith e (x .mark) (x .total);
+    }
+
+-- the row that the first 25 bytes stand for
+unfoldable pub rowOf : List ℕ → Row
+rowOf s = record { client = num 8 0 s; request = num 8 8 s; mark = num 1 16 s; total = num 8 17 s }
+
+-- a row's bytes
+unfoldable pub encodeRow : Row → List ℕ
+encodeRow r = big 8 (r .client) ++ big 8 (r .request) ++ big 1 (r .mark) ++ big 8 (r .total)
+
+-- the first n rows of a run
+abbrev pub rowsOf : ℕ → List ℕ → List Row
+rowsOf n s = cells 25 rowOf n s
+
+-- what the types of a row's fields say
+pub record RowFits (r : Row) : Type 0 where
+  pub client : r .client < 2 ^ 64
+  pub request : r .request < 2 ^ 64
+  pub mark : r .mark < 2 ^ 8
+  pub total : r .total < 2 ^ 64
+
+-- A writer's promise: the run's first n rows are these, byte for byte and as they are read again, and what stood behind them is as it was.
+pub record Left (n : ℕ) (before after : List ℕ) (now : List Row) : Type 0 where
+  pub bytes : after ≡ packed encodeRow now ++ drop (25 * n) before
+  pub rows : rowsOf n after ≡ now
+
+-- what is found of a client
+unfoldable pub foundIn : List Row → ℕ → Found
+foundIn xs c = record { at = spotOf byteRow xs c; there = isThere byteRow xs c; row = rowAt byteRow xs (spotOf byteRow xs c) }
+
+-- the second run after a call: a rebuild leaves there the rows that it replaced
+unfoldable pub oldAfter : ℕ → Change → (table old : List ℕ) → List ℕ
+oldAfter n k table old = if k .installed then over (take (25 * n) table) old else old

@@ -1,0 +1,223 @@
+// The client table in lent bytes: 25 a row, in rising order of client id, unused rows last.
+ghost use mathlib.Core.Path.{_≡_};
+ghost use Prim.Native.Nat.{_-_, _*_, _≤_};
+ghost use lib.ListN.{length, take, drop, replicate};
+ghost use Rattle.numbers.specs.Numbers.{over};
+ghost use Rattle.entries.specs.Entries.{entries};
+ghost use Rattle.fees.specs.Results.{outcomes};
+ghost use Rattle.rows.specs.Rows.{spotOf, inserted, putRow, appended, replied, committed, keptRow, rebuilt, renewed, followed};
+ghost use Rattle.table.specs.Layout.{noRow, byteRow, rowsOf, foundIn, oldAfter, Left};
+use entries::Entry;
+use fees::Outcome;
+use rows::Change;
+use rows::Goal;
+
+mod cell; // a row read, written and made
+mod place; // places: the search by halves, and a row stored
+
+// A row: mark 0 is an unused row, 255 no reply yet, any other the outcome of the reply that is kept, whose total follows.
+pub struct Row {
+    pub client: u64,
+    pub request: u64,
+    pub mark: u8,
+    pub total: u64,
+}
+
+// Where a client's row is or would go, whether it is there, and the row at that place.
+pub struct Found {
+    pub at: usize,
+    pub there: bool,
+    pub row: Row,
+}
+
+// The client's row, its place, or the place where it would go.
+pub fn find(table: &[u8], n: usize, client: u64) -> Found
+    requires { ⌜ 25 * n ≤ length (now table) ⌝ }
+    ensures { λ r. ⌜ r ≡ foundIn (rowsOf n (now (table .entry))) client ⌝ }
+{
+    let at = place::seek(table, n, 0, Goal::Client { id: client });
+    let row = place::peek(table, n, at);
+    Found {
+        at,
+        there: cell::is_of(row, client),
+        row,
+    }
+}
+
+// The row of a client that has none; a full table takes none.
+fn insert(table: &mut [u8], n: usize, at: usize, row: Row)
+    requires { ⌜ 25 * n ≤ length (now table) × (at ≡ spotOf byteRow (rowsOf n (now table)) (row .client)) ⌝ }
+    ensures { λ r. ⌜ Left n (now (table .entry)) (now (table .exit)) (inserted byteRow (rowsOf n (now (table .entry))) row) ⌝ }
+{
+    let to = place::seek(table, n, at, Goal::End);
+    if n <= to {
+        return;
+    }
+    place::store(table, n, at, to, row);
+}
+
+// `row` becomes its client's row.
+fn put(table: &mut [u8], n: usize, row: Row)
+    requires { ⌜ 25 * n ≤ length (now table) ⌝ }
+    ensures { λ r. ⌜ Left n (now (table .entry)) (now (table .exit)) (putRow byteRow (rowsOf n (now (table .entry))) row) ⌝ }
+{
+    let f = find(table, n, row.client);
+    if f.there {
+        place::store(table, n, f.at, f.at, row);
+        return;
+    }
+    insert(table, n, f.at, row);
+}
+
+// The entries from .. to of the log, in order, become their clients' rows.
+pub fn follow_append(table: &mut [u8], n: usize, log: &[u8], from: usize, to: usize)
+    requires { ⌜ (25 * n ≤ length (now table)) × ((32 * to ≤ length (now log)) × (from ≤ to)) ⌝ }
+    ensures { λ r. ⌜ Left n (now (table .entry)) (now (table .exit)) (appended byteRow (rowsOf n (now (table .entry))) (entries (to - from) (drop (32 * from) (now (log .entry))))) ⌝ }
+{
+    let mut k = from;
+    while k < to {
+        put(table, n, cell::fresh(entries::entry_at(log, 32 * k)));
+        k += 1;
+    }
+}
+
+// The entry was executed: its reply is kept where it is its client's latest request.
+fn reply(table: &mut [u8], n: usize, e: Entry, o: Outcome)
+    requires { ⌜ 25 * n ≤ length (now table) ⌝ }
+    ensures { λ r. ⌜ Left n (now (table .entry)) (now (table .exit)) (replied byteRow (rowsOf n (now (table .entry))) e o) ⌝ }
+{
+    let f = find(table, n, e.client);
+    if !f.there {
+        return;
+    }
+    if f.row.request != e.request {
+        return;
+    }
+    let row = Row {
+        client: e.client,
+        request: e.request,
+        mark: o.code,
+        total: o.total,
+    };
+    place::store(table, n, f.at, f.at, row);
+}
+
+// The entries from .. to were executed, and gave these results.
+pub fn follow_commit(table: &mut [u8], n: usize, log: &[u8], results: &[u8], from: usize, to: usize)
+    requires { ⌜ (25 * n ≤ length (now table)) × ((32 * to ≤ length (now log)) × ((9 * to ≤ length (now results)) × (from ≤ to))) ⌝ }
+    ensures { λ r. ⌜ Left n (now (table .entry)) (now (table .exit)) (committed byteRow (rowsOf n (now (table .entry))) (entries (to - from) (drop (32 * from) (now (log .entry)))) (outcomes (to - from) (drop (9 * from) (now (results .entry))))) ⌝ }
+{
+    let mut k = from;
+    while k < to {
+        let e = entries::entry_at(log, 32 * k);
+        let o = fees::result_at(results, 9 * k);
+        reply(table, n, e, o);
+        k += 1;
+    }
+}
+
+// The row of an entry of a new log, `left` entries from it on being committed, by the old rows.
+fn kept(old: &[u8], n: usize, left: usize, e: Entry) -> Row
+    requires { ⌜ 25 * n ≤ length (now old) ⌝ }
+    ensures { λ r. ⌜ r ≡ keptRow byteRow (rowsOf n (now (old .entry))) left e ⌝ }
+{
+    if left == 0 {
+        return cell::fresh(e);
+    }
+    let was = find(old, n, e.client);
+    if !was.there {
+        return cell::fresh(e);
+    }
+    if was.row.request != e.request {
+        return cell::fresh(e);
+    }
+    Row {
+        client: e.client,
+        request: e.request,
+        mark: was.row.mark,
+        total: was.row.total,
+    }
+}
+
+// What a commit number leaves after k entries.
+fn left_of(commit: usize, k: usize) -> usize
+    ensures { λ r. ⌜ r ≡ commit - k ⌝ }
+{
+    if commit < k {
+        return 0;
+    }
+    commit - k
+}
+
+// The first `op` entries of the log become their clients' rows, in order, by the old rows.
+fn refill(table: &mut [u8], n: usize, old: &[u8], log: &[u8], op: usize, commit: usize)
+    requires { ⌜ (25 * n ≤ length (now table)) × ((25 * n ≤ length (now old)) × (32 * op ≤ length (now log))) ⌝ }
+    ensures { λ r. ⌜ Left n (now (table .entry)) (now (table .exit)) (rebuilt byteRow (rowsOf n (now (old .entry))) commit (rowsOf n (now (table .entry))) (entries op (now (log .entry)))) ⌝ }
+{
+    let mut k = 0;
+    while k < op {
+        let e = entries::entry_at(log, 32 * k);
+        put(table, n, kept(old, n, left_of(commit, k), e));
+        k += 1;
+    }
+}
+
+// All n rows become unused.
+pub fn clear(table: &mut [u8], n: usize)
+    requires { ⌜ 25 * n ≤ length (now table) ⌝ }
+    ensures { λ r. ⌜ Left n (now (table .entry)) (now (table .exit)) (replicate n noRow) ⌝ }
+{
+    numbers::fill(table, 25 * n, 0);
+}
+
+// The table of a new log of `op` entries, `commit` of them committed; `old` gets the rows that were there.
+pub fn rebuild(table: &mut [u8], n: usize, old: &mut [u8], log: &[u8], op: usize, commit: usize)
+    requires { ⌜ (25 * n ≤ length (now table)) × ((25 * n ≤ length (now old)) × (32 * op ≤ length (now log))) ⌝ }
+    ensures { λ r. ⌜ (Left n (now (table .entry)) (now (table .exit)) (rebuilt byteRow (rowsOf n (now (table .entry))) commit (replicate n noRow) (entries op (now (log .entry))))) × (now (old .exit) ≡ over (take (25 * n) (now (table .entry))) (now (old .entry))) ⌝ }
+{
+    numbers::copy(old, table, 25 * n);
+    clear(table, n);
+    refill(table, n, old, log, op, commit);
+}
+
+// The rows brought up to a log that was installed anew, or appended to.
+fn renew(table: &mut [u8], n: usize, old: &mut [u8], log: &[u8], change: Change)
+    requires { ⌜ (25 * n ≤ length (now table)) × ((25 * n ≤ length (now old)) × (32 * change .to .0 ≤ length (now log))) ⌝ }
+    ensures { λ r. ⌜ Left n (now (table .entry)) (now (table .exit)) (renewed byteRow change (rowsOf n (now (table .entry))) (entries (change .to .0) (now (log .entry)))) × (now (old .exit) ≡ oldAfter n change (now (table .entry)) (now (old .entry))) ⌝ }
+{
+    let to = change.to.0 as usize;
+    if change.installed {
+        rebuild(table, n, old, log, to, change.commit.0 as usize);
+        return;
+    }
+    if change.to.0 <= change.op.0 {
+        return;
+    }
+    follow_append(table, n, log, change.op.0 as usize, to);
+}
+
+// The table brought up to what a call did to the log; `old` gets the rows that a rebuild replaces.
+pub fn follow(
+    table: &mut [u8],
+    n: usize,
+    old: &mut [u8],
+    log: &[u8],
+    results: &[u8],
+    change: Change,
+)
+    requires { ⌜ (25 * n ≤ length (now table)) × ((25 * n ≤ length (now old)) × ((32 * change .to .0 ≤ length (now log)) × ((9 * change .done .0 ≤ length (now results)) × (change .done .0 ≤ change .to .0)))) ⌝ }
+    ensures { λ r. ⌜ Left n (now (table .entry)) (now (table .exit)) (followed byteRow change (rowsOf n (now (table .entry))) (entries (change .to .0) (now (log .entry))) (outcomes (change .done .0) (now (results .entry)))) × (now (old .exit) ≡ oldAfter n change (now (table .entry)) (now (old .entry))) ⌝ }
+{
+    renew(table, n, old, log, change);
+    if change.done.0 <= change.commit.0 {
+        return;
+    }
+    follow_commit(
+        table,
+        n,
+        log,
+        results,
+        change.commit.0 as usize,
+        change.done.0 as usize,
+    );
+}
