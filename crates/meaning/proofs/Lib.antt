@@ -4,3 +4,4 @@ pub mod TableLaws
 pub mod RowLaws
 pub mod TableLift
 pub mod LayoutLaws
+pub mod StepLift

@@ -31,7 +31,7 @@ use Rattle.meaning.specs.Layout.{meant, tableOf, Ordered}
 use Rattle.meaning.proofs.TableLaws.{above-more, put-rises, absent, below, below-le, below-low, below-high, Floor, below-floor}
 use Rattle.meaning.proofs.TableLaws.{drop-rises, find-past, put-there, put-new, there-inside}
 
-none-and : (a b : Bool) → a ≡ false → (a and b) ≡ false
+pub none-and : (a b : Bool) → a ≡ false → (a and b) ≡ false
 unfolding _and_
 none-and a b p = rw p
 

@@ -6,3 +6,4 @@ pub mod Normal
 pub mod Recovery
 pub mod Steps
 pub mod Layout
+pub mod Shown
