@@ -32,6 +32,21 @@ def at_root(crate=None):
         stop(f"there is no crate crates/{crate}")
 
 
+def content(path):
+    """What a file holds; nothing where there is none."""
+    if not os.path.exists(path):
+        return None
+    with open(path) as file:
+        return file.read()
+
+
+def write(path, text):
+    """Write a file, with its folder."""
+    os.makedirs(os.path.dirname(path), exist_ok=True)
+    with open(path, "w") as file:
+        file.write(text)
+
+
 def proof_file(crate, fn):
     """The proof file of a function; a method is written Type/name."""
     return f"crates/{crate}/proofs/{fn}/Proof.antt"

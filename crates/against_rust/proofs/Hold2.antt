@@ -1,4 +1,4 @@
--- The model answers as recorded: antt computes it. By tools/model-replay. Assumes nothing.
+-- The definitions answer as recorded: antt computes it. By tools/model-replay. Assumes nothing.
 use mathlib.Core.Path.{refl}
 use Rattle.against_rust.specs.Shape.{Holds, open-shape}
 use Rattle.against_rust.specs.Runs2.{run100, run101, run102, run103, run104, run105, run106, run107, run108, run109, run110, run111, run112}

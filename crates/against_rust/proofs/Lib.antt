@@ -1,3 +1,4 @@
 pub mod Hold0
 pub mod Hold1
 pub mod Hold2
+pub mod ClientsHold0

@@ -269,3 +269,11 @@ pub fn refused(n: usize, id: usize, room: usize, addressee: usize, message: &Fee
     }
     0
 }
+
+/// Lower-case hex, `-` when empty.
+pub fn hex(bytes: &[u8]) -> String {
+    if bytes.is_empty() {
+        return String::from("-");
+    }
+    bytes.iter().map(|byte| format!("{byte:02x}")).collect()
+}

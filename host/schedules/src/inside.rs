@@ -1,8 +1,9 @@
 //! What the Rust's replica holds beyond its public getters, read from its derived `Debug` text, which is public too:
-//! the clock, the votes, the stored messages and the client table. Top fields stand behind four spaces there.
+//! the clock, the votes, the stored messages and the client table; and what its client holds. Top fields stand behind four
+//! spaces there.
 
-use crate::fees::{Ledger, Outcome};
-use vsr_rs::Replica;
+use crate::fees::{Entry, Ledger, Outcome};
+use vsr_rs::{Client, Replica};
 
 /// A row of the client table.
 #[derive(Default)]
@@ -50,11 +51,27 @@ pub fn inside(replica: &Replica<Ledger>) -> Inside {
     }
 }
 
+/// What a client holds beyond its getters: the next request number, and the pending one.
+pub struct ClientInside {
+    pub next: u64,
+    pub pending: Option<u64>,
+}
+
+/// Reads both.
+pub fn client_inside(client: &Client<Entry>) -> ClientInside {
+    let text = format!("{client:#?}");
+    let pending = field(&text, "pending");
+    ClientInside {
+        next: leading_number(&field(&text, "next_request_number")[0]),
+        pending: at_depth(&pending, 12).first().copied(),
+    }
+}
+
 /// The value of a top field: what stands behind its name, without the comma, then the deeper lines below it.
 fn field(text: &str, name: &str) -> Vec<String> {
     let head = format!("    {name}: ");
     let mut lines = text.lines().skip_while(|line| !line.starts_with(&head));
-    let first = lines.next().expect("a field of the Rust's Replica");
+    let first = lines.next().expect("a field of the Rust's Debug text");
     let value = first[head.len()..].trim_end_matches(',').to_string();
     let deeper = lines.take_while(|line| depth(line) > 4).map(String::from);
     std::iter::once(value).chain(deeper).collect()

@@ -4,13 +4,16 @@
 //!
 //! ```text
 //! schedules SEED ROUNDS [MOST]
+//! schedules client SEED CALLS
 //! ```
 //!
 //! Each round plays one cluster of 3, 4, 5 and 7 replicas, and adversaries on single replicas of them. With MOST only that
 //! many of their calls are kept, chosen so that as many different things as possible happen. The runs by hand come last.
+//! `client` plays the Rust's client instead, a run of CALLS calls for each number of replicas.
 
 mod adversary;
 mod choose;
+mod client;
 mod cluster;
 mod directed;
 mod fees;
@@ -63,23 +66,33 @@ fn counts(runs: &[Run]) -> String {
     text
 }
 
-/// The words of the command line: seed, rounds, and how many calls at most.
-fn words() -> Option<(u64, usize, usize)> {
+/// What the command line asks for: replicas, by seed, rounds and how many calls at most; or a client, by seed and calls.
+enum Asked {
+    Replicas(u64, usize, usize),
+    Client(u64, usize),
+}
+
+fn asked() -> Option<Asked> {
     let words: Vec<String> = std::env::args().skip(1).collect();
+    let words: Vec<&str> = words.iter().map(String::as_str).collect();
     match words.as_slice() {
-        [seed, rounds] => Some((seed.parse().ok()?, rounds.parse().ok()?, usize::MAX)),
-        [seed, rounds, most] => {
-            Some((seed.parse().ok()?, rounds.parse().ok()?, most.parse().ok()?))
-        }
+        ["client", seed, calls] => Some(Asked::Client(seed.parse().ok()?, calls.parse().ok()?)),
+        [seed, rounds] => Some(Asked::Replicas(
+            seed.parse().ok()?,
+            rounds.parse().ok()?,
+            usize::MAX,
+        )),
+        [seed, rounds, most] => Some(Asked::Replicas(
+            seed.parse().ok()?,
+            rounds.parse().ok()?,
+            most.parse().ok()?,
+        )),
         _ => None,
     }
 }
 
-fn main() -> ExitCode {
-    let Some((seed, rounds, most)) = words() else {
-        eprintln!("usage: schedules SEED ROUNDS [MOST]");
-        return ExitCode::from(2);
-    };
+/// The trace of replicas.
+fn replicas(seed: u64, rounds: usize, most: usize) {
     let mut runs = played(&mut Random::new(seed), rounds);
     if most < usize::MAX {
         runs = choose::chosen(runs, &SIZES, most);
@@ -91,6 +104,17 @@ fn main() -> ExitCode {
         print!("{}", run.creation);
         for call in &run.calls {
             print!("{}", call.lines);
+        }
+    }
+}
+
+fn main() -> ExitCode {
+    match asked() {
+        Some(Asked::Replicas(seed, rounds, most)) => replicas(seed, rounds, most),
+        Some(Asked::Client(seed, calls)) => print!("{}", client::trace(seed, calls)),
+        None => {
+            eprintln!("usage: schedules SEED ROUNDS [MOST] | schedules client SEED CALLS");
+            return ExitCode::from(2);
         }
     }
     ExitCode::SUCCESS

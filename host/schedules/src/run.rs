@@ -8,7 +8,7 @@
 //! that there is a refusal is seen in the Rust. 1, 2, 9 and 10 don't occur: areas are as long as what the Rust sent.
 
 use crate::fees::{Entry, Ledger, Outcome};
-use crate::frames::{entry_bytes, frame, kind, refused, reply_frame, rising, Fees};
+use crate::frames::{entry_bytes, frame, hex, kind, refused, reply_frame, rising, Fees};
 use crate::inside::{inside, Inside, Row};
 use std::fmt::Write;
 use std::panic::{self, AssertUnwindSafe};
@@ -345,12 +345,4 @@ fn fnv(bytes: &[u8]) -> u64 {
     bytes.iter().fold(0xcbf2_9ce4_8422_2325, |hash, byte| {
         (hash ^ u64::from(*byte)).wrapping_mul(0x0100_0000_01b3)
     })
-}
-
-/// Lower-case hex, `-` when empty.
-fn hex(bytes: &[u8]) -> String {
-    if bytes.is_empty() {
-        return String::from("-");
-    }
-    bytes.iter().map(|byte| format!("{byte:02x}")).collect()
 }

@@ -1,0 +1,5 @@
+pub mod Hold0
+pub mod Hold1
+pub mod Hold2
+pub mod Hold3
+pub mod ClientsHold0

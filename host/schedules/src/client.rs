@@ -1,0 +1,193 @@
+//! The unchanged Rust's `Client`, given requests, replies and idle calls, and what it answered to each.
+//!
+//! The Rust knows no refusals, and none of these calls is one: every operation keeps the entry rules, and areas are just as long
+//! as what the Rust sent.
+
+use crate::fees::{Entry, ASK, FEE, MOST_CENTS, REFUND};
+use crate::frames::{frame, hex, Fees};
+use crate::inside::{client_inside, ClientInside};
+use crate::random::Random;
+use std::collections::BTreeMap;
+use vsr_rs::{Client, Config, Message};
+
+/// How many replicas there are; each has a run of its own.
+const SIZES: [usize; 5] = [3, 4, 5, 6, 7];
+
+/// A client with the lines of its calls, and how often each kind of call was made.
+struct Run {
+    client: Client<Entry>,
+    lines: String,
+    kinds: BTreeMap<&'static str, usize>,
+}
+
+impl Run {
+    /// A new client of `n` replicas.
+    fn new(n: usize, id: u64) -> Run {
+        let mut config = Config::new();
+        for _ in 0..n {
+            config.add_replica();
+        }
+        let mut run = Run {
+            client: Client::new(id as usize, config),
+            lines: String::new(),
+            kinds: BTreeMap::new(),
+        };
+        run.record(format!("C {n} {id} 0 0"), 0, "");
+        run
+    }
+
+    /// What has no getter.
+    fn inside(&self) -> ClientInside {
+        client_inside(&self.client)
+    }
+
+    /// The frames to send. Client and number are those of the Rust's message; the operation given has neither.
+    fn sent(&mut self) -> Vec<u8> {
+        let messages: Vec<(usize, Fees)> = self.client.drain().collect();
+        let mut bytes = Vec::new();
+        for (to, message) in messages {
+            let Message::Request {
+                client_id,
+                request_number,
+                op,
+            } = message
+            else {
+                panic!("a client sends requests only");
+            };
+            let op = Entry {
+                client: client_id as u64,
+                request: request_number as u64,
+                ..op
+            };
+            let whole = Message::Request {
+                client_id,
+                request_number,
+                op,
+            };
+            bytes.extend(frame(to, &whole));
+        }
+        bytes
+    }
+
+    /// Writes down a call, its answer and the state after it.
+    fn record(&mut self, call: String, code: usize, bytes: &str) {
+        let i = self.inside();
+        let view = self.client.view_number();
+        let pending = i.pending.map_or(String::from("-"), |p| p.to_string());
+        let bytes = if bytes.is_empty() { "-" } else { bytes };
+        self.lines += &format!(
+            "{call}\n= {code} {bytes} -\n; {view} {} {pending}\n",
+            i.next
+        );
+    }
+
+    fn count(&mut self, kind: &'static str) {
+        *self.kinds.entry(kind).or_default() += 1;
+    }
+
+    fn request(&mut self, operation: u8, member: u32, cents: u64) {
+        self.count(match self.inside().pending {
+            Some(_) => "requests in place of another",
+            None => "requests",
+        });
+        let op = Entry {
+            client: 0,
+            request: 0,
+            operation,
+            member,
+            cents,
+        };
+        self.client.on_request(op);
+        let bytes = self.sent();
+        let call = format!("Q {operation} {member} {cents} {}", bytes.len());
+        self.record(call, 0, &hex(&bytes));
+    }
+
+    fn reply(&mut self, number: u64, view: usize) {
+        self.count(match self.inside().pending {
+            Some(pending) if pending == number => "replies that answer",
+            Some(pending) if number < pending => "replies of an older number",
+            Some(_) => "replies of another number",
+            None => "replies to nothing",
+        });
+        self.count(match view.cmp(&self.client.view_number()) {
+            std::cmp::Ordering::Less => "replies of a lower view",
+            std::cmp::Ordering::Equal => "replies of the same view",
+            std::cmp::Ordering::Greater => "replies of a higher view",
+        });
+        let answers = self.client.on_reply(number as usize, view);
+        self.record(format!("P {number} {view}"), answers.into(), "");
+    }
+
+    fn idle(&mut self) {
+        self.count(match self.inside().pending {
+            Some(_) => "idle with a request",
+            None => "idle without one",
+        });
+        self.client.on_idle();
+        let bytes = self.sent();
+        self.record(format!("I {}", bytes.len()), 0, &hex(&bytes));
+    }
+
+    /// Any call.
+    fn step(&mut self, random: &mut Random) {
+        match random.below(10) {
+            0..=3 => {
+                let operation = random.pick(&[FEE, REFUND, ASK]);
+                let member = random.pick(&[0, 1, 4095, 4096, u32::MAX]);
+                let cents = match operation {
+                    ASK => 0,
+                    _ => random.pick(&[1, 4_500, MOST_CENTS]),
+                };
+                self.request(operation, member, cents);
+            }
+            4..=7 => {
+                let i = self.inside();
+                let pending = i.pending.unwrap_or(i.next);
+                let number = match random.below(4) {
+                    0 | 1 => pending,
+                    2 => pending.saturating_sub(1),
+                    _ => random.pick(&[i.next, i.next + 1, 0, u64::MAX]),
+                };
+                let view = self.client.view_number();
+                let lower = view.saturating_sub(1);
+                self.reply(
+                    number,
+                    random.pick(&[view, view + 1, view + 3, lower, lower, 0]),
+                );
+            }
+            _ => self.idle(),
+        }
+    }
+}
+
+/// Plays a client of each size, with so many calls each, and at its end the last view and the greatest number; all as a trace.
+pub fn trace(seed: u64, calls: usize) -> String {
+    let mut random = Random::new(seed);
+    let mut lines = String::new();
+    let mut kinds = BTreeMap::new();
+    let mut count = 0;
+    for n in SIZES {
+        let mut run = Run::new(n, random.pick(&[0, 7, 1 << 40, u64::MAX]));
+        for _ in 0..calls {
+            run.step(&mut random);
+        }
+        run.request(FEE, 3, 4_500);
+        run.reply(u64::MAX, u32::MAX as usize);
+        run.request(ASK, 3, 0);
+        run.idle();
+        count += calls + 4;
+        lines += &run.lines;
+        for (kind, times) in run.kinds {
+            *kinds.entry(kind).or_insert(0) += times;
+        }
+    }
+    let mut text = format!(
+        "# Answers of the unchanged vsr-rs's client, written by host/schedules: seed {seed}.\n"
+    );
+    text += &format!("# {} runs, {count} calls\n", SIZES.len());
+    for (kind, times) in kinds {
+        text += &format!("# {kind}: {times}\n");
+    }
+    text + &lines
+}
