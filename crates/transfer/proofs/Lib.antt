@@ -1,0 +1,2 @@
+pub mod GetStateLaws
+pub mod NewStateLaws

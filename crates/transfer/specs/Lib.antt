@@ -1,0 +1,3 @@
+pub mod GetState
+pub mod NewState
+pub mod Tick
