@@ -4,4 +4,8 @@ pub mod TableLaws
 pub mod RowLaws
 pub mod TableLift
 pub mod LayoutLaws
+pub mod BookLift
+pub mod LogLift
+pub mod LatestLaws
 pub mod StepLift
+pub mod AckLift

@@ -6,3 +6,4 @@ pub mod Messages
 pub mod Runs
 pub mod Changes
 pub mod Ranges
+pub mod Latest

@@ -33,7 +33,7 @@ unfolding bare
 bare-length [] = refl
 bare-length (r ∷ rs) = ap suc (bare-length rs)
 
-bare-there : (t : List Row) (c : ℕ) → find t c .there ≡ find (bare t) c .there
+pub bare-there : (t : List Row) (c : ℕ) → find t c .there ≡ find (bare t) c .there
 unfolding bare find
 bare-there [] c = refl
 bare-there (r ∷ rs) c = split₂ (λ (a b : Seen). a .there ≡ b .there) _ _ _ _ _ _ refl (λ _. refl) (λ _. bare-there rs c)

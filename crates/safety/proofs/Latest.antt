@@ -1,0 +1,76 @@
+-- The client table of a safe state has each client's latest request of the log; so it alone says whether one entry more lets the log rise.
+-- Assumes nothing.
+use Prim.Native.Nat.{ℕ, suc, _<_}
+use native.Mathlib.Omega.{arith}
+use mathlib.Core.Path.{_≡_, refl, ap, sym, _∙_}
+use mathlib.Core.Bool.{true, not}
+use mathlib.Core.List.{List, [], _∷_, _++_, append-nil}
+use mathlib.Core.Option.{none}
+use lib.Dec.{leb}
+use lib.ListN.{length, getD}
+use lib.Seq.{append-snoc}
+use Rattle.numbers.specs.Words.{_and_}
+use Rattle.numbers.proofs.WordLaws.{split₂, and-true}
+use Rattle.entries.specs.Rising.{follows, rising}
+use Rattle.entries.specs.declared.Entry.{Entry}
+use Rattle.config.specs.declared.Setup.{Setup}
+use Rattle.meaning.specs.State.{Row, State}
+use Rattle.meaning.specs.Book.{Seen, find, put, rowOf}
+use Rattle.meaning.proofs.LogLift.{rising-front}
+use Rattle.meaning.proofs.LatestLaws.{Latest, latest-none, latest-same, latest-more, unbroken, latest-lift}
+use Rattle.safety.specs.Demand.{bare, rowsOf, Safe}
+use Rattle.safety.proofs.Tables.{bare-there}
+
+-- ---- what entries leave
+
+bare-request : (t : List Row) (c : ℕ) → find t c .request ≡ find (bare t) c .request
+unfolding bare find
+bare-request [] c = refl
+bare-request (r ∷ rs) c = split₂ (λ (a b : Seen). a .request ≡ b .request) _ _ _ _ _ _ refl (λ _. refl) (λ _. bare-request rs c)
+
+rows-latest : (t : List Row) (es fs : List Entry) → Latest t es → rising (es ++ fs) ≡ true → Latest (rowsOf t fs) (es ++ fs)
+unfolding rowsOf
+rows-latest t es [] l h = rw (append-nil es) l
+rows-latest t es (f ∷ fs) l h =
+    let p : es ++ (f ∷ []) ++ fs ≡ es ++ f ∷ fs = append-snoc es f fs in
+    let g : rising (es ++ (f ∷ []) ++ fs) ≡ true = ap rising p ∙ h in
+    rw (← p) (rows-latest (put t (rowOf f none)) (es ++ (f ∷ [])) fs (latest-more f t none es l (rising-front (es ++ (f ∷ [])) fs g)) g)
+
+table-latest : (t : List Row) (es : List Entry) → bare t ≡ rowsOf [] es → rising es ≡ true → Latest t es
+table-latest t es p h =
+    latest-same (bare t) t es (λ c. sym (bare-there t c)) (λ c. sym (bare-request t c)) (rw p (rows-latest [] [] es latest-none h))
+
+-- ---- each client's requests once, in rising order: the log rises
+
+follows-all : (a : Entry) (l : List Entry) (d : Entry)
+    → ((j : ℕ) → j < length l → a .client ≡ getD l j d .client → a .request < getD l j d .request) → follows a l ≡ true
+unfolding follows
+follows-all a [] d f = refl
+follows-all a (x ∷ l) d f = and-true _ _ (ap not (unbroken x a (f 0 (omega arith)))) (follows-all a l d (λ j h. f (suc j) (omega arith)))
+
+rising-all : (l : List Entry) (d : Entry)
+    → ((i j : ℕ) → i < j → j < length l → getD l i d .client ≡ getD l j d .client → getD l i d .request < getD l j d .request)
+    → rising l ≡ true
+unfolding rising
+rising-all [] d f = refl
+rising-all (x ∷ l) d f =
+    and-true _ _ (follows-all x l d (λ j h. f 0 (suc j) (omega arith) (omega arith)))
+    (rising-all l d (λ i j h k. f (suc i) (suc j) (omega arith) (omega arith)))
+
+-- ---- safe states
+
+module _ (u : Setup) (m : State) (s : Safe u m) where
+  pub safe-rising : rising (m .book .log) ≡ true
+  safe-rising = rising-all (m .book .log) none-such (s .once none-such)
+    where
+      none-such : Entry
+      none-such = record { client = 0; request = 0; operation = 0; member = 0; cents = 0 }
+
+  pub safe-latest : Latest (m .book .table) (m .book .log)
+  safe-latest = table-latest (m .book .table) (m .book .log) (s .table-is) safe-rising
+
+  -- refusal 6 of a Request and of a Prepare, by the table alone
+  pub safe-rises : (e : Entry)
+      → rising (m .book .log ++ (e ∷ []))
+      ≡ not (find (m .book .table) (e .client) .there and leb (e .request) (find (m .book .table) (e .client) .request))
+  safe-rises e = latest-lift e (m .book .table) (m .book .log) safe-latest safe-rising
