@@ -1,0 +1,196 @@
+-- The ways out of on_request and of the steps that weigh it, on plain variables, as the code's tests and calls give them. Assumes nothing.
+use mathlib.Core.Path.{_≡_, ap, _∙_, subst}
+use mathlib.Core.Bool.{true, false, not}
+use mathlib.Core.List.{List}
+use Prim.Native.Nat.{ℕ, _+_, _*_, _≤_, _<_}
+use native.Mathlib.Omega.{arith}
+use lib.Dec.{ltb, leb}
+use lib.ListN.{length, take, set}
+use borrow.Author.Tests.{lt-ltb, le-ltb, le-leb, lt-leb, ltb-false, leb-false}
+use Rattle.numbers.specs.Words.{if_then_else_}
+use Rattle.numbers.specs.Numbers.{Wrote}
+use Rattle.numbers.proofs.WordLaws.{split}
+use Rattle.entries.specs.Entries.{encodeEntry}
+use Rattle.entries.specs.declared.Entry.{Entry}
+use Rattle.config.specs.Replicas.{withMember}
+use Rattle.config.proofs.SetupLaws.{sized}
+use Rattle.fees.specs.declared.Outcome.{Outcome}
+use Rattle.writers.specs.Writers.{sizeOf, reply, toOthers}
+use Rattle.rows.specs.declared.Latest.{Latest}
+use Rattle.book.specs.Log.{placeOf, withEntries}
+use Rattle.book.specs.Runs.{replyTo}
+use Rattle.book.proofs.LogLaws.{place-is, entry-room}
+use Rattle.book.proofs.RunLaws.{reply-length}
+use Rattle.state.specs.State.{isNormal, leads, withLog}
+use Rattle.state.specs.Answers.{refusal, completed, quiet}
+use Rattle.state.specs.declared.Answer.{Answer}
+use Rattle.state.specs.declared.Replica.{Replica}
+use Rattle.normal.specs.declared.request.Call.{Call}
+use Rattle.normal.specs.declared.request.Call.the-variants.{Nothing, Resend, Refuse, Append}
+use Rattle.normal.specs.Request.{Ready, Took, Answered, served, took, answered, sendsOf, knownVerdict, newVerdict, clientVerdict, verdictOf, nextOp, prepareOf, accepted, resent, byCall, requestStep}
+use Rattle.normal.proofs.SendLaws.{prepare-long}
+
+-- weigh_known
+module _ (e : Entry) (latest : Latest) (room : ℕ) where
+  pub older : e .request < latest .request → Nothing ≡ knownVerdict e latest room
+  unfolding knownVerdict if_then_else_
+  older h = rw (lt-ltb (e .request) (latest .request) h)
+
+  module _ (g : latest .request ≤ e .request) where
+    pub unreplied : not (latest .replied) ≡ true → Nothing ≡ knownVerdict e latest room
+    unfolding knownVerdict if_then_else_
+    unreplied r = rw (le-ltb (e .request) (latest .request) g, r)
+
+    pub known-short : not (latest .replied) ≡ false → room < 36 → Refuse 10 ≡ knownVerdict e latest room
+    unfolding knownVerdict if_then_else_
+    known-short r h = rw (le-ltb (e .request) (latest .request) g, r, lt-ltb room 36 h)
+
+    pub known : not (latest .replied) ≡ false → 36 ≤ room → Resend ≡ knownVerdict e latest room
+    unfolding knownVerdict if_then_else_
+    known r h = rw (le-ltb (e .request) (latest .request) g, r, le-ltb room 36 h)
+
+-- weigh_new
+module _ (s : Replica) (out : ℕ) where
+  pub full : s .setup .room ≤ s .op .0 → Refuse 4 ≡ newVerdict s out
+  unfolding newVerdict if_then_else_
+  full h = rw (le-leb (s .setup .room) (s .op .0) h)
+
+  module _ (k : ℕ) (g : s .op .0 < s .setup .room) (e : k ≡ sendsOf s) where
+    pub new-short : out < k → Refuse 9 ≡ newVerdict s out
+    unfolding newVerdict if_then_else_
+    new-short h = rw (lt-leb (s .setup .room) (s .op .0) g, lt-ltb out (sendsOf s) (omega arith))
+
+    pub new : k ≤ out → Append ≡ newVerdict s out
+    unfolding newVerdict if_then_else_
+    new h = rw (lt-leb (s .setup .room) (s .op .0) g, le-ltb out (sendsOf s) (omega arith))
+
+-- weigh_client, weigh
+module _ (s : Replica) (e : Entry) (latest : Latest) (out reps : ℕ) where
+  pub first : (k : Call) → not (latest .there) ≡ true → k ≡ newVerdict s out → k ≡ clientVerdict s e latest out reps
+  unfolding clientVerdict if_then_else_
+  first k t p = rw t p
+
+  pub later : (k : Call) → not (latest .there) ≡ false → latest .request < e .request → k ≡ newVerdict s out
+      → k ≡ clientVerdict s e latest out reps
+  unfolding clientVerdict if_then_else_
+  later k t h p = rw (t, lt-ltb (latest .request) (e .request) h) p
+
+  pub again : (k : Call) → not (latest .there) ≡ false → e .request ≤ latest .request → k ≡ knownVerdict e latest reps
+      → k ≡ clientVerdict s e latest out reps
+  unfolding clientVerdict if_then_else_
+  again k t h p = rw (t, le-ltb (latest .request) (e .request) h) p
+
+  pub follower : not (leads s) ≡ true → Nothing ≡ verdictOf s e latest out reps
+  unfolding verdictOf if_then_else_
+  follower l = rw l
+
+  pub absent : not (leads s) ≡ false → not (isNormal (s .status)) ≡ true → Nothing ≡ verdictOf s e latest out reps
+  unfolding verdictOf if_then_else_
+  absent l n = rw (l, n)
+
+  pub primary : (k : Call) → not (leads s) ≡ false → not (isNormal (s .status)) ≡ false → k ≡ clientVerdict s e latest out reps
+      → k ≡ verdictOf s e latest out reps
+  unfolding verdictOf if_then_else_
+  primary k l n p = rw (l, n) p
+
+-- what a verdict says of the log's room and of the areas
+module _ (s : Replica) (out reps : ℕ) where
+  abbrev Fits : Call → Type 0
+  Fits Nothing = Unit {0}
+  Fits Resend = 36 ≤ reps
+  Fits (Refuse k) = Unit {0}
+  Fits Append = (s .op .0 < s .setup .room) × (sendsOf s ≤ out)
+
+  known-fits : (e : Entry) (latest : Latest) → Fits (knownVerdict e latest reps)
+  unfolding knownVerdict
+  known-fits e latest =
+      let b : Call = if ltb reps 36 then Refuse 10 else Resend in
+      let a : Call = if not (latest .replied) then Nothing else b in
+      split Fits (ltb (e .request) (latest .request)) Nothing a (λ h. tt)
+      (λ h. split Fits (not (latest .replied)) Nothing b (λ r. tt)
+      (λ r. split Fits (ltb reps 36) (Refuse 10) Resend (λ l. tt) (λ l. ltb-false reps 36 l)))
+
+  new-fits : Fits (newVerdict s out)
+  unfolding newVerdict
+  new-fits =
+      let a : Call = if ltb out (sendsOf s) then Refuse 9 else Append in
+      split Fits (leb (s .setup .room) (s .op .0)) (Refuse 4) a (λ h. tt)
+      (λ h. split Fits (ltb out (sendsOf s)) (Refuse 9) Append (λ l. tt)
+      (λ l. (leb-false (s .setup .room) (s .op .0) h, ltb-false out (sendsOf s) l)))
+
+  client-fits : (e : Entry) (latest : Latest) → Fits (clientVerdict s e latest out reps)
+  unfolding clientVerdict
+  client-fits e latest =
+      let a : Call = if ltb (latest .request) (e .request) then newVerdict s out else knownVerdict e latest reps in
+      split Fits (not (latest .there)) (newVerdict s out) a (λ t. new-fits)
+      (λ t. split Fits (ltb (latest .request) (e .request)) (newVerdict s out) (knownVerdict e latest reps)
+      (λ h. new-fits) (λ h. known-fits e latest))
+
+  fits : (e : Entry) (latest : Latest) → Fits (verdictOf s e latest out reps)
+  unfolding verdictOf
+  fits e latest =
+      let b : Call = clientVerdict s e latest out reps in
+      let a : Call = if not (isNormal (s .status)) then Nothing else b in
+      split Fits (not (leads s)) Nothing a (λ l. tt)
+      (λ l. split Fits (not (isNormal (s .status))) Nothing b (λ n. tt) (λ n. client-fits e latest))
+
+  pub resend-fits : (e : Entry) (latest : Latest) → verdictOf s e latest out reps ≡ Resend → 36 ≤ reps
+  resend-fits e latest p = subst Fits p (fits e latest)
+
+  pub append-fits : (e : Entry) (latest : Latest) → verdictOf s e latest out reps ≡ Append → (s .op .0 < s .setup .room) × (sendsOf s ≤ out)
+  append-fits e latest p = subst Fits p (fits e latest)
+
+-- resend
+pub resends : (s : Replica) (e : Entry) (o : Outcome) (reps r : List ℕ) (a : Answer) (w : ℕ)
+    → Wrote (reply (s .view) (e .client) (e .request) (o .code) (o .total)) reps r w → a ≡ completed s 0 w false
+    → answered a r ≡ resent s e o reps
+unfolding resent replyTo
+resends s e o reps r a w q p =
+    let k : w ≡ 36 = q .count ∙ reply-length (s .view) e o in
+    rw (p, q .bytes, k)
+
+-- accept
+module _ (s : Replica) (log acks : List ℕ) (h : Ready s (length log) (length acks)) where
+  -- what book::append asks
+  pub append-asks : s .op .0 < s .setup .room → (s .op .0 < 4096) × (placeOf (s .op .0 + 1) ≤ length log)
+  append-asks l =
+      let z = sized (s .setup) (h .sized) in
+      entry-room {i = s .op .0} (s .setup .room) (z .room-high) (omega (arith, place-is (s .setup .room), h .log-long)) l
+
+  -- what config::insert asks
+  pub own-bit : s .setup .id < 8
+  own-bit =
+      let z = sized (s .setup) (h .sized) in
+      omega (arith, z .own, z .seven)
+
+  pub accepts : (e : Entry) (out l o : List ℕ) (b w : ℕ) (t : Replica) (a : Answer) → l ≡ withEntries (s .op .0) (encodeEntry e) log
+      → b ≡ withMember 0 (s .setup .id)
+      → Wrote (toOthers (s .setup .n) (s .setup .id) (prepareOf s e) (take (32 * sizeOf (prepareOf s e) .entries) l)) out o w
+      → t ≡ withLog s (nextOp s) (s .commit) → a ≡ completed t w 0 false
+      → took a l (set acks (s .op .0) b) o ≡ accepted s e log acks out
+  unfolding accepted sizeOf
+  accepts e out l o b w t a p q x y c =
+      let k : w ≡ sendsOf s = x .count ∙ prepare-long (s .setup) (h .sized) (s .view) (nextOp s) (s .commit) e in
+      rw (c, p, q, y, k, x .bytes)
+
+-- on_request
+module _ (s : Replica) (e : Entry) (latest : Latest) (log acks out reps : List ℕ) where
+  pub nothing : (a : Answer) → verdictOf s e latest (length out) (length reps) ≡ Nothing → a ≡ quiet s
+      → served a log acks out reps ≡ requestStep s e latest log acks out reps
+  unfolding requestStep byCall
+  nothing a v p = rw (v, p)
+
+  pub answers : (a : Answer) (r : List ℕ) → verdictOf s e latest (length out) (length reps) ≡ Resend
+      → answered a r ≡ resent s e (latest .reply) reps → served a log acks out r ≡ requestStep s e latest log acks out reps
+  unfolding requestStep byCall
+  answers a r v p = rw v (ap (λ (d : Answered). served (d .answer) log acks out (d .reps)) p)
+
+  pub refuses : (a : Answer) (k : ℕ) → verdictOf s e latest (length out) (length reps) ≡ Refuse k → a ≡ refusal k s
+      → served a log acks out reps ≡ requestStep s e latest log acks out reps
+  unfolding requestStep byCall
+  refuses a k v p = rw (v, p)
+
+  pub takes : (a : Answer) (l k o : List ℕ) → verdictOf s e latest (length out) (length reps) ≡ Append
+      → took a l k o ≡ accepted s e log acks out → served a l k o reps ≡ requestStep s e latest log acks out reps
+  unfolding requestStep byCall
+  takes a l k o v p = rw v (ap (λ (d : Took). served (d .answer) (d .log) (d .acks) (d .out) reps) p)

@@ -1,0 +1,5 @@
+pub mod Request
+pub mod Prepare
+pub mod PrepareOk
+pub mod Commit
+pub mod Tick

@@ -1,0 +1,78 @@
+-- on_prepare_ok, on the state by value and the bytes of the lent runs: an ack fires only when the count reaches the quorum exactly. Refusal 5
+-- where the Rust panics: acks aren't cleared when a NewState is installed, so that a row may stand above the log. Assumes nothing.
+use mathlib.Core.Bool.{Bool, false, not}
+use mathlib.Core.List.{List}
+use Prim.Native.Nat.{ℕ, _-_, _*_}
+use lib.Count.{ones}
+use lib.Dec.{ltb, eqb}
+use lib.ListN.{length, getD, set, replicate}
+use Rattle.numbers.specs.Words.{if_then_else_, _and_}
+use Rattle.numbers.specs.Numbers.{over}
+use Rattle.numbers.specs.declared.View.{View}
+use Rattle.numbers.specs.declared.Op.{Op}
+use Rattle.config.specs.Replicas.{bit, withMember, quorumOf}
+use Rattle.book.specs.Runs.{Money, committed, replies}
+use Rattle.state.specs.State.{isNormal, leads}
+use Rattle.state.specs.Answers.{refusal, completed, quiet}
+use Rattle.state.specs.declared.Answer.{Answer}
+use Rattle.state.specs.declared.Replica.{Replica}
+use Rattle.steps.specs.Steps.{committedTo}
+use Rattle.normal.specs.declared.prepare_ok.Count.{Count}
+use Rattle.normal.specs.declared.prepare_ok.Count.the-variants.{Nothing, Note, Refuse, Commit}
+
+-- what a PrepareOk leaves: the answer, results and totals, acks, and the area for replies
+pub record Counted : Type 0 where
+  pub answer : Answer
+  pub money : Money
+  pub acks : List ℕ
+  pub reps : List ℕ
+
+abbrev pub counted : Answer → Money → (acks reps : List ℕ) → Counted
+counted a x acks reps = record { answer = a; money = x; acks = acks; reps = reps }
+
+-- a Normal primary, in its view, for an op that isn't committed
+unfoldable pub listens : Replica → View → Op → Bool
+listens s v op =
+    if not (eqb (v .0) (s .view .0)) then false else
+    if not (leads s) then false else
+    if not (isNormal (s .status)) then false else
+    ltb (s .commit .0) (op .0)
+
+-- what one more ack calls for, `held` being the row of the op, `room` the size of the area for replies
+unfoldable pub verdictOf : Replica → Op → (held from room : ℕ) → Count
+verdictOf s op held from room =
+    if eqb held 0 then Nothing else
+    if eqb (bit held from) 1 then Nothing else
+    if not (eqb (ones (withMember held from)) (quorumOf (s .setup .n))) then Note else
+    if ltb (s .op .0) (op .0) then Refuse 5 else
+    if ltb room (36 * (op .0 - s .commit .0)) then Refuse 10 else
+    Commit
+
+-- all up to op is committed, with a reply to each in the current view, and the rows of acks up to it go
+unfoldable pub committedBy : Replica → Op → (log : List ℕ) → Money → (acks reps : List ℕ) → Counted
+committedBy s op log x acks reps =
+    counted
+    (completed (committedTo s op) 0 (36 * (op .0 - s .commit .0)) false)
+    (committed (s .setup .members) log (s .commit .0) (op .0 - s .commit .0) x)
+    (over (replicate (op .0) 0) acks)
+    (over
+    (replies
+    (s .view)
+    log
+    (committed (s .setup .members) log (s .commit .0) (op .0 - s .commit .0) x .results)
+    (s .commit .0)
+    (op .0 - s .commit .0))
+    reps)
+
+unfoldable pub byCount : Count → Replica → Op → (from : ℕ) (log : List ℕ) → Money → (acks reps : List ℕ) → Counted
+byCount Nothing s op from log x acks reps = counted (quiet s) x acks reps
+byCount Note s op from log x acks reps =
+    counted (quiet s) x (set acks (op .0 - 1) (withMember (getD acks (op .0 - 1) 0) from)) reps
+byCount (Refuse k) s op from log x acks reps = counted (refusal k s) x acks reps
+byCount Commit s op from log x acks reps = committedBy s op log x acks reps
+
+-- on_prepare_ok
+unfoldable pub prepareOkStep : Replica → View → Op → (from : ℕ) (log : List ℕ) → Money → (acks reps : List ℕ) → Counted
+prepareOkStep s v op from log x acks reps =
+    if not (listens s v op) then counted (quiet s) x acks reps else
+    byCount (verdictOf s op (getD acks (op .0 - 1) 0) from (length reps)) s op from log x acks reps

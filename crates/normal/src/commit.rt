@@ -1,0 +1,47 @@
+// on_commit
+ghost use mathlib.Core.Path.{_≡_};
+ghost use Rattle.steps.specs.Steps.{Sound, runs, left};
+ghost use Rattle.normal.specs.Commit.{takenCommit, commitStep};
+use numbers::Op;
+use numbers::View;
+use state::Answer;
+use state::Replica;
+
+// A Commit past our log starts a state transfer.
+fn take_commit(
+    s: Replica,
+    c: Op,
+    log: &[u8],
+    results: &mut [u8],
+    totals: &mut [u8],
+    out: &mut [u8],
+) -> Answer
+    requires { ⌜ Sound s (runs (now log) (now results) (now totals)) ⌝ }
+    ensures { λ r. ⌜ left r (runs (now (log .entry)) (now (results .exit)) (now (totals .exit))) (now (out .exit)) ≡ takenCommit s c (runs (now (log .entry)) (now (results .entry)) (now (totals .entry))) (now (out .entry)) ⌝ }
+{
+    if s.op.0 < c.0 {
+        return steps::state_transfer(s, out);
+    }
+    let t = steps::commit_up_to(state::heard(s), c, log, results, totals);
+    state::done(t, 0, 0, false)
+}
+
+// on_commit
+pub fn on_commit(
+    s: Replica,
+    v: View,
+    c: Op,
+    log: &[u8],
+    results: &mut [u8],
+    totals: &mut [u8],
+    out: &mut [u8],
+) -> Answer
+    requires { ⌜ Sound s (runs (now log) (now results) (now totals)) ⌝ }
+    ensures { λ r. ⌜ left r (runs (now (log .entry)) (now (results .exit)) (now (totals .exit))) (now (out .exit)) ≡ commitStep s v c (runs (now (log .entry)) (now (results .entry)) (now (totals .entry))) (now (out .entry)) ⌝ }
+{
+    let a = steps::accept_from_primary(s, v);
+    if steps::takes(a) {
+        return take_commit(s, c, log, results, totals, out);
+    }
+    steps::defer(a, s, v, out)
+}

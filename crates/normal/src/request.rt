@@ -1,0 +1,139 @@
+// on_request
+ghost use mathlib.Core.Path.{_≡_};
+ghost use Prim.Native.Nat.{_+_, _*_, _≤_, _<_};
+ghost use lib.ListN.{length};
+ghost use Rattle.state.specs.Lengths.{logLength};
+ghost use Rattle.normal.specs.Request.{Ready, sendsOf, knownVerdict, newVerdict, clientVerdict, verdictOf, served, took, answered, resent, accepted, requestStep};
+use entries::Entry;
+use fees::Outcome;
+use frames::Message;
+use numbers::Op;
+use rows::Latest;
+use state::Answer;
+use state::Replica;
+
+// What a Request calls for: nothing; its reply again; refusal 4, 9 or 10; or it is appended.
+pub enum Call {
+    Nothing,
+    Resend,
+    Refuse { code: u8 },
+    Append,
+}
+
+// How long the Prepares of an op are, to all others.
+fn sends(s: Replica) -> usize
+    requires { ⌜ (0 < s .setup .n) × (s .setup .n ≤ 7) ⌝ }
+    ensures { λ r. ⌜ r ≡ sendsOf s ⌝ }
+{
+    51 * (s.setup.n as usize - 1)
+}
+
+// A number no larger than the client's latest: the reply again, if it is the latest and there is one.
+fn weigh_known(e: Entry, latest: Latest, room: usize) -> Call
+    ensures { λ r. ⌜ r ≡ knownVerdict e latest room ⌝ }
+{
+    if e.request < latest.request {
+        return Call::Nothing;
+    }
+    if !latest.replied {
+        return Call::Nothing;
+    }
+    if room < 36 {
+        return Call::Refuse { code: 10 };
+    }
+    Call::Resend
+}
+
+// `out` and `reps` are the sizes of the two areas.
+fn weigh_new(s: Replica, out: usize) -> Call
+    requires { ⌜ (0 < s .setup .n) × (s .setup .n ≤ 7) ⌝ }
+    ensures { λ r. ⌜ r ≡ newVerdict s out ⌝ }
+{
+    if s.setup.room <= s.op.0 {
+        return Call::Refuse { code: 4 };
+    }
+    if out < sends(s) {
+        return Call::Refuse { code: 9 };
+    }
+    Call::Append
+}
+
+fn weigh_client(s: Replica, e: Entry, latest: Latest, out: usize, reps: usize) -> Call
+    requires { ⌜ (0 < s .setup .n) × (s .setup .n ≤ 7) ⌝ }
+    ensures { λ r. ⌜ r ≡ clientVerdict s e latest out reps ⌝ }
+{
+    if !latest.there {
+        return weigh_new(s, out);
+    }
+    if latest.request < e.request {
+        return weigh_new(s, out);
+    }
+    weigh_known(e, latest, reps)
+}
+
+fn weigh(s: Replica, e: Entry, latest: Latest, out: usize, reps: usize) -> Call
+    requires { ⌜ (0 < s .setup .n) × (s .setup .n ≤ 7) ⌝ }
+    ensures { λ r. ⌜ r ≡ verdictOf s e latest out reps ⌝ }
+{
+    if !state::is_primary(s) {
+        return Call::Nothing;
+    }
+    let status = s.status;
+    if !state::is_normal(status) {
+        return Call::Nothing;
+    }
+    weigh_client(s, e, latest, out, reps)
+}
+
+// The entry is appended, acknowledged by ourselves, and sent to all others.
+fn accept(s: Replica, e: Entry, log: &mut [u8], acks: &mut [u8], out: &mut [u8]) -> Answer
+    requires { ⌜ Ready s (length (now log)) (length (now acks)) × ((s .op .0 < s .setup .room) × (sendsOf s ≤ length (now out))) ⌝ }
+    ensures { λ r. ⌜ took r (now (log .exit)) (now (acks .exit)) (now (out .exit)) ≡ accepted s e (now (log .entry)) (now (acks .entry)) (now (out .entry)) ⌝ }
+{
+    let i = s.op.0 as usize;
+    let op = Op(s.op.0 + 1);
+    let commit = s.commit;
+    let view = s.view;
+    book::append(log, i, e);
+    acks[i] = config::insert(0, s.setup.id);
+    let m = Message::Prepare {
+        view,
+        op,
+        commit,
+        entry: e,
+    };
+    let w = writers::broadcast(out, s.setup.n, s.setup.id, m, log);
+    state::done(state::with_log(s, op, commit), w, 0, false)
+}
+
+// The reply again, with the current view.
+fn resend(s: Replica, e: Entry, o: Outcome, reps: &mut [u8]) -> Answer
+    requires { ⌜ 36 ≤ length (now reps) ⌝ }
+    ensures { λ r. ⌜ answered r (now (reps .exit)) ≡ resent s e o (now (reps .entry)) ⌝ }
+{
+    let v = s.view;
+    let w = writers::write_reply(reps, v, e.client, e.request, o.code, o.total);
+    state::done(s, 0, w, false)
+}
+
+// on_request
+pub fn on_request(
+    s: Replica,
+    e: Entry,
+    latest: Latest,
+    log: &mut [u8],
+    acks: &mut [u8],
+    out: &mut [u8],
+    reps: &mut [u8],
+) -> Answer
+    requires { ⌜ Ready s (length (now log)) (length (now acks)) ⌝ }
+    ensures { λ r. ⌜ served r (now (log .exit)) (now (acks .exit)) (now (out .exit)) (now (reps .exit)) ≡ requestStep s e latest (now (log .entry)) (now (acks .entry)) (now (out .entry)) (now (reps .entry)) ⌝ }
+{
+    let o = latest.reply;
+    match weigh(s, e, latest, out.len(), reps.len()) {
+        Call::Nothing => state::done(s, 0, 0, false),
+        Call::Resend => resend(s, e, o, reps),
+        Call::Refuse { code } => state::refused(code, s),
+        Call::Append => accept(s, e, log, acks, out),
+    }
+}
