@@ -52,9 +52,10 @@ module _ (c : Given) (t : Replica) (x : Steps.Runs) (table : List Row) (applied 
   abbrev u : Replica
   u = committedTo t k
 
-  reads : modelOf u (withRuns (c .runs) (settled t k x)) (next .book .table) (next .book .applied) ≡ next
+  -- what commit_up_to leaves
+  pub committed-reads : modelOf u (withRuns (c .runs) (settled t k x)) (next .book .table) (next .book .applied) ≡ next
   unfolding modelOf storeOf committed withBook settled
-  reads =
+  committed-reads =
       ap (withBook (modelOf t (withRuns (c .runs) x) table applied))
       (settle-lift (t .setup .members) (x .log) (t .commit .0) (x .money) bytes (omega (arith, sound .totals-long)) (t .op .0) table applied (k .0)
       (omega (arith, sound .results-long, sound .op-le)) (sound .commit-le) le)
@@ -83,7 +84,7 @@ module _ (c : Given) (t : Replica) (x : Steps.Runs) (table : List Row) (applied 
       record {
         code = refl;
         setup = same;
-        state = reads;
+        state = committed-reads;
         grew = grew;
         messages = sym (ap length bytes-are ∙ long);
         out = ap (λ (w : List ℕ). over w (c .out)) (sym bytes-are);

@@ -9,3 +9,4 @@ pub mod LogLift
 pub mod LatestLaws
 pub mod StepLift
 pub mod AckLift
+pub mod PrepareLift

@@ -1,0 +1,2 @@
+pub mod StartViewChangeLaws
+pub mod StartViewLaws

@@ -1,0 +1,49 @@
+-- The ways out of start_view_change, on plain variables. Assumes nothing.
+use mathlib.Core.Path.{_≡_, refl, sym, ap, _∙_}
+use mathlib.Core.Bool.{true, false}
+use mathlib.Core.List.{List, []}
+use Prim.Native.Nat.{ℕ, _-_, _*_, _≤_, _<_}
+use native.Mathlib.Nat.{mul-comm}
+use native.Mathlib.Omega.{arith}
+use lib.ListN.{length}
+use borrow.Author.Tests.{lt-ltb, le-ltb}
+use Rattle.numbers.specs.Words.{if_then_else_}
+use Rattle.numbers.specs.Numbers.{over, Wrote}
+use Rattle.numbers.specs.declared.View.{View}
+use Rattle.config.specs.Setup.{setupOk}
+use Rattle.config.proofs.SetupLaws.{sized}
+use Rattle.frames.specs.declared.Message.the-variants.{StartViewChange}
+use Rattle.writers.specs.Writers.{sizeOf, lengthOf, toOthers}
+use Rattle.normal.proofs.SendLaws.{others-length}
+use Rattle.state.specs.State.{changingTo}
+use Rattle.state.specs.Answers.{refusal, completed}
+use Rattle.state.specs.declared.Answer.{Answer}
+use Rattle.state.specs.declared.Replica.{Replica}
+use Rattle.steps.specs.Steps.{spoke}
+use Rattle.view_change.specs.StartViewChange.{callsLength, callsOf, startedChange}
+
+module _ (s : Replica) (v : View) (ok : setupOk (s .setup) ≡ true) where
+  -- what writers::broadcast asks
+  pub calls-fit : (n area : ℕ) → callsLength s ≤ area
+      → (s .setup .id < s .setup .n)
+      × ((sizeOf (StartViewChange v (s .setup .id)) .entries ≤ 4096)
+      × ((32 * sizeOf (StartViewChange v (s .setup .id)) .entries ≤ n)
+      × ((s .setup .n - 1) * lengthOf (StartViewChange v (s .setup .id)) ≤ area)))
+  unfolding sizeOf lengthOf
+  calls-fit n area h = let z = sized (s .setup) ok in (z .own, (omega arith, (omega arith, omega (arith, h))))
+
+  pub calls-long : length (callsOf s v) ≡ callsLength s
+  unfolding sizeOf lengthOf
+  calls-long =
+      others-length (s .setup .id) (StartViewChange v (s .setup .id)) [] refl (s .setup .n) (sized (s .setup) ok .own)
+      ∙ mul-comm (s .setup .n - 1) 12
+
+module _ (s t : Replica) (v : View) (out : List ℕ) where
+  pub changes-short : (a : Answer) → length out < callsLength t → a ≡ refusal 9 s → spoke a out ≡ startedChange s t v out
+  unfolding startedChange if_then_else_
+  changes-short a h p = rw (lt-ltb (length out) (callsLength t) h, p)
+
+  pub changes : (a : Answer) (t′ : Replica) (w : ℕ) (o : List ℕ) → setupOk (t .setup) ≡ true → callsLength t ≤ length out → Wrote (callsOf t v) out o w
+      → t′ ≡ changingTo t v → a ≡ completed t′ w 0 false → spoke a o ≡ startedChange s t v out
+  unfolding startedChange if_then_else_
+  changes a t′ w o ok h q e p = rw (le-ltb (length out) (callsLength t) h, p, q .bytes, q .count, calls-long t v ok, e)

@@ -1,0 +1,2 @@
+pub mod StartViewChange
+pub mod StartView

@@ -1,0 +1,105 @@
+// StartView: sent to a replica that missed it, and joined by one that gets it.
+ghost use mathlib.Core.Path.{_≡_};
+ghost use Prim.Native.Nat.{_*_, _≤_};
+ghost use lib.ListN.{length};
+ghost use Rattle.state.specs.Lengths.{acksLength};
+ghost use Rattle.steps.specs.Steps.{Sound, runs, spoke};
+ghost use Rattle.view_change.specs.StartView.{Holding, Carried, startViewLength, sentStartView, keepVerdict, verdictOf, joined, joinedBy, startViewStep};
+use crate::Verdict;
+use numbers::Op;
+use numbers::View;
+use state::Answer;
+use state::Replica;
+
+// send_start_view, to one replica
+pub fn send_start_view(s: Replica, to: u8, log: &[u8], out: &mut [u8]) -> Answer
+    requires { ⌜ Holding s (length (now log)) ⌝ }
+    ensures { λ r. ⌜ spoke r (now (out .exit)) ≡ sentStartView s to (now (log .entry)) (now (out .entry)) ⌝ }
+{
+    if out.len() < 19 + 32 * (s.op.0 as usize) {
+        return state::refused(9, s);
+    }
+    let v = s.view;
+    let op = s.op;
+    let commit = s.commit;
+    let w = writers::kinds::start_view(out, to, v, op, commit, log);
+    state::done(s, w, 0, false)
+}
+
+// Refusal 7: the log of o entries in `part` must keep our committed entries.
+fn weigh_log(s: Replica, o: Op, part: &[u8], log: &[u8]) -> Verdict
+    requires { ⌜ Holding s (length (now log)) × ((s .commit .0 ≤ s .op .0) × (32 * o .0 ≤ length (now part))) ⌝ }
+    ensures { λ r. ⌜ r ≡ keepVerdict s o (now (part .entry)) (now (log .entry)) ⌝ }
+{
+    if book::keeps(log, s.commit.0 as usize, part, o.0 as usize) {
+        return Verdict::Join;
+    }
+    Verdict::Refuse
+}
+
+// One of our own view is new only while we are changing to it.
+fn weigh(s: Replica, v: View, o: Op, part: &[u8], log: &[u8]) -> Verdict
+    requires { ⌜ Holding s (length (now log)) × ((s .commit .0 ≤ s .op .0) × (32 * o .0 ≤ length (now part))) ⌝ }
+    ensures { λ r. ⌜ r ≡ verdictOf s v o (now (part .entry)) (now (log .entry)) ⌝ }
+{
+    if v.0 < s.view.0 {
+        return Verdict::Ignore;
+    }
+    if s.view.0 < v.0 {
+        return weigh_log(s, o, part, log);
+    }
+    let status = s.status;
+    if !state::is_changing(status) {
+        return Verdict::Ignore;
+    }
+    weigh_log(s, o, part, log)
+}
+
+// install_log, acks cleared, commit, PrepareOk.
+fn join(
+    s: Replica,
+    v: View,
+    o: Op,
+    c: Op,
+    part: &[u8],
+    log: &mut [u8],
+    results: &mut [u8],
+    totals: &mut [u8],
+    acks: &mut [u8],
+    out: &mut [u8],
+) -> Answer
+    requires { ⌜ Sound s (runs (now log) (now results) (now totals)) × (Carried s o c × ((s .commit .0 ≤ o .0) × ((32 * o .0 ≤ length (now part)) × (length (now acks) ≡ acksLength (s .setup))))) ⌝ }
+    ensures { λ r. ⌜ joined r (runs (now (log .exit)) (now (results .exit)) (now (totals .exit))) (now (acks .exit)) (now (out .exit)) ≡ joinedBy s v o c (now (part .entry)) (runs (now (log .entry)) (now (results .entry)) (now (totals .entry))) (now (acks .entry)) (now (out .entry)) ⌝ }
+{
+    if out.len() < 16 {
+        return state::refused(9, s);
+    }
+    let commit = s.commit;
+    let t = state::with_log(state::enter_normal(s, v), o, commit);
+    book::append_part(log, 0, part, o.0 as usize);
+    numbers::fill(acks, s.setup.room as usize, 0);
+    steps::acknowledge(s, t, c, true, log, results, totals, out)
+}
+
+// on_start_view; `part` begins with the o entries that it carries, c of them committed.
+pub fn on_start_view(
+    s: Replica,
+    v: View,
+    o: Op,
+    c: Op,
+    part: &[u8],
+    log: &mut [u8],
+    results: &mut [u8],
+    totals: &mut [u8],
+    acks: &mut [u8],
+    out: &mut [u8],
+) -> Answer
+    requires { ⌜ Sound s (runs (now log) (now results) (now totals)) × (Carried s o c × ((32 * o .0 ≤ length (now part)) × (length (now acks) ≡ acksLength (s .setup)))) ⌝ }
+    ensures { λ r. ⌜ joined r (runs (now (log .exit)) (now (results .exit)) (now (totals .exit))) (now (acks .exit)) (now (out .exit)) ≡ startViewStep s v o c (now (part .entry)) (runs (now (log .entry)) (now (results .entry)) (now (totals .entry))) (now (acks .entry)) (now (out .entry)) ⌝ }
+{
+    match weigh(s, v, o, part, log) {
+        Verdict::Ignore => state::done(s, 0, 0, false),
+        Verdict::Refuse => state::refused(7, s),
+        Verdict::Join => join(s, v, o, c, part, log, results, totals, acks, out),
+    }
+}

@@ -1,0 +1,38 @@
+// start_view_change: StartViewChange to all others.
+ghost use mathlib.Core.Path.{_≡_};
+ghost use mathlib.Core.Bool.{true};
+ghost use mathlib.Core.List.{[]};
+ghost use Prim.Native.Nat.{_-_, _*_, _≤_};
+ghost use lib.ListN.{length};
+ghost use Rattle.numbers.specs.Numbers.{Wrote};
+ghost use Rattle.config.specs.Setup.{setupOk};
+ghost use Rattle.steps.specs.Steps.{spoke};
+ghost use Rattle.view_change.specs.StartViewChange.{callsLength, callsOf, startedChange};
+use frames::Message;
+use numbers::View;
+use state::Answer;
+use state::Replica;
+
+// StartViewChange of view v, to all others.
+pub fn call_others(s: Replica, v: View, out: &mut [u8]) -> usize
+    requires { ⌜ (setupOk (s .setup) ≡ true) × (callsLength s ≤ length (now out)) ⌝ }
+    ensures { λ k. ⌜ Wrote (callsOf s v) (now (out .entry)) (now (out .exit)) k ⌝ }
+{
+    let m = Message::StartViewChange {
+        view: v,
+        from: s.setup.id,
+    };
+    writers::broadcast(out, s.setup.n, s.setup.id, m, b"")
+}
+
+// start_view_change to view v, from state t; `s` is the state as it was, for refusal 9.
+pub fn start_view_change(s: Replica, t: Replica, v: View, out: &mut [u8]) -> Answer
+    requires { ⌜ setupOk (t .setup) ≡ true ⌝ }
+    ensures { λ r. ⌜ spoke r (now (out .exit)) ≡ startedChange s t v (now (out .entry)) ⌝ }
+{
+    if out.len() < 12 * (t.setup.n as usize - 1) {
+        return state::refused(9, s);
+    }
+    let w = call_others(t, v, out);
+    state::done(state::changing_to(t, v), w, 0, false)
+}
