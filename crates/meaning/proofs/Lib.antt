@@ -10,3 +10,4 @@ pub mod LatestLaws
 pub mod StepLift
 pub mod AckLift
 pub mod PrepareLift
+pub mod TransferLift

@@ -2,6 +2,7 @@
 --     quiet-shown       nothing is sent
 --     spoke-shown       messages go out if they fit
 --     ask-shown         send_get_state
+--     ignore-shown, hear-shown    a message that is ignored, or only heard
 --     accept-shown      accept_from_primary, with what is done where the message is taken
 --     ack-shown         commit_up_to, and then send_prepare_ok
 -- Assumes nothing.
@@ -212,7 +213,7 @@ module _ (c : Given) (table : List Row) (applied : List Entry) (v : View) (few :
   abbrev late : Accept → Step
   late z = ofSpoke c (deferred z (c .state) v (c .out))
 
-  ignore-shown : Shown c (late Ignore) (now .book) (fit (ignored now))
+  pub ignore-shown : Shown c (late Ignore) (now .book) (fit (ignored now))
   unfolding deferred ignored
   ignore-shown = quiet-shown c (c .state) (now .book) now refl (kept-reads (c .state) now refl refl) (no-growth (now .book))
 
@@ -223,7 +224,7 @@ module _ (c : Given) (table : List Row) (applied : List Entry) (v : View) (few :
   unfolding heardBy withClock
   heard-book = refl
 
-  hear-shown : Shown c (late Hear) (now .book) (fit (ignored (heardBy now)))
+  pub hear-shown : Shown c (late Hear) (now .book) (fit (ignored (heardBy now)))
   unfolding deferred ignored
   hear-shown =
       let r = heard-reads (c .state) (c .runs) table applied in
