@@ -1,6 +1,7 @@
 -- The book's bytes are the model's book: what a call leaves in the lent runs, read as a book, is what the model makes of the book read before.
 --     outcome-lift, totals-lift                 the fee rules on a run of totals
 --     outcome-fits, totals-bytes                what they give fits its bytes
+--     due-more, due-length                      the entries that commits go through
 --     commit-lift, settle-lift                  commits: so many more, and up to an op number, which may be behind
 --     append-lift, part-lift, install-lift      entries written behind the log, or in place of its later part
 --     replies-lift, settle-replies, settle-replies-length    the replies of a commit
@@ -105,7 +106,7 @@ module _ (M : ℕ) (s : List ℕ) (e : Entry) where
 -- ---- commits
 
 -- the k entries after the first `from`
-due-more : (log : List ℕ) (op from k : ℕ) → from + k < op
+pub due-more : (log : List ℕ) (op from k : ℕ) → from + k < op
     → take (suc k) (drop from (entries op log)) ≡ take k (drop from (entries op log)) ++ entryIn log (from + k) ∷ []
 due-more log op from k h =
     let d : Entry = entryIn log 0 in
@@ -114,7 +115,7 @@ due-more log op from k h =
     ∙ ap (λ (e : Entry). take k (drop from (entries op log)) ++ e ∷ [])
     (getD-drop from (entries op log) k d ∙ entry-get op log (from + k) d h)
 
-due-length : (log : List ℕ) (op from k : ℕ) → from + k ≤ op → length (take k (drop from (entries op log))) ≡ k
+pub due-length : (log : List ℕ) (op from k : ℕ) → from + k ≤ op → length (take k (drop from (entries op log))) ≡ k
 due-length log op from k h = simp (length-take, length-drop, cells-length) (omega arith)
 
 module _ (M : ℕ) (log : List ℕ) (from : ℕ) (x : Money) (bytes : Bytes (x .totals)) (wide : 8 * M ≤ length (x .totals)) where

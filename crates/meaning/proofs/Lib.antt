@@ -11,3 +11,8 @@ pub mod StepLift
 pub mod AckLift
 pub mod PrepareLift
 pub mod TransferLift
+pub mod SendLift
+pub mod PrepareOkLift
+pub mod RequestLift
+pub mod PrimaryTickLift
+pub mod ReportLift

@@ -3,7 +3,7 @@
 --     transfer-shown              state_transfer, by one who has heard
 --     commit-shown                on_commit
 --     prepared-shown              on_prepare's last part: commit, then PrepareOk
---     Says, Met, prepare-shown    on_prepare: refusal 6 by the client's row is the model's by the whole log
+--     Met, prepare-shown          on_prepare: refusal 6 by the client's row is the model's by the whole log
 -- Assumes nothing.
 use Prim.Native.Nat.{ℕ, _+_, min, _≤_, _<_}
 use native.Mathlib.Omega.{arith}
@@ -47,7 +47,7 @@ use Rattle.meaning.specs.Sending.{messagesOut, repliesOut, toPrimary, se
 use Rattle.meaning.specs.Normal.{heardBy, committed, stateTransfer, prepared, takePrepare, onPrepare, takeCommit, onCommit}
 use Rattle.meaning.specs.Layout.{storeOf, bookOf, modelOf}
 use Rattle.meaning.specs.Steps.{fitted}
-use Rattle.meaning.specs.Shown.{Given, Step, Grew, Did, Shown}
+use Rattle.meaning.specs.Shown.{Given, Step, Grew, Did, Shown, Tells}
 use Rattle.meaning.specs.Shown.Grew.{more}
 use Rattle.meaning.proofs.AckLift.{withRuns, committed-reads, ack-shown}
 use Rattle.meaning.proofs.BookLift.{append-lift}
@@ -160,11 +160,6 @@ module _ (c : Given) (table : List Row) (applied : List Entry) (sound : Sound (c
 
 -- ---- on_prepare
 
--- the client's row as it is handed in says what the model's table has of the client
-pub record Says (l : Rows.Latest) (z : Seen) : Type 0 where
-  pub there : l .there ≡ z .there
-  pub request : l .there ≡ true → l .request ≡ z .request
-
 -- What on_prepare is given: what refusal 1 leaves, runs of bytes, a status that looks at a Prepare, an entry that fits its bytes; and, of the log
 -- and the table that calls leave, that the log rises, that the table has its latest requests, and that the row is the table's.
 pub record Met (c : Given) (p : Prepared) (table : List Row) : Type 0 where
@@ -174,7 +169,7 @@ pub record Met (c : Given) (p : Prepared) (table : List Row) : Type 0 where
   pub fits : EntryFits (p .entry)
   pub rises : rising (entries (c .state .op .0) (c .runs .log)) ≡ true
   pub latest : Latest table (entries (c .state .op .0) (c .runs .log))
-  pub row : Says (p .latest) (find table (p .entry .client))
+  pub row : Tells table (p .entry .client) (p .latest)
 
 -- refusal 9 by the same test once more
 twice : {A : Type 0} (b : Bool) (x y : A) → (if b then x else if b then x else y) ≡ (if b then x else y)
@@ -197,11 +192,12 @@ earlier o n h = go (ltb o n) refl
     go false e = ap not (sym (eq-eqb o n (omega (arith, ltb-false o n e, ltb-false n o h))))
 
 -- the row's test is the table's
-row-test : (l : Rows.Latest) (z : Seen) (r : ℕ) → Says l z → (l .there and leb r (l .request)) ≡ (z .there and leb r (z .request))
+row-test : (table : List Row) (client : ℕ) (l : Rows.Latest) (r : ℕ) → Tells table client l
+    → (l .there and leb r (l .request)) ≡ (find table client .there and leb r (find table client .request))
 unfolding _and_
-row-test l z r h = go (l .there) refl
+row-test table client l r h = go (l .there) refl
   where
-    go : (b : Bool) → l .there ≡ b → (l .there and leb r (l .request)) ≡ (z .there and leb r (z .request))
+    go : (b : Bool) → l .there ≡ b → (l .there and leb r (l .request)) ≡ (find table client .there and leb r (find table client .request))
     go true e = λ i. h .there i and leb r (h .request e i)
     go false e = rw (← h .there, e)
 
@@ -292,7 +288,7 @@ module _ (c : Given) (p : Prepared) (table : List Row) (applied : List Entry) (m
   rises-test : (p .latest .there and leb (e .request) (p .latest .request)) ≡ not (rising (m .book .log ++ (e ∷ [])))
   unfolding modelOf bookOf
   rises-test =
-      row-test (p .latest) (find table (e .client)) (e .request) (met .row)
+      row-test table (e .client) (p .latest) (e .request) (met .row)
       ∙ sym (twice-not _)
       ∙ ap not (sym (latest-lift e table (entries (s .op .0) (c .runs .log)) (met .latest) (met .rises)))
 

@@ -4,15 +4,18 @@ use Prim.Native.Nat.{ℕ}
 use mathlib.Core.Path.{_≡_}
 use mathlib.Core.Bool.{Bool, true, false}
 use mathlib.Core.List.{List}
+use mathlib.Core.Option.{none, some}
 use lib.ListN.{length}
+use Rattle.numbers.specs.Words.{if_then_else_}
 use Rattle.numbers.specs.Numbers.{over}
 use Rattle.entries.specs.declared.Entry.{Entry}
+use Rattle.rows.specs.declared.Latest.{Latest}
 use Rattle.state.specs.Answers.{refusal}
 use Rattle.state.specs.declared.Replica.{Replica}
 use Rattle.state.specs.declared.Answer as S
-use Rattle.meaning.specs.State.{Book, State, Sent, Reply, Answer}
+use Rattle.meaning.specs.State.{Row, Book, State, Sent, Reply, Answer}
 use Rattle.meaning.specs.State.Answer.{refused, done}
-use Rattle.meaning.specs.Book.{appendAll, commitUpTo, install}
+use Rattle.meaning.specs.Book.{find, appendAll, commitUpTo, install}
 use Rattle.meaning.specs.Sending.{messagesOut, repliesOut}
 use Rattle.meaning.specs.Layout.{Runs, modelOf}
 
@@ -55,3 +58,9 @@ pub record Did (c : Given) (d : Step) (b : Book) (m′ : State) (ms : List Sent)
 abbrev pub Shown : Given → Step → Book → Answer → Type 0
 Shown c d b (refused k) = d ≡ unchanged c k
 Shown c d b (done m′ ms rs) = Did c d b m′ ms rs
+
+-- the client's row as it is handed to a handler says what the model's table has of the client
+pub record Tells (table : List Row) (client : ℕ) (latest : Latest) : Type 0 where
+  pub there : latest .there ≡ find table client .there
+  pub request : latest .there ≡ true → latest .request ≡ find table client .request
+  pub kept : latest .there ≡ true → (if latest .replied then some (latest .reply) else none) ≡ find table client .kept

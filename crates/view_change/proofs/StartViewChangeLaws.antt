@@ -1,20 +1,17 @@
 -- The ways out of start_view_change, on plain variables. Assumes nothing.
-use mathlib.Core.Path.{_≡_, refl, sym, ap, _∙_}
+use mathlib.Core.Path.{_≡_, refl}
 use mathlib.Core.Bool.{true, false}
 use mathlib.Core.List.{List, []}
 use Prim.Native.Nat.{ℕ, _-_, _*_, _≤_, _<_}
-use native.Mathlib.Nat.{mul-comm}
-use native.Mathlib.Omega.{arith}
 use lib.ListN.{length}
 use borrow.Author.Tests.{lt-ltb, le-ltb}
 use Rattle.numbers.specs.Words.{if_then_else_}
 use Rattle.numbers.specs.Numbers.{over, Wrote}
 use Rattle.numbers.specs.declared.View.{View}
 use Rattle.config.specs.Setup.{setupOk}
-use Rattle.config.proofs.SetupLaws.{sized}
 use Rattle.frames.specs.declared.Message.the-variants.{StartViewChange}
-use Rattle.writers.specs.Writers.{sizeOf, lengthOf, toOthers}
-use Rattle.normal.proofs.SendLaws.{others-length}
+use Rattle.writers.specs.Writers.{sizeOf, lengthOf}
+use Rattle.steps.proofs.SendLaws.{bare-asks, bare-long}
 use Rattle.state.specs.State.{changingTo}
 use Rattle.state.specs.Answers.{refusal, completed}
 use Rattle.state.specs.declared.Answer.{Answer}
@@ -23,20 +20,17 @@ use Rattle.steps.specs.Steps.{spoke}
 use Rattle.view_change.specs.StartViewChange.{callsLength, callsOf, startedChange}
 
 module _ (s : Replica) (v : View) (ok : setupOk (s .setup) ≡ true) where
-  -- what writers::broadcast asks
   pub calls-fit : (n area : ℕ) → callsLength s ≤ area
       → (s .setup .id < s .setup .n)
       × ((sizeOf (StartViewChange v (s .setup .id)) .entries ≤ 4096)
       × ((32 * sizeOf (StartViewChange v (s .setup .id)) .entries ≤ n)
       × ((s .setup .n - 1) * lengthOf (StartViewChange v (s .setup .id)) ≤ area)))
   unfolding sizeOf lengthOf
-  calls-fit n area h = let z = sized (s .setup) ok in (z .own, (omega arith, (omega arith, omega (arith, h))))
+  calls-fit n area h = bare-asks (s .setup) ok (StartViewChange v (s .setup .id)) n area refl h
 
   pub calls-long : length (callsOf s v) ≡ callsLength s
   unfolding sizeOf lengthOf
-  calls-long =
-      others-length (s .setup .id) (StartViewChange v (s .setup .id)) [] refl (s .setup .n) (sized (s .setup) ok .own)
-      ∙ mul-comm (s .setup .n - 1) 12
+  calls-long = bare-long (s .setup) ok (StartViewChange v (s .setup .id)) refl
 
 module _ (s t : Replica) (v : View) (out : List ℕ) where
   pub changes-short : (a : Answer) → length out < callsLength t → a ≡ refusal 9 s → spoke a out ≡ startedChange s t v out

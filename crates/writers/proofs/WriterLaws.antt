@@ -1,6 +1,7 @@
 -- Laws of the frames' lengths.
 --     encode-length   a frame is as long as `lengthOf` says, where the log's bytes are as many as its entries ask
 --     fields-small    no kind has more than 51 bytes before its log
+--     others-length   the frames to all others of n are n - 1
 --     others-most     the frames to the others below k take no more than those to all
 --     room-left       there is room for the next of them
 -- Assumes nothing.
@@ -80,6 +81,13 @@ module _ (me : ℕ) (m : Message) (log : List ℕ) (h : length log ≡ 32 * size
       (λ e. rw (eq-eqb (suc k) me e, append-nil (toOthers (suc k) me m log)) (others-up (suc k) (omega arith)))
       (λ ne. others-next (suc k) ne ∙ ap (λ (x : ℕ). x + lengthOf m) (others-past k (omega arith)) ∙ sym (suc-mul k (lengthOf m)))
       (eq-or-not (suc k) me)
+
+  -- to all others of n
+  pub others-length : (n : ℕ) → me < n → length (toOthers n me m log) ≡ (n - 1) * lengthOf m
+  others-length zero l = absurd (omega arith)
+  others-length (suc n) l =
+      let e : suc n - 1 ≡ n = omega arith in
+      rw e (others-past n (omega arith))
 
   -- one more of k frames fits where n - 1 do
   fits-more : (n k x : ℕ) → x ≡ k * lengthOf m → suc k ≤ n - 1 → x + lengthOf m ≤ (n - 1) * lengthOf m
