@@ -1,5 +1,9 @@
 -- A state that commits up to an op and then acknowledges its op number, lifted to the model: the end of on_prepare, on_new_state and
--- on_start_view. Assumes nothing.
+-- on_start_view.
+--     committed-reads       what is left of commit_up_to
+--     ok-long, acked-did    the PrepareOk, and the step where it fits
+--     ack-shown             the step, refusal 9 included
+-- Assumes nothing.
 use Prim.Native.Nat.{ℕ, _*_, _≤_, _<_}
 use native.Mathlib.Omega.{arith}
 use mathlib.Core.Path.{_≡_, refl, sym, ap, _∙_, subst}
@@ -92,6 +96,15 @@ module _ (c : Given) (t : Replica) (x : Steps.Runs) (table : List Row) (applied 
         reps = over-nil (c .reps);
       }
 
+  pub ok-long : length (messagesOut (sendPrepareOk (c .state .setup) next)) ≡ 16
+  ok-long = ap length bytes-are ∙ long
+
+  pub acked-did : Grew b installed (commitUpTo (before .book) (k .0)) → ltb (length (c .out)) 16 ≡ false
+      → Did c (ofLeft c (acked (c .state) t k installed x (c .out))) b next (sendPrepareOk (c .state .setup) next) []
+  unfolding acked
+  acked-did grew f =
+      subst (λ (d : Left). Did c (ofLeft c d) b next (sendPrepareOk (c .state .setup) next) []) (sym (if-false _ _ leaves f)) (did grew)
+
   -- The step, where nothing was stored before it but what refusal 9 leaves alone.
   abbrev pub acknowledged : Left
   acknowledged =
@@ -99,11 +112,11 @@ module _ (c : Given) (t : Replica) (x : Steps.Runs) (table : List Row) (applied 
 
   pub ack-shown : Grew b installed (commitUpTo (before .book) (k .0))
       → Shown c (ofLeft c acknowledged) b (fitted (length (c .out)) (length (c .reps)) (done next (sendPrepareOk (c .state .setup) next) []))
-  unfolding fitted acked repliesOut packed
+  unfolding fitted repliesOut packed
   ack-shown grew =
-      split₂ (λ (d : Left) (a : Answer). Shown c (ofLeft c d) b a) _ _ _ _ _ _ (ap (λ (n : ℕ). ltb (length (c .out)) n) (sym (ap length bytes-are ∙ long)))
+      split₂ (λ (d : Left) (a : Answer). Shown c (ofLeft c d) b a) _ _ _ _ _ _ (ap (λ (n : ℕ). ltb (length (c .out)) n) (sym ok-long))
       (λ _. refl)
       (λ f.
       subst (λ (a : Answer). Shown c (ofLeft c (acked (c .state) t k installed x (c .out))) b a)
       (sym (if-false _ (refused 10) (done next (sendPrepareOk (c .state .setup) next) []) (le-ltb (length (c .reps)) 0 (omega arith))))
-      (subst (λ (d : Left). Did c (ofLeft c d) b next (sendPrepareOk (c .state .setup) next) []) (sym (if-false _ _ leaves f)) (did grew)))
+      (acked-did grew f))

@@ -16,3 +16,4 @@ pub mod PrepareOkLift
 pub mod RequestLift
 pub mod PrimaryTickLift
 pub mod ReportLift
+pub mod StartViewLift

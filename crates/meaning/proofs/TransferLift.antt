@@ -1,6 +1,6 @@
 -- State transfer, lifted to the model.
 --     get-state-shown       on_get_state
---     transfer-tick-shown   a tick in StateTransfer after which the wait isn't over
+--     transfer-tick-shown, backup-tick-shown   a tick in StateTransfer, and a Normal backup's, after which the wait isn't over
 --     new-state-shown       on_new_state
 -- Assumes nothing.
 use Prim.Native.Nat.{ℕ, _+_, _-_, _*_, _≤_, _<_}
@@ -37,12 +37,13 @@ use Rattle.state.specs.State.{isNormal, isChanging, isRecovering, withLog, norm
 use Rattle.state.specs.Answers.{refusal}
 use Rattle.state.specs.declared.Replica.{Replica}
 use Rattle.steps.specs.Steps as Steps
-use Rattle.steps.specs.Steps.{Sound, Spoke, Left, left, deferred, acked}
+use Rattle.steps.specs.Steps.{Sound, Spoke, Left, left, deferred, acked, spoke}
 use Rattle.transfer.specs.declared.Part.{Part}
 use Rattle.transfer.specs.declared.Use.{Use}
 use Rattle.transfer.specs.declared.Use.the-variants.{Ignore, Hear, Fill, Install}
 use Rattle.transfer.specs.GetState.{Reading, answers, newStateLength, getStateStep}
 use Rattle.transfer.specs.NewState.{Carried, transferUse, changeUse, useOf, withPart, extended, filled, installed, byUse, newStateStep}
+use Rattle.normal.specs.Tick.{backupTick}
 use Rattle.transfer.specs.Tick.{transferTick}
 use Rattle.transfer.proofs.GetStateLaws.{has}
 use Rattle.transfer.proofs.NewStateLaws.{fill-fits, install-fits}
@@ -187,6 +188,19 @@ module _ (c : Given) (table : List Row) (applied : List Entry) where
       where
         P : Clock → Answer → Type 0
         P x a = Shown c (ofSpoke c (transferTick (c .state) x (c .out))) (now .book) (fit a)
+
+    -- a Normal backup's, which sends nothing
+    pub backup-tick-shown : t .up ≡ false → k ≡ t .clock → Shown c (ofSpoke c (spoke (backupTick (c .state) k) (c .out))) (now .book)
+        (fit (followTick (c .state .setup) now t []))
+    unfolding followTick
+    backup-tick-shown f e =
+        subst (λ (x : Clock). P x (followTick (c .state .setup) now t [])) (sym e)
+        (subst (P (t .clock)) (sym (if-false _ _ _ f))
+        (quiet-shown c (S.withClock (c .state) (t .clock)) (now .book) ticked-on refl ticked-reads
+        (subst (λ (q : Book). Grew (now .book) false q) (sym ticked-book) (no-growth (now .book)))))
+      where
+        P : Clock → Answer → Type 0
+        P x a = Shown c (ofSpoke c (spoke (backupTick (c .state) x) (c .out))) (now .book) (fit a)
 
   -- ---- on_new_state
 

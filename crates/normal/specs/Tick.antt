@@ -1,5 +1,5 @@
--- on_idle of a Normal primary, on the state by value and the bytes of log and area: the heartbeat, then a Prepare for every op that isn't
--- committed. Assumes nothing.
+-- on_idle in Normal, on the state by value and the bytes of log and area: a primary's heartbeat, then a Prepare for every op that isn't committed;
+-- and a backup's, whose wait isn't over. Assumes nothing.
 use mathlib.Core.Path.{_≡_}
 use mathlib.Core.Bool.{true, false}
 use mathlib.Core.List.{List, [], _++_}
@@ -10,14 +10,16 @@ use Rattle.numbers.specs.Words.{if_then_else_}
 use Rattle.numbers.specs.Numbers.{over}
 use Rattle.config.specs.Setup.{setupOk}
 use Rattle.clock.specs.Clock.{tickOf}
+use Rattle.clock.specs.declared.Clock.{Clock}
 use Rattle.clock.specs.declared.Duty.the-variants.{Lead}
 use Rattle.frames.specs.declared.Message.{Message}
 use Rattle.frames.specs.declared.Message.the-variants.{Prepare, Commit}
 use Rattle.writers.specs.Writers.{toOthers}
 use Rattle.book.specs.Log.{entryIn}
 use Rattle.state.specs.State.{withClock}
-use Rattle.state.specs.Answers.{refusal, completed}
+use Rattle.state.specs.Answers.{refusal, completed, quiet}
 use Rattle.state.specs.Lengths.{logLength}
+use Rattle.state.specs.declared.Answer.{Answer}
 use Rattle.state.specs.declared.Replica.{Replica}
 use Rattle.steps.specs.Steps.{Spoke, spoke}
 
@@ -61,3 +63,7 @@ primaryTick s log out =
     0
     false)
     (over (heartbeatOf s ++ preparesOf s log (s .op .0 - s .commit .0)) out)
+
+-- on_idle of a Normal backup whose wait isn't over; c is the clock after it
+abbrev pub backupTick : Replica → Clock → Answer
+backupTick s c = quiet (withClock s c)

@@ -1,10 +1,11 @@
-// on_idle, of a Normal primary.
+// on_idle in Normal: of a primary, and of a backup whose wait isn't over.
 ghost use mathlib.Core.Path.{_≡_};
 ghost use Prim.Native.Nat.{_+_, _-_, _*_, _≤_, _<_};
 ghost use lib.ListN.{length};
 ghost use Rattle.numbers.specs.Numbers.{Wrote};
 ghost use Rattle.steps.specs.Steps.{spoke};
-ghost use Rattle.normal.specs.Tick.{Leading, heartbeatLength, preparesLength, preparesTo, preparesOf, primaryTick};
+ghost use Rattle.normal.specs.Tick.{Leading, heartbeatLength, preparesLength, preparesTo, preparesOf, primaryTick, backupTick};
+use clock::Clock;
 use clock::Duty;
 use frames::Message;
 use numbers::Op;
@@ -75,4 +76,11 @@ pub fn tick_primary(s: Replica, log: &[u8], out: &mut [u8]) -> Answer
     let p = send_prepares(s, log, &mut out[w..]);
     let t = c.tick(s.setup.timeout, Duty::Lead);
     state::done(state::with_clock(s, t.clock), w + p, 0, false)
+}
+
+// A backup's tick after which the wait isn't over; `c` is the clock after it. Nothing is sent.
+pub fn tick_backup(s: Replica, c: Clock) -> Answer
+    ensures { λ r. ⌜ r ≡ backupTick s c ⌝ }
+{
+    state::done(state::with_clock(s, c), 0, 0, false)
 }
