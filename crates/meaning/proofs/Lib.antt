@@ -17,3 +17,5 @@ pub mod RequestLift
 pub mod PrimaryTickLift
 pub mod ReportLift
 pub mod StartViewLift
+pub mod FollowLift
+pub mod FoundLift

@@ -10,6 +10,7 @@ use Rattle.numbers.specs.Words.{if_then_else_}
 use Rattle.numbers.specs.Numbers.{over}
 use Rattle.entries.specs.declared.Entry.{Entry}
 use Rattle.rows.specs.declared.Latest.{Latest}
+use Rattle.rows.specs.declared.Change.{Change}
 use Rattle.state.specs.Answers.{refusal}
 use Rattle.state.specs.declared.Replica.{Replica}
 use Rattle.state.specs.declared.Answer as S
@@ -58,6 +59,17 @@ pub record Did (c : Given) (d : Step) (b : Book) (m′ : State) (ms : List Sent)
 abbrev pub Shown : Given → Step → Book → Answer → Type 0
 Shown c d b (refused k) = d ≡ unchanged c k
 Shown c d b (done m′ ms rs) = Did c d b m′ ms rs
+
+-- what a step did to the log, as it is told to whoever follows with the client table
+abbrev pub changeOf : Given → Step → Change
+changeOf c d =
+    record {
+      installed = d .answer .installed;
+      op = c .state .op;
+      commit = c .state .commit;
+      to = d .answer .state .op;
+      done = d .answer .state .commit;
+    }
 
 -- the client's row as it is handed to a handler says what the model's table has of the client
 pub record Tells (table : List Row) (client : ℕ) (latest : Latest) : Type 0 where

@@ -15,6 +15,7 @@ use Rattle.fees.specs.Fees.{gives}
 use Rattle.fees.specs.declared.Outcome.{Outcome}
 use Rattle.rows.specs.Rows.{Shape, rowAt, spotOf, isThere}
 use Rattle.rows.specs.declared.Change.{Change}
+use Rattle.rows.specs.declared.Latest.{Latest}
 use Rattle.table.specs.declared.Row.{Row}
 use Rattle.table.specs.declared.Found.{Found}
 
@@ -71,6 +72,16 @@ pub record Left (n : ℕ) (before after : List ℕ) (now : List Row) : Type 0 wh
 -- what is found of a client
 unfoldable pub foundIn : List Row → ℕ → Found
 foundIn xs c = record { at = spotOf byteRow xs c; there = isThere byteRow xs c; row = rowAt byteRow xs (spotOf byteRow xs c) }
+
+-- what was found, as the core is told it: the reply is there where one is kept
+abbrev pub latestOf : Found → Latest
+latestOf f =
+    record {
+      there = f .there;
+      request = f .row .request;
+      replied = not (eqb (f .row .mark) 255);
+      reply = gives (f .row .mark) (f .row .total);
+    }
 
 -- the second run after a call: a rebuild leaves there the rows that it replaced
 unfoldable pub oldAfter : ℕ → Change → (table old : List ℕ) → List ℕ

@@ -6,11 +6,12 @@ ghost use Rattle.numbers.specs.Numbers.{over};
 ghost use Rattle.entries.specs.Entries.{entries};
 ghost use Rattle.fees.specs.Results.{outcomes};
 ghost use Rattle.rows.specs.Rows.{spotOf, inserted, putRow, appended, replied, committed, keptRow, rebuilt, renewed, followed};
-ghost use Rattle.table.specs.Layout.{noRow, byteRow, rowsOf, foundIn, oldAfter, Left};
+ghost use Rattle.table.specs.Layout.{noRow, byteRow, rowsOf, foundIn, latestOf, oldAfter, Left};
 use entries::Entry;
 use fees::Outcome;
 use rows::Change;
 use rows::Goal;
+use rows::Latest;
 
 mod cell; // a row read, written and made
 mod place; // places: the search by halves, and a row stored
@@ -41,6 +42,21 @@ pub fn find(table: &[u8], n: usize, client: u64) -> Found
         at,
         there: cell::is_of(row, client),
         row,
+    }
+}
+
+// What was found, as the core is told it.
+pub fn latest(f: Found) -> Latest
+    ensures { λ r. ⌜ r ≡ latestOf f ⌝ }
+{
+    Latest {
+        there: f.there,
+        request: f.row.request,
+        replied: f.row.mark != 255,
+        reply: Outcome {
+            code: f.row.mark,
+            total: f.row.total,
+        },
     }
 }
 
