@@ -1,2 +1,3 @@
 pub mod LogLaws
 pub mod RunLaws
+pub mod EntryRules

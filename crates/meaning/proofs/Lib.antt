@@ -19,3 +19,13 @@ pub mod ReportLift
 pub mod StartViewLift
 pub mod FollowLift
 pub mod FoundLift
+pub mod StoredLift
+pub mod ChosenLift
+pub mod BeginLift
+pub mod RecordLift
+pub mod DoViewChangeLift
+pub mod VoteLift
+pub mod NotedLift
+pub mod RecoveredLift
+pub mod RecoveryLift
+pub mod HandlersLift

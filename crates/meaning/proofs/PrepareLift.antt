@@ -177,8 +177,8 @@ unfolding if_then_else_
 twice true x y = refl
 twice false x y = refl
 
--- refusal 6 in two tests, and in one
-joined : {A : Type 0} (a b : Bool) (x y : A) → (if not a then x else if b then y else x) ≡ (if a and b then y else x)
+-- a choice by two tests, and by one
+pub joined : {A : Type 0} (a b : Bool) (x y : A) → (if not a then x else if b then y else x) ≡ (if a and b then y else x)
 unfolding if_then_else_ _and_
 joined true b x y = refl
 joined false b x y = refl

@@ -3,20 +3,20 @@
 --     filled-is, greatest-is, chosen-is, chosen-some, latest-is    with any reading that keeps a row's numbers
 --     reports-filled, reports-greatest, reports-chosen; answers-filled, answers-latest    with a run for each log
 --     stored-filled, stored-greatest, stored-chosen; stored-answers, stored-latest        where every log is stored
---     with-new, with-answer, chosen-reads                    the new one in, whose log lies in `fresh`; the log that the judge lends
+--     with-new, with-answer, chosen-reads    the new one in, whose log lies in `fresh`; the log that the judge lends
 -- Assumes nothing.
 use mathlib.Core.Path.{_≡_, refl, ap, sym, _∙_}
 use mathlib.Core.Bool.{Bool, true, false, not}
 use mathlib.Core.List.{List, [], _∷_}
 use mathlib.Core.Option.{Option, none, some}
-use Prim.Native.Nat.{ℕ, zero, suc, _+_, _*_, _≤_, _<_, max}
+use Prim.Native.Nat.{ℕ, zero, suc, _+_, _≤_, _<_, max}
 use native.Mathlib.Numerals.{add-one}
 use native.Mathlib.Omega.{arith}
 use lib.Dec.{ltb, eqb}
-use lib.ListN.{length, getD, set, take, drop, length-take, length-drop}
+use lib.ListN.{length, getD, set, take, length-take, length-drop}
 use lib.Seq.{getD-take}
 use borrow.Author.Tests.{ltb-true, ltb-false, lt-ltb, le-ltb, eq-eqb, ne-eqb, not-true, not-false}
-use Rattle.numbers.specs.Words.{if_then_else_, _and_}
+use Rattle.numbers.specs.Words.{if_then_else_}
 use Rattle.numbers.proofs.WordLaws.{if-true, if-false, split, split₂, and-true, and-false}
 use Rattle.numbers.proofs.CellLaws.{cells-length, cells-taken}
 use Rattle.entries.specs.Entries.{entryOf, encodeEntry, entries, EntryFits}
@@ -29,6 +29,7 @@ use Rattle.reports.specs.Rows.{countOne, greaterCommit, laterView, betterOf, fi
 use Rattle.reports.specs.Judge.{logFrom, chosenLog, Lies}
 use Rattle.reports.specs.declared.Best.{Best}
 use Rattle.reports.proofs.RowLaws.{chosen-there}
+use Rattle.reports.proofs.WholeLaws.{storedRun, runOf, own-run, other-run}
 use Rattle.meaning.specs.State as M
 use Rattle.meaning.specs.ViewChange.{filled, better, chosen, greatestCommit}
 use Rattle.meaning.specs.Recovery.{latestView}
@@ -265,42 +266,42 @@ module _ (run : ℕ → List ℕ) where
 
 -- every log is stored
 module _ (u : Setup) (stored : List ℕ) where
-  abbrev pub storedRun : ℕ → List ℕ
-  storedRun i = drop (storedPlace (u .room) i) stored
+  abbrev here : ℕ → List ℕ
+  here i = storedRun u stored i
 
   pub stored-filled : (l : List Report) → filled (placed (reportAt u stored) 0 l) ≡ filledIn l
   unfolding reportAt heldAt
-  stored-filled l = reports-filled storedRun l
+  stored-filled l = reports-filled here l
 
   pub stored-greatest : (l : List Report) → greatestCommit (placed (reportAt u stored) 0 l) ≡ greatestIn l
   unfolding reportAt heldAt
-  stored-greatest l = reports-greatest storedRun l
+  stored-greatest l = reports-greatest here l
 
   pub stored-chosen : (l : List Report) → 0 < filledIn l
-      → chosen (placed (reportAt u stored) 0 l) ≡ some (reportIn storedRun (chosenFrom 0 l .id) (chosenFrom 0 l .report))
+      → chosen (placed (reportAt u stored) 0 l) ≡ some (reportIn (storedRun u stored) (chosenFrom 0 l .id) (chosenFrom 0 l .report))
   unfolding reportAt heldAt
-  stored-chosen l h = reports-chosen storedRun l h
+  stored-chosen l h = reports-chosen here l h
 
   pub stored-answers : (l : List Report) → filled (placed (responseAt u stored) 0 l) ≡ filledIn l
   unfolding responseAt heldAt
-  stored-answers l = answers-filled storedRun l
+  stored-answers l = answers-filled here l
 
   pub stored-latest : (l : List Report) → latestView (placed (responseAt u stored) 0 l) ≡ latestIn l
   unfolding responseAt heldAt
-  stored-latest l = answers-latest storedRun l
+  stored-latest l = answers-latest here l
 
   -- all but the new one's, that of replica id
   module _ (id : ℕ) (fresh : List ℕ) where
-    abbrev pub runOf : ℕ → List ℕ
-    runOf i = if eqb i id then fresh else storedRun i
+    abbrev run : ℕ → List ℕ
+    run i = runOf u stored id fresh i
 
     pub chosen-reads : (b : Best) → Lies b id (u .room) stored fresh
-        → entries (b .report .op .0) (chosenLog b id (u .room) stored fresh) ≡ entries (b .report .op .0) (runOf (b .id))
+        → entries (b .report .op .0) (chosenLog b id (u .room) stored fresh) ≡ entries (b .report .op .0) (runOf u stored id fresh (b .id))
     unfolding chosenLog logFrom
     chosen-reads b h =
         split₂ (λ (x y : List ℕ). entries k x ≡ entries k y) (eqb (b .id) id) (eqb (b .id) id) _ _ _ _ refl
         (λ e. cells-taken 32 entryOf encodeEntry EntryFits entry-codec k fresh (h .new e))
-        (λ e. cells-taken 32 entryOf encodeEntry EntryFits entry-codec k (storedRun (b .id)) (omega (arith, h .old, length-drop at stored)))
+        (λ e. cells-taken 32 entryOf encodeEntry EntryFits entry-codec k (here (b .id)) (omega (arith, h .old, length-drop at stored)))
       where
         k : ℕ
         k = b .report .op .0
@@ -308,31 +309,25 @@ module _ (u : Setup) (stored : List ℕ) where
         at : ℕ
         at = storedPlace (u .room) (b .id)
 
-    own-run : runOf id ≡ fresh
-    own-run = if-true _ fresh (storedRun id) (eq-eqb id id refl)
-
-    other-run : (j : ℕ) → (j ≡ id → ⊥) → runOf j ≡ storedRun j
-    other-run j q = if-false _ fresh (storedRun j) (ne-eqb j id q)
-
     module _ (l : List Report) (n : ℕ) (d : Report) (below : id < n) (few : n ≤ length l) (there : d .there ≡ true) where
       -- do_view_change_from.insert
       pub with-new :
           set (placed (reportAt u stored) 0 (take n l)) id (some (reportIn (λ _. fresh) id d))
-          ≡ placed (ifThere (reportIn runOf)) 0 (take n (set l id d))
+          ≡ placed (ifThere (reportIn (runOf u stored id fresh))) 0 (take n (set l id d))
       unfolding reportAt heldAt
       with-new =
           sym
-          (placed-set (ifThere (reportIn runOf)) l n id d below few
-          ∙ placed-other (ifThere (reportIn runOf)) (reportAt u stored) id (take n l) _ (λ j e q. rw (other-run j q))
-          ∙ ap (set (placed (reportAt u stored) 0 (take n l)) id) (if-true _ _ _ there ∙ rw own-run))
+          (placed-set (ifThere (reportIn run)) l n id d below few
+          ∙ placed-other (ifThere (reportIn run)) (reportAt u stored) id (take n l) _ (λ j e q. rw (other-run u stored id fresh j q))
+          ∙ ap (set (placed (reportAt u stored) 0 (take n l)) id) (if-true _ _ _ there ∙ rw (own-run u stored id fresh)))
 
       -- recovery_responses.insert
       pub with-answer :
           set (placed (responseAt u stored) 0 (take n l)) id (some (responseIn (λ _. fresh) id d))
-          ≡ placed (ifThere (responseIn runOf)) 0 (take n (set l id d))
+          ≡ placed (ifThere (responseIn (runOf u stored id fresh))) 0 (take n (set l id d))
       unfolding responseAt heldAt
       with-answer =
           sym
-          (placed-set (ifThere (responseIn runOf)) l n id d below few
-          ∙ placed-other (ifThere (responseIn runOf)) (responseAt u stored) id (take n l) _ (λ j e q. rw (other-run j q))
-          ∙ ap (set (placed (responseAt u stored) 0 (take n l)) id) (if-true _ _ _ there ∙ rw own-run))
+          (placed-set (ifThere (responseIn run)) l n id d below few
+          ∙ placed-other (ifThere (responseIn run)) (responseAt u stored) id (take n l) _ (λ j e q. rw (other-run u stored id fresh j q))
+          ∙ ap (set (placed (responseAt u stored) 0 (take n l)) id) (if-true _ _ _ there ∙ rw (own-run u stored id fresh)))

@@ -189,11 +189,11 @@ did-anyhow c acks d b m ms rs h =
     }
 
 -- a run that is written as a whole
-over-all : (w s : List ℕ) → length w ≡ length s → over w s ≡ w
+pub over-all : (w s : List ℕ) → length w ≡ length s → over w s ≡ w
 unfolding over
 over-all w s e = rw (e, drop-length s) (append-nil w)
 
-by-not : {A : Type 0} (b : Bool) (x y : A) → (if b then x else y) ≡ (if not b then y else x)
+pub by-not : {A : Type 0} (b : Bool) (x y : A) → (if b then x else y) ≡ (if not b then y else x)
 unfolding if_then_else_
 by-not true x y = refl
 by-not false x y = refl

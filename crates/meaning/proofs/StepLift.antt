@@ -46,7 +46,7 @@ use Rattle.meaning.specs.Sending.{sentBytes, messagesOut, repliesOut, se
 use Rattle.meaning.specs.Book.{appendAll, commitAll, due, commitUpTo}
 use Rattle.meaning.specs.Normal.{heardBy, acceptFromPrimary}
 use Rattle.meaning.specs.ViewChange.{noReports, clearedVotes, clearedStore, catchingUpWith, catchUpWithView}
-use Rattle.meaning.specs.Layout.{Runs, reportAt, placed, storeOf, bookOf, modelOf}
+use Rattle.meaning.specs.Layout.{Runs, reportAt, responseAt, placed, storeOf, bookOf, modelOf}
 use Rattle.meaning.specs.Steps.{fitted}
 use Rattle.meaning.specs.Shown.{Given, Step, Grew, Did, Shown}
 use Rattle.meaning.specs.Shown.Grew.{more}
@@ -110,12 +110,12 @@ one-message to x = append-nil (encode to x [])
 
 module _ (c : Given) (t : Replica) (b : Book) (at : Op) (m′ : State) (same : t .setup ≡ c .state .setup)
     (reads : modelOf t (c .runs) (m′ .book .table) (m′ .book .applied) ≡ m′) (grew : Grew b false (m′ .book)) where
-  get-state-bytes : messagesOut (sendGetState (c .state .setup) m′ (at .0)) ≡ encode (primaryOf (t .setup .n) (t .view)) (GetState (t .setup .id) (t .view) at) []
+  pub get-state-bytes : messagesOut (sendGetState (c .state .setup) m′ (at .0)) ≡ encode (primaryOf (t .setup .n) (t .view)) (GetState (t .setup .id) (t .view) at) []
   unfolding sendGetState toPrimary primary modelOf
   get-state-bytes = one-message (primaryOf (c .state .setup .n) (viewOf (m′ .place .view))) (GetState (c .state .setup .id) (viewOf (m′ .place .view)) at)
       ∙ rw (← same, ← reads)
 
-  get-state-long : length (encode (primaryOf (t .setup .n) (t .view)) (GetState (t .setup .id) (t .view) at) []) ≡ 16
+  pub get-state-long : length (encode (primaryOf (t .setup .n) (t .view)) (GetState (t .setup .id) (t .view) at) []) ≡ 16
   unfolding sizeOf lengthOf
   get-state-long = encode-length _ (GetState (t .setup .id) (t .view) at) [] refl
 
@@ -177,6 +177,11 @@ none-placed f h i (suc k) = rw (h i, none-placed f h (suc i) k)
 pub reports-cleared : (u : Setup) (stored : List ℕ) → u .n ≤ 7 → placed (reportAt u stored) 0 (take (u .n) (S.noReports .rows)) ≡ replicate (u .n) none
 unfolding reportAt if_then_else_
 reports-cleared u stored h = rw (take-same (u .n) 7 noReport h) (none-placed (reportAt u stored) (λ i. refl) 0 (u .n))
+
+pub responses-cleared : (u : Setup) (stored : List ℕ) → u .n ≤ 7
+    → placed (responseAt u stored) 0 (take (u .n) (S.noReports .rows)) ≡ replicate (u .n) none
+unfolding responseAt if_then_else_
+responses-cleared u stored h = rw (take-same (u .n) 7 noReport h) (none-placed (responseAt u stored) (λ i. refl) 0 (u .n))
 
 module _ (s : Replica) (x : Runs) (table : List Row) (applied : List Entry) where
   abbrev m : State

@@ -76,7 +76,7 @@ three-tests true false d = refl
 three-tests false b d = refl
 
 -- a choice by joined tests, one after the other
-by-or : {A : Type 0} (a b : Bool) (x y : A) → (if a or b then x else y) ≡ (if a then x else if b then x else y)
+pub by-or : {A : Type 0} (a b : Bool) (x y : A) → (if a or b then x else y) ≡ (if a then x else if b then x else y)
 unfolding if_then_else_ _or_
 by-or true b x y = refl
 by-or false b x y = refl

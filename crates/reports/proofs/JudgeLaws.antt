@@ -4,7 +4,8 @@
 --     passes, shortens, alters, begins                   each way out of `weighed`
 --     chosen-lies, primary-lies                          the reports that are weighed lie inside what is lent
 --     waits, weighs; absent, silent, older, tells; too-few, behind, asks-primary    each way out of the judges
---     weighed-begins, begin-lies, response-lies          what a view begins with, or a recovery ends with
+--     weighed-begins, begins-within, begin-lies          what a view begins with
+--     response-begins, response-lies, response-within    what a recovery ends with
 -- Assumes nothing.
 use mathlib.Core.Path.{_≡_, refl, ap, sym, _∙_, subst}
 use mathlib.Core.Bool.{Bool, true, false, not}
@@ -23,7 +24,7 @@ use Rattle.config.specs.Setup.{primaryOf}
 use Rattle.config.specs.Replicas.{quorumOf}
 use Rattle.config.proofs.SetupLaws.{primary-below}
 use Rattle.book.specs.Log.{keepsFirst}
-use Rattle.book.proofs.LogLaws.{keeps-short}
+use Rattle.book.proofs.LogLaws.{keeps-short, keeps-prefix}
 use Rattle.state.specs.State.{noReport}
 use Rattle.state.specs.Lengths.{storedPlace}
 use Rattle.state.specs.declared.Report.{Report}
@@ -150,6 +151,14 @@ module _ (b : Best) (g : Op) (id room c : ℕ) (ours stored fresh : List ℕ) wh
       number : Begin b g ≡ Begin best commit → commit ≡ g
       number e = cc
 
+  -- neither our commit number nor the new one passes the log
+  pub begins-within : (best : Best) (commit : Op) → Begins best commit
+      → (c ≤ best .report .op .0) × (commit .0 ≤ best .report .op .0)
+  begins-within best commit z =
+      let k = keeps-prefix c ours (b .report .op .0) (chosenLog b id room stored fresh) (z .keeps) in
+      subst (λ (x : Best). (c ≤ x .report .op .0) × (commit .0 ≤ x .report .op .0)) (sym (z .same-report))
+      (k .0, subst (λ (o : Op). o .0 ≤ b .report .op .0) (sym (z .same-commit)) (z .within))
+
 -- ---- `judged`
 
 module _ (t : Reports) (n id room c : ℕ) (ours stored fresh : List ℕ) where
@@ -220,26 +229,32 @@ module _ (t : Reports) (n id room view c : ℕ) (ours stored fresh : List ℕ) (
       p ∙ sym (if-false _ _ _ (rw (← ek, ← eq) (le-ltb k q h)) ∙ if-false _ _ _ (rw (← e) (le-ltb v view l)) ∙ rw (← e))
 
 -- a recovery ends with the answer of the primary of the latest view, which was in that view
-pub response-lies : (t : Reports) (n id room view c : ℕ) (ours stored fresh : List ℕ) → Fits t n id room stored fresh → (b : Best) (g : Op)
-    → responded t n id room view c ours stored fresh ≡ Begin b g → Lies b id room stored fresh
-unfolding responded answered
-response-lies t n id room view c ours stored fresh f b g =
-    split P _ _ _ (λ _ e. absurd (wait e)) λ _.
-    split P _ _ _ (λ _ e. absurd (wait e)) λ _.
-    split P _ _ _ (λ _ e. absurd (wait e)) λ h.
-    split P _ _ _ (λ _ e. absurd (wait e)) λ _.
-    split P _ _ _
-    (λ _ e.
-    let z = weighed-begins p (p .report .commit) id room c ours stored fresh b g e in
-    subst (λ (x : Best). Lies x id room stored fresh) (sym (z .same-report))
-    (primary-lies t n id room stored fresh f (latestIn (take n (t .rows))) (not-false (p .report .there) h)))
-    λ _ e. absurd (wait e)
-  where
-    p : Best
-    p = primaryRow t n (latestIn (take n (t .rows)))
+module _ (t : Reports) (n id room view c : ℕ) (ours stored fresh : List ℕ) (b : Best) (g : Op)
+    (begun : responded t n id room view c ours stored fresh ≡ Begin b g) where
+  abbrev p : Best
+  p = primaryRow t n (latestIn (take n (t .rows)))
 
-    P : Judged → Type 0
-    P j = j ≡ Begin b g → Lies b id room stored fresh
+  pub response-begins : (p .report .there ≡ true) × Begins p (p .report .commit) id room c ours stored fresh b g
+  unfolding responded answered
+  response-begins =
+      split P _ _ _ (λ _ e. absurd (wait e)) (λ _.
+      split P _ _ _ (λ _ e. absurd (wait e)) (λ _.
+      split P _ _ _ (λ _ e. absurd (wait e)) (λ h.
+      split P _ _ _ (λ _ e. absurd (wait e)) (λ _.
+      split P _ _ _
+      (λ _ e. (not-false (p .report .there) h, weighed-begins p (p .report .commit) id room c ours stored fresh b g e))
+      (λ _ e. absurd (wait e)))))) begun
+    where
+      P : Judged → Type 0
+      P j = j ≡ Begin b g → (p .report .there ≡ true) × Begins p (p .report .commit) id room c ours stored fresh b g
 
-    wait : Wait ≡ Begin b g → ⊥
-    wait e = let q : _≡_ {A = ℕ} 0 1 = cc in omega arith
+      wait : Wait ≡ Begin b g → ⊥
+      wait e = let q : _≡_ {A = ℕ} 0 1 = cc in omega arith
+
+  pub response-lies : Fits t n id room stored fresh → Lies b id room stored fresh
+  response-lies f =
+      subst (λ (x : Best). Lies x id room stored fresh) (sym (response-begins .1 .same-report))
+      (primary-lies t n id room stored fresh f (latestIn (take n (t .rows))) (response-begins .0))
+
+  pub response-within : (c ≤ b .report .op .0) × (g .0 ≤ b .report .op .0)
+  response-within = begins-within p (p .report .commit) id room c ours stored fresh b g (response-begins .1)

@@ -1,2 +1,5 @@
 pub mod RowLaws
 pub mod JudgeLaws
+pub mod StoreLaws
+pub mod PlaceLaws
+pub mod WholeLaws

@@ -75,12 +75,12 @@ pub ok-end : (room : ℕ) (l : List Report) (n i : ℕ) → n ≤ i → reportsO
 unfolding reportsOk
 ok-end room l n i h = rw (drop-of-length-le (take n l) {i = i} (omega (arith, length-take n l)))
 
-both : (a b : Bool) → (if a then b else false) ≡ true → (a ≡ true) × (b ≡ true)
+pub both : (a b : Bool) → (if a then b else false) ≡ true → (a ≡ true) × (b ≡ true)
 unfolding if_then_else_
 both true b h = (refl, h)
 both false b h = absurd (false≢true h)
 
-row-ok-is : (room : ℕ) (d : Report) → reportOk room d ≡ true → d .there ≡ true → (d .op .0 ≤ room) × (d .commit .0 ≤ d .op .0)
+pub row-ok-is : (room : ℕ) (d : Report) → reportOk room d ≡ true → d .there ≡ true → (d .op .0 ≤ room) × (d .commit .0 ≤ d .op .0)
 unfolding reportOk
 row-ok-is room d h t =
     let q = sym (if-false (not (d .there)) true _ (ap not t)) ∙ h in

@@ -4,6 +4,7 @@ use state::Report;
 
 pub mod rows; // the rows: one set, counted, chosen among, refusal 1 on them
 pub mod judge; // whether a view begins, or a recovery ends, and with which log
+pub mod store; // a log kept at its place, or installed
 
 // A report, and whose it is.
 pub struct Best {

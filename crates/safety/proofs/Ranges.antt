@@ -1,19 +1,19 @@
 -- The numbers of every state that calls lead to stay in their ranges: each handler, any call, any calls. Assumes nothing.
-use Prim.Native.Nat.{ℕ, zero, suc, _+_, _-_, _^_, _≤_, _<_}
-use native.Mathlib.Nat.{le-of-lt, lt-of-lt-of-le}
+use Prim.Native.Nat.{ℕ, zero, suc, _+_, _-_, _≤_, _<_}
+use native.Mathlib.Nat.{le-of-lt}
 use native.Mathlib.Omega.{arith}
 use mathlib.Core.Path.{_≡_, refl}
 use mathlib.Core.Bool.{Bool, true, false}
 use mathlib.Core.List.{List, [], _∷_}
 use mathlib.Core.Option.{Option, none, some}
-use lib.ListN.{length, take, drop, length-take}
+use lib.ListN.{length, take, drop}
 use borrow.Author.Tests.{ltb-true, ltb-false, leb-false}
 use Rattle.numbers.specs.Words.{if_then_else_}
 use Rattle.numbers.specs.Numbers.{num, Bytes}
 use Rattle.numbers.specs.Cells.{cells}
 use Rattle.numbers.proofs.WordLaws.{split, or-left, and-left}
-use Rattle.numbers.proofs.NumberLaws.{be-lt, pow-le256, take-bytes, drop-bytes}
-use Rattle.entries.specs.Entries.{entryOf, entries, EntryFits}
+use Rattle.numbers.proofs.NumberLaws.{drop-bytes}
+use Rattle.entries.specs.Entries.{entries, EntryFits}
 use Rattle.entries.specs.declared.Entry.{Entry}
 use Rattle.config.specs.Setup.{setupOk}
 use Rattle.config.specs.declared.Setup.{Setup}
@@ -43,6 +43,7 @@ use Rattle.meaning.specs.ViewChange.{maybeSendDoViewChange, startViewChange, on
 use Rattle.meaning.specs.Recovery.{latestView, forgotten, onRecovery, recovered, recoverWith, recoverFrom, recoverLatest, onRecoveryResponse}
 use Rattle.meaning.specs.Steps.{fitted, carriedLog, heldIn, stateOk, onMessage, onChecked, primaryTick, nextView, followTick, changeTick, onIdle, onFrame, onTick, newAt}
 use Rattle.meaning.proofs.BookLaws.{commitAll-log}
+use Rattle.book.proofs.EntryRules.{num-fits, entry-fits}
 use Rattle.safety.specs.Demand.{Call, answer, run, Created, At, Every, Safe}
 use Rattle.safety.specs.Demand.Call.{frame, tick}
 use Rattle.safety.specs.Ranges.{All, BytesOf, BytesIn, HeldFits, ReportFits, ResponseFits, Ranges}
@@ -355,25 +356,7 @@ module _ (u : Setup) (own : u .id < u .n) where
 
 -- ---- what bytes say fits
 
--- the number of k places, some of which may lie past the end
-num-fits : (k a : ℕ) (s : List ℕ) → Bytes s → num k a s < 256 ^ k
-unfolding num
-num-fits k a s b =
-    let e : length (take k (drop a s)) ≤ k = simp length-take (omega arith) in
-    lt-of-lt-of-le (be-lt (take k (drop a s)) (take-bytes k (drop a s) (drop-bytes a s b))) (pow-le256 e)
-
-entry-fits : (s : List ℕ) → Bytes s → EntryFits (entryOf s)
-unfolding entryOf
-entry-fits s b =
-    record {
-      client = num-fits 8 0 s b;
-      request = num-fits 8 8 s b;
-      operation = num-fits 1 16 s b;
-      member = num-fits 4 20 s b;
-      cents = num-fits 8 24 s b;
-    }
-
-entries-fit : (k : ℕ) (s : List ℕ) → Bytes s → All EntryFits (entries k s)
+pub entries-fit : (k : ℕ) (s : List ℕ) → Bytes s → All EntryFits (entries k s)
 unfolding cells
 entries-fit zero s b = tt
 entries-fit (suc k) s b = (entry-fits s b, entries-fit k (drop 32 s) (drop-bytes 32 s b))

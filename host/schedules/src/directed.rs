@@ -6,13 +6,13 @@ use crate::run::{Call, Run, Setup, Start};
 use vsr_rs::{LogEntry, Message, RecoveryState};
 
 /// How the replica of a directed run is made: new, or recovering in a view, with nonce 1.
-const NEW: Start = Start::New;
-const fn back(view: usize) -> Start {
+pub const NEW: Start = Start::New;
+pub const fn back(view: usize) -> Start {
     Start::Back { view, nonce: 1 }
 }
 
 /// A fee of a client, with this request number; the member is the client.
-fn fee(client: u64, request: u64) -> Entry {
+pub fn fee(client: u64, request: u64) -> Entry {
     Entry {
         client,
         request,
@@ -22,7 +22,7 @@ fn fee(client: u64, request: u64) -> Entry {
     }
 }
 
-fn logged(entries: &[Entry]) -> Vec<LogEntry<Entry>> {
+pub fn logged(entries: &[Entry]) -> Vec<LogEntry<Entry>> {
     let entry = |e: &Entry| LogEntry {
         client_id: e.client as usize,
         request_number: e.request as usize,
@@ -31,7 +31,7 @@ fn logged(entries: &[Entry]) -> Vec<LogEntry<Entry>> {
     entries.iter().map(entry).collect()
 }
 
-fn request(op: Entry) -> Fees {
+pub fn request(op: Entry) -> Fees {
     Message::Request {
         client_id: op.client as usize,
         request_number: op.request as usize,
@@ -39,7 +39,7 @@ fn request(op: Entry) -> Fees {
     }
 }
 
-fn prepare(view_number: usize, op_number: usize, commit_number: usize, op: Entry) -> Fees {
+pub fn prepare(view_number: usize, op_number: usize, commit_number: usize, op: Entry) -> Fees {
     Message::Prepare {
         view_number,
         op_number,
@@ -50,7 +50,7 @@ fn prepare(view_number: usize, op_number: usize, commit_number: usize, op: Entry
     }
 }
 
-fn prepare_ok(view_number: usize, op_number: usize, replica_id: usize) -> Fees {
+pub fn prepare_ok(view_number: usize, op_number: usize, replica_id: usize) -> Fees {
     Message::PrepareOk {
         view_number,
         op_number,
@@ -58,14 +58,19 @@ fn prepare_ok(view_number: usize, op_number: usize, replica_id: usize) -> Fees {
     }
 }
 
-fn commit(view_number: usize, commit_number: usize) -> Fees {
+pub fn commit(view_number: usize, commit_number: usize) -> Fees {
     Message::Commit {
         view_number,
         commit_number,
     }
 }
 
-fn new_state(view_number: usize, start: usize, entries: &[Entry], commit_number: usize) -> Fees {
+pub fn new_state(
+    view_number: usize,
+    start: usize,
+    entries: &[Entry],
+    commit_number: usize,
+) -> Fees {
     Message::NewState {
         view_number,
         log: logged(entries),
@@ -75,7 +80,7 @@ fn new_state(view_number: usize, start: usize, entries: &[Entry], commit_number:
     }
 }
 
-fn start_view_change(view_number: usize, replica_id: usize) -> Fees {
+pub fn start_view_change(view_number: usize, replica_id: usize) -> Fees {
     Message::StartViewChange {
         view_number,
         replica_id,
@@ -83,7 +88,13 @@ fn start_view_change(view_number: usize, replica_id: usize) -> Fees {
 }
 
 /// A DoViewChange of a sender, with its last normal view, log and commit number.
-fn do_view_change(view: usize, sender: usize, last: usize, log: &[Entry], commit: usize) -> Fees {
+pub fn do_view_change(
+    view: usize,
+    sender: usize,
+    last: usize,
+    log: &[Entry],
+    commit: usize,
+) -> Fees {
     Message::DoViewChange {
         view_number: view,
         replica_id: sender,
@@ -94,7 +105,7 @@ fn do_view_change(view: usize, sender: usize, last: usize, log: &[Entry], commit
     }
 }
 
-fn start_view(view_number: usize, log: &[Entry], commit_number: usize) -> Fees {
+pub fn start_view(view_number: usize, log: &[Entry], commit_number: usize) -> Fees {
     Message::StartView {
         view_number,
         log: logged(log),
@@ -104,7 +115,7 @@ fn start_view(view_number: usize, log: &[Entry], commit_number: usize) -> Fees {
 }
 
 /// A RecoveryResponse with nonce 1, and with a log and commit number, if any.
-fn response(view_number: usize, replica_id: usize, state: Option<(&[Entry], usize)>) -> Fees {
+pub fn response(view_number: usize, replica_id: usize, state: Option<(&[Entry], usize)>) -> Fees {
     Message::RecoveryResponse {
         view_number,
         nonce: 1,

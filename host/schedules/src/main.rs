@@ -5,17 +5,20 @@
 //! ```text
 //! schedules SEED ROUNDS [MOST]
 //! schedules client SEED CALLS
+//! schedules examples
 //! ```
 //!
 //! Each round plays one cluster of 3, 4, 5 and 7 replicas, and adversaries on single replicas of them. With MOST only that
 //! many of their calls are kept, chosen so that as many different things as possible happen. The runs by hand come last.
-//! `client` plays the Rust's client instead, a run of CALLS calls for each number of replicas.
+//! `client` plays the Rust's client instead, a run of CALLS calls for each number of replicas. `examples` writes the directed
+//! examples: what their calls have to give is written beside them.
 
 mod adversary;
 mod choose;
 mod client;
 mod cluster;
 mod directed;
+mod examples;
 mod fees;
 mod frames;
 mod inside;
@@ -66,16 +69,19 @@ fn counts(runs: &[Run]) -> String {
     text
 }
 
-/// What the command line asks for: replicas, by seed, rounds and how many calls at most; or a client, by seed and calls.
+/// What the command line asks for: replicas, by seed, rounds and how many calls at most; a client, by seed and calls; or the
+/// directed examples.
 enum Asked {
     Replicas(u64, usize, usize),
     Client(u64, usize),
+    Examples,
 }
 
 fn asked() -> Option<Asked> {
     let words: Vec<String> = std::env::args().skip(1).collect();
     let words: Vec<&str> = words.iter().map(String::as_str).collect();
     match words.as_slice() {
+        ["examples"] => Some(Asked::Examples),
         ["client", seed, calls] => Some(Asked::Client(seed.parse().ok()?, calls.parse().ok()?)),
         [seed, rounds] => Some(Asked::Replicas(
             seed.parse().ok()?,
@@ -112,8 +118,15 @@ fn main() -> ExitCode {
     match asked() {
         Some(Asked::Replicas(seed, rounds, most)) => replicas(seed, rounds, most),
         Some(Asked::Client(seed, calls)) => print!("{}", client::trace(seed, calls)),
+        Some(Asked::Examples) => match examples::trace() {
+            Ok(trace) => print!("{trace}"),
+            Err(faults) => {
+                eprintln!("{faults}");
+                return ExitCode::FAILURE;
+            }
+        },
         None => {
-            eprintln!("usage: schedules SEED ROUNDS [MOST] | schedules client SEED CALLS");
+            eprintln!("usage: schedules SEED ROUNDS [MOST] | client SEED CALLS | examples");
             return ExitCode::from(2);
         }
     }

@@ -5,10 +5,11 @@
 //! the call: it panics (5 on a PrepareOk, else 7), its log has more than L entries (4) or no longer rises (6), its committed
 //! entries were altered (7), or its view passes 32 bits (8). Such a call is recorded as refused by that number, with the state
 //! as before, and the replica is made anew from the calls before it. So a number is this program's reading of document 01;
-//! that there is a refusal is seen in the Rust. 1, 2, 9 and 10 don't occur: areas are as long as what the Rust sent.
+//! that there is a refusal is seen in the Rust. 9 and 10 are told by what the Rust sent, where a call lends areas of its own
+//! lengths (`call_in`); else they are as long as what it sent. 2 is told by hand (`malformed`), 1 doesn't occur.
 
 use crate::fees::{Entry, Ledger, Outcome};
-use crate::frames::{entry_bytes, frame, hex, kind, refused, reply_frame, rising, Fees};
+use crate::frames::{self, entry_bytes, frame, hex, refused, reply_frame, rising, Fees};
 use crate::inside::{inside, Inside, Row};
 use std::fmt::Write;
 use std::panic::{self, AssertUnwindSafe};
@@ -45,7 +46,7 @@ pub struct Answer {
     pub replies: Vec<Reply<Outcome>>,
 }
 
-/// What kind of thing a call was: by this the calls to keep are chosen and counted. Kind 0 is a tick.
+/// What kind of thing a call was: by this the calls to keep are chosen and counted. Kind 0 is a tick, 12 a malformed frame.
 #[derive(Clone, Copy, PartialEq, Eq, PartialOrd, Ord)]
 pub struct Mark {
     pub before: usize,
@@ -112,20 +113,55 @@ impl Run {
 
     /// Gives the replica a call unless document 01 refuses it, and records both.
     pub fn call(&mut self, call: Call) -> Answer {
-        let before = status_number(self.replica.status());
+        let before = self.replica.status();
         let (code, answer) = self.attempt(&call);
-        let area = (answer.message_bytes().len(), answer.reply_bytes().len());
-        let lines = call.line(area) + &answer.line(code) + &state_line(self.setup, &self.replica);
+        let line = call.line(answer.lengths());
+        self.record(before, &line, call.kind(), code, &answer);
+        answer
+    }
+
+    /// The same with areas of these lengths, for messages and for replies: refused by 9 or 10 where what the Rust sends is longer.
+    pub fn call_in(&mut self, call: Call, areas: (usize, usize)) -> Answer {
+        let before = self.replica.status();
+        let (mut code, mut answer) = self.attempt(&call);
+        let (messages, replies) = answer.lengths();
+        if messages > areas.0 || replies > areas.1 {
+            code = if messages > areas.0 { 9 } else { 10 };
+            answer = Answer::default();
+            self.taken.pop();
+            self.remake();
+        }
+        self.record(before, &call.line(areas), call.kind(), code, &answer);
+        answer
+    }
+
+    /// Records bytes that are no frame of kinds 1 to 11, as refused by 2. The Rust has no frames, so it isn't asked.
+    pub fn malformed(&mut self, bytes: &[u8]) -> Answer {
+        let line = format!("M 0 0 {}\n", hex(bytes));
+        self.record(self.replica.status(), &line, 12, 2, &Answer::default());
+        Answer::default()
+    }
+
+    /// Keeps the lines of a call, with its answer and the state after it.
+    fn record(&mut self, before: Status, line: &str, kind: usize, code: usize, answer: &Answer) {
+        let state = state_line(self.setup, &self.replica);
         let mark = Mark {
-            before,
-            kind: call.kind(),
+            before: status_number(before),
+            kind,
             after: status_number(self.replica.status()),
             code,
-            sent: answer.messages.first().map_or(0, |(_, m)| kind(m)),
+            sent: answer.messages.first().map_or(0, |(_, m)| frames::kind(m)),
             replied: !answer.replies.is_empty(),
         };
+        let lines = line.to_string() + &answer.line(code) + &state;
         self.calls.push(Recorded { lines, mark });
-        answer
+    }
+
+    /// The state line after the last call.
+    pub fn state(&self) -> &str {
+        let last = self.calls.last();
+        let lines = last.map_or(&self.creation, |call| &call.lines);
+        lines.lines().last().expect("a state line")
     }
 
     /// The call's number and answer; a refused call leaves the replica as it was.
@@ -163,7 +199,7 @@ impl Call {
     /// 0 for a tick, else the frame's kind.
     fn kind(&self) -> usize {
         match self {
-            Call::Frame { message, .. } => kind(message),
+            Call::Frame { message, .. } => frames::kind(message),
             Call::Tick => 0,
         }
     }
@@ -202,14 +238,19 @@ impl Call {
 }
 
 impl Answer {
+    /// How many bytes the frames of all messages, and of all replies, have.
+    fn lengths(&self) -> (usize, usize) {
+        (self.message_bytes().len(), self.reply_bytes().len())
+    }
+
     /// The frames of all messages.
-    fn message_bytes(&self) -> Vec<u8> {
+    pub fn message_bytes(&self) -> Vec<u8> {
         let frames = self.messages.iter();
         frames.flat_map(|(to, m)| frame(*to, m)).collect()
     }
 
     /// The frames of all replies.
-    fn reply_bytes(&self) -> Vec<u8> {
+    pub fn reply_bytes(&self) -> Vec<u8> {
         self.replies.iter().flat_map(reply_frame).collect()
     }
 

@@ -1,0 +1,4 @@
+pub mod BeginLaws
+pub mod DecideLaws
+pub mod RecordLaws
+pub mod TellLaws

@@ -1,0 +1,206 @@
+-- Each arm of on_message's match, and each way out of on_message and on_idle, on plain variables, as the code's tests and calls give them.
+--     rest-none, rest-is           what stands behind the fields of a frame
+--     request-is .. response-is    an arm, from what its handler promises
+--     looks-not, looks             on_message
+--     leads-on, follows-on         a Normal replica's tick
+--     up-follows, waits, up-asks, asks    a tick whose wait is over, and one whose isn't
+--     normal-is, transfer-is, change-is, recovering-is    on_idle, by status
+-- Assumes nothing.
+use mathlib.Core.Path.{_≡_, refl, sym, ap, _∙_}
+use mathlib.Core.Bool.{Bool, true, false, not}
+use mathlib.Core.List.{List, []}
+use Prim.Native.Nat.{ℕ, _-_, _≤_, _<_}
+use native.Mathlib.Omega.{arith}
+use borrow.Author.Tests.{not-true, not-false}
+use lib.ListN.{length, take, drop, length-drop, drop-of-length-le}
+use lib.Seq.{take-all}
+use Rattle.numbers.specs.Words.{if_then_else_}
+use Rattle.numbers.specs.declared.View.{View}
+use Rattle.numbers.specs.declared.Op.{Op}
+use Rattle.numbers.proofs.WordLaws.{if-true, if-false}
+use Rattle.entries.specs.declared.Entry.{Entry}
+use Rattle.clock.specs.Clock.{tickOf}
+use Rattle.clock.specs.declared.Clock.{Clock}
+use Rattle.clock.specs.declared.Ticked.{Ticked}
+use Rattle.clock.specs.declared.Duty.the-variants.{Follow, Change}
+use Rattle.frames.specs.Messages.{carriedOf}
+use Rattle.frames.specs.Looks.{looksAt}
+use Rattle.frames.specs.declared.RecoveryState.{RecoveryState}
+use Rattle.frames.specs.declared.Message.{Message}
+use Rattle.frames.specs.declared.Message.the-variants.{Request, Prepare, PrepareOk, Commit, GetState, NewState, StartViewChange, DoViewChange, StartView, Recovery, RecoveryResponse}
+use Rattle.rows.specs.declared.Latest.{Latest}
+use Rattle.state.specs.State.{isNormal, isTransfer, isChanging, leads}
+use Rattle.state.specs.Answers.{quiet}
+use Rattle.state.specs.declared.Answer.{Answer}
+use Rattle.state.specs.declared.Replica.{Replica}
+use Rattle.book.specs.Runs.{money}
+use Rattle.steps.specs.Steps.{runs, left, Spoke, spoke}
+use Rattle.normal.specs.Request.{served, requestStep}
+use Rattle.normal.specs.Prepare.{prepareStep}
+use Rattle.normal.specs.PrepareOk.{counted, prepareOkStep}
+use Rattle.normal.specs.Commit.{commitStep}
+use Rattle.normal.specs.Tick.{primaryTick, backupTick}
+use Rattle.transfer.specs.GetState.{getStateStep}
+use Rattle.transfer.specs.NewState.{newStateStep}
+use Rattle.transfer.specs.Tick.{transferTick}
+use Rattle.view_change.specs.StartView.{joined, startViewStep}
+use Rattle.do_view_change.specs.Record.{Memory, memory, Recorded, recorded, onlySent, doViewChangeStep}
+use Rattle.voting.specs.Votes.{startViewChangeStep}
+use Rattle.voting.specs.Tick.{nextView, nextViewAsking, changeTick}
+use Rattle.recovery.specs.Recovery.{collected, recoveringTick, recoveryStep, responseStep}
+use Rattle.handlers.specs.Handlers.{ofServed, ofLeft, ofCounted, ofJoined, ofCollected, preparedBy, partOf, handled, messageStep, followTick, normalTick, askTick, changingTick, idleStep}
+
+-- ---- what stands behind the fields
+
+pub rest-none : (f : List ℕ) (at : ℕ) → length f < at → take (length f - length f) (drop (length f) f) ≡ drop at f
+rest-none f at h =
+    take-all (length f - length f) (drop (length f) f) (omega (arith, length-drop (length f) f))
+    ∙ drop-of-length-le f {i = length f} (omega arith) ∙ sym (drop-of-length-le f {i = at} (omega (arith, h)))
+
+pub rest-is : (f : List ℕ) (at : ℕ) → take (length f - at) (drop at f) ≡ drop at f
+rest-is f at = take-all (length f - at) (drop at f) (omega (arith, length-drop at f))
+
+module _ (s : Replica) (x : Message) (latest : Latest) (frame log results totals acks stored out reps : List ℕ) where
+  abbrev m : Memory
+  m = memory log results totals acks stored out reps
+
+  abbrev told : Recorded
+  told = handled x s latest frame m
+
+  arm : (y : Message) → x ≡ y → {d : Recorded} → d ≡ handled y s latest frame m → d ≡ told
+  arm y e p = p ∙ ap (λ (z : Message). handled z s latest frame m) (sym e)
+
+  -- ---- the match
+
+  pub request-is : (e : Entry) → x ≡ Request e → {a : Answer} {log′ acks′ out′ reps′ : List ℕ}
+      → served a log′ acks′ out′ reps′ ≡ requestStep s e latest log acks out reps
+      → recorded a (memory log′ results totals acks′ stored out′ reps′) ≡ told
+  unfolding handled
+  request-is e q p = arm (Request e) q (ap (ofServed m) p)
+
+  pub prepare-is : (v : View) (o c : Op) (e : Entry) → x ≡ Prepare v o c e → {a : Answer} {log′ results′ totals′ out′ : List ℕ}
+      → left a (runs log′ results′ totals′) out′ ≡ prepareStep s v (preparedBy o c e latest) (runs log results totals) out
+      → recorded a (memory log′ results′ totals′ acks stored out′ reps) ≡ told
+  unfolding handled
+  prepare-is v o c e q p = arm (Prepare v o c e) q (ap (ofLeft m) p)
+
+  pub prepare-ok-is : (v : View) (o : Op) (r : ℕ) → x ≡ PrepareOk v o r → {a : Answer} {results′ totals′ acks′ reps′ : List ℕ}
+      → counted a (money results′ totals′) acks′ reps′ ≡ prepareOkStep s v o r log (money results totals) acks reps
+      → recorded a (memory log results′ totals′ acks′ stored out reps′) ≡ told
+  unfolding handled
+  prepare-ok-is v o r q p = arm (PrepareOk v o r) q (ap (ofCounted m) p)
+
+  pub commit-is : (v : View) (c : Op) → x ≡ Commit v c → {a : Answer} {results′ totals′ out′ : List ℕ}
+      → left a (runs log results′ totals′) out′ ≡ commitStep s v c (runs log results totals) out
+      → recorded a (memory log results′ totals′ acks stored out′ reps) ≡ told
+  unfolding handled
+  commit-is v c q p = arm (Commit v c) q (ap (ofLeft m) p)
+
+  pub get-state-is : (r : ℕ) (v : View) (o : Op) → x ≡ GetState r v o → {a : Answer} {out′ : List ℕ}
+      → spoke a out′ ≡ getStateStep s r v o log out → recorded a (memory log results totals acks stored out′ reps) ≡ told
+  unfolding handled
+  get-state-is r v o q p = arm (GetState r v o) q (ap (onlySent m) p)
+
+  pub new-state-is : (v : View) (a z c : Op) → x ≡ NewState v a z c → {b : Answer} {log′ results′ totals′ out′ : List ℕ}
+      → left b (runs log′ results′ totals′) out′ ≡ newStateStep s v (partOf a z c) (drop 23 frame) (runs log results totals) out
+      → recorded b (memory log′ results′ totals′ acks stored out′ reps) ≡ told
+  unfolding handled
+  new-state-is v a z c q p = arm (NewState v a z c) q (ap (ofLeft m) p)
+
+  pub start-view-change-is : (v : View) (r : ℕ) → x ≡ StartViewChange v r → {d : Recorded} → d ≡ startViewChangeStep s v r m → d ≡ told
+  unfolding handled
+  start-view-change-is v r q p = arm (StartViewChange v r) q p
+
+  pub do-view-change-is : (v : View) (r : ℕ) (l : View) (o c : Op) → x ≡ DoViewChange v r l o c → {d : Recorded}
+      → d ≡ doViewChangeStep s v r l o c (drop 24 frame) m → d ≡ told
+  unfolding handled
+  do-view-change-is v r l o c q p = arm (DoViewChange v r l o c) q p
+
+  pub start-view-is : (v : View) (o c : Op) → x ≡ StartView v o c → {a : Answer} {log′ results′ totals′ acks′ out′ : List ℕ}
+      → joined a (runs log′ results′ totals′) acks′ out′ ≡ startViewStep s v o c (drop 19 frame) (runs log results totals) acks out
+      → recorded a (memory log′ results′ totals′ acks′ stored out′ reps) ≡ told
+  unfolding handled
+  start-view-is v o c q p = arm (StartView v o c) q (ap (ofJoined m) p)
+
+  pub recovery-is : (r k : ℕ) (v : View) → x ≡ Recovery r k v → {a : Answer} {out′ : List ℕ} → spoke a out′ ≡ recoveryStep s r k v log out
+      → recorded a (memory log results totals acks stored out′ reps) ≡ told
+  unfolding handled
+  recovery-is r k v q p = arm (Recovery r k v) q (ap (onlySent m) p)
+
+  pub response-is : (v : View) (k r : ℕ) (t : RecoveryState) → x ≡ RecoveryResponse v k r t → {a : Answer} {log′ results′ totals′ stored′ : List ℕ}
+      → collected a (runs log′ results′ totals′) stored′ ≡ responseStep s v k r t (drop 29 frame) (runs log results totals) stored
+      → recorded a (memory log′ results′ totals′ acks stored′ out reps) ≡ told
+  unfolding handled
+  response-is v k r t q p = arm (RecoveryResponse v k r t) q (ap (ofCollected m) p)
+
+  -- ---- on_message
+
+  pub looks-not : {a : Answer} (b : Bool) → b ≡ looksAt (s .status) (carriedOf x .kind) → not b ≡ true → a ≡ quiet s
+      → recorded a m ≡ messageStep x s latest frame m
+  unfolding messageStep
+  looks-not b e h p = ap (λ (y : Answer). recorded y m) p ∙ sym (if-false _ _ _ (sym e ∙ not-true b h))
+
+  pub looks : {d : Recorded} (b : Bool) → b ≡ looksAt (s .status) (carriedOf x .kind) → not b ≡ false → d ≡ told
+      → d ≡ messageStep x s latest frame m
+  unfolding messageStep
+  looks b e h p = p ∙ sym (if-true _ _ _ (sym e ∙ not-false b h))
+
+-- ---- ticks
+
+module _ (s : Replica) (out : List ℕ) {d : Spoke} where
+  pub leads-on : (log : List ℕ) (b : Bool) → b ≡ leads s → b ≡ true → d ≡ primaryTick s log out → d ≡ normalTick s log out
+  unfolding normalTick
+  leads-on log b e h p = p ∙ sym (if-true _ _ _ (sym e ∙ h))
+
+  pub follows-on : (log : List ℕ) (b : Bool) → b ≡ leads s → b ≡ false → (t : Ticked) → t ≡ tickOf (s .setup .timeout) Follow (s .clock)
+      → d ≡ followTick s t out → d ≡ normalTick s log out
+  unfolding normalTick
+  follows-on log b e h t q p = p ∙ ap (λ (z : Ticked). followTick s z out) q ∙ sym (if-false _ _ _ (sym e ∙ h))
+
+  module _ (t : Ticked) where
+    pub up-follows : t .up ≡ true → d ≡ nextView s (t .clock) out → d ≡ followTick s t out
+    unfolding followTick
+    up-follows h p = p ∙ sym (if-true _ _ _ h)
+
+    pub waits : t .up ≡ false → d ≡ spoke (backupTick s (t .clock)) out → d ≡ followTick s t out
+    unfolding followTick
+    waits h p = p ∙ sym (if-false _ _ _ h)
+
+    pub up-asks : t .up ≡ true → d ≡ nextViewAsking s (t .clock) out → d ≡ askTick s t out
+    unfolding askTick
+    up-asks h p = p ∙ sym (if-true _ _ _ h)
+
+    pub asks : t .up ≡ false → d ≡ transferTick s (t .clock) out → d ≡ askTick s t out
+    unfolding askTick
+    asks h p = p ∙ sym (if-false _ _ _ h)
+
+module _ (s : Replica) (log results totals acks stored out reps : List ℕ) where
+  abbrev k : Memory
+  k = memory log results totals acks stored out reps
+
+  module _ (n : Bool) (ne : n ≡ isNormal (s .status)) where
+    pub normal-is : n ≡ true → {a : Answer} {out′ : List ℕ} → spoke a out′ ≡ normalTick s log out
+        → recorded a (memory log results totals acks stored out′ reps) ≡ idleStep s k
+    unfolding idleStep
+    normal-is h p = ap (onlySent k) p ∙ sym (if-true _ _ _ (sym ne ∙ h))
+
+    module _ (h : n ≡ false) (f : Bool) (fe : f ≡ isTransfer (s .status)) where
+      pub transfer-is : f ≡ true → (t : Ticked) → t ≡ tickOf (s .setup .timeout) Follow (s .clock) → {a : Answer} {out′ : List ℕ}
+          → spoke a out′ ≡ askTick s t out → recorded a (memory log results totals acks stored out′ reps) ≡ idleStep s k
+      unfolding idleStep
+      transfer-is g t q p =
+          ap (onlySent k) (p ∙ ap (λ (z : Ticked). askTick s z out) q) ∙ sym (if-false _ _ _ (sym ne ∙ h) ∙ if-true _ _ _ (sym fe ∙ g))
+
+      module _ (g : f ≡ false) (b : Bool) (be : b ≡ isChanging (s .status)) where
+        pub change-is : b ≡ true → (t : Ticked) → t ≡ tickOf (s .setup .timeout) Change (s .clock) → {d : Recorded}
+            → d ≡ changeTick s (t .clock) (t .up) k → d ≡ idleStep s k
+        unfolding idleStep changingTick
+        change-is i t q p =
+            p ∙ ap (λ (z : Ticked). changeTick s (z .clock) (z .up) k) q
+            ∙ sym (if-false _ _ _ (sym ne ∙ h) ∙ if-false _ _ _ (sym fe ∙ g) ∙ if-true _ _ _ (sym be ∙ i))
+
+        pub recovering-is : b ≡ false → {a : Answer} {out′ : List ℕ} → spoke a out′ ≡ recoveringTick s out
+            → recorded a (memory log results totals acks stored out′ reps) ≡ idleStep s k
+        unfolding idleStep
+        recovering-is i p =
+            ap (onlySent k) p ∙ sym (if-false _ _ _ (sym ne ∙ h) ∙ if-false _ _ _ (sym fe ∙ g) ∙ if-false _ _ _ (sym be ∙ i))

@@ -1,0 +1,127 @@
+-- A refused Request, Prepare, PrepareOk, Commit, GetState or NewState leaves the state and every lent byte as they were; so does the refused tick of
+-- a Normal primary. Assumes nothing.
+use Prim.Native.Nat.{ℕ, _-_}
+use mathlib.Core.Path.{refl}
+use mathlib.Core.Bool.{Bool, true, false}
+use mathlib.Core.List.{List}
+use lib.ListN.{length, getD}
+use Rattle.numbers.specs.declared.View.{View}
+use Rattle.numbers.specs.declared.Op.{Op}
+use Rattle.numbers.proofs.WordLaws.{split}
+use Rattle.entries.specs.declared.Entry.{Entry}
+use Rattle.rows.specs.declared.Latest.{Latest}
+use Rattle.state.specs.declared.Replica.{Replica}
+use Rattle.steps.specs.Steps.{acceptOf}
+use Rattle.normal.specs.Request as Request
+use Rattle.normal.specs.Request.{requestStep}
+use Rattle.normal.specs.Prepare as Prepare
+use Rattle.normal.specs.Prepare.{appendedBy, takenPrepare, prepareStep}
+use Rattle.normal.specs.PrepareOk as PrepareOk
+use Rattle.normal.specs.PrepareOk.{Counted, prepareOkStep}
+use Rattle.normal.specs.Commit.{takenCommit, commitStep}
+use Rattle.normal.specs.Tick.{primaryTick}
+use Rattle.normal.specs.declared.prepare.Prepared.{Prepared}
+use Rattle.normal.specs.declared.prepare.Verdict.{Verdict}
+use Rattle.normal.specs.declared.prepare.Verdict.the-variants.{Transfer, Again, Refuse, Append}
+use Rattle.normal.specs.declared.prepare_ok.Count.{Count}
+use Rattle.normal.specs.declared.prepare_ok.Count.the-variants as Counts
+use Rattle.normal.specs.declared.request.Call.{Call}
+use Rattle.normal.specs.declared.request.Call.the-variants as Calls
+use Rattle.transfer.specs.GetState.{getStateStep}
+use Rattle.transfer.specs.NewState.{useOf, extended, filled, installed, byUse, newStateStep}
+use Rattle.transfer.specs.declared.Part.{Part}
+use Rattle.transfer.specs.declared.Use.{Use}
+use Rattle.transfer.specs.declared.Use.the-variants.{Ignore, Hear, Fill, Install}
+use Rattle.do_view_change.specs.Record.{Memory}
+use Rattle.handlers.specs.Handlers.{ofServed, ofCounted}
+use Rattle.handlers.proofs.RefusedSteps.{Untouched, Speaks, Leaves, done, refused, acked-done, transferred-untouched, deferred-untouched, acked-untouched}
+
+module _ (s : Replica) (m : Memory) where
+  -- ---- Request
+
+  call-untouched : (e : Entry) (latest : Latest) (k : Call)
+      → Untouched s m (ofServed m (Request.byCall k s e latest (m .runs .log) (m .acks) (m .out) (m .reps)))
+  unfolding Request.byCall Request.resent Request.accepted
+  call-untouched e latest Calls.Nothing = done s m refl
+  call-untouched e latest Calls.Resend = done s m refl
+  call-untouched e latest (Calls.Refuse k) = refused s m k
+  call-untouched e latest Calls.Append = done s m refl
+
+  pub request-untouched : (e : Entry) (latest : Latest)
+      → Untouched s m (ofServed m (requestStep s e latest (m .runs .log) (m .acks) (m .out) (m .reps)))
+  unfolding requestStep
+  request-untouched e latest = call-untouched e latest (Request.verdictOf s e latest (length (m .out)) (length (m .reps)))
+
+  -- ---- Prepare
+
+  verdict-untouched : (p : Prepared) (d : Verdict) → Leaves s m (Prepare.byVerdict d s p (m .runs) (m .out))
+  unfolding Prepare.byVerdict appendedBy
+  verdict-untouched p Transfer = transferred-untouched s m
+  verdict-untouched p Again = acked-untouched s m _ _ _
+  verdict-untouched p (Refuse k) = refused s m k
+  verdict-untouched p Append = split (Leaves s m) _ _ _ (λ _. refused s m 9) (λ e. done s m (acked-done s _ _ _ _ (m .out) e))
+
+  pub prepare-untouched : (v : View) (p : Prepared) → Leaves s m (prepareStep s v p (m .runs) (m .out))
+  unfolding prepareStep takenPrepare
+  prepare-untouched v p =
+      split (Leaves s m) _ _ _ (λ _. verdict-untouched p (Prepare.verdictOf s p)) (λ _. deferred-untouched s m (acceptOf s v) v)
+
+  -- ---- PrepareOk
+
+  abbrev Answers : Counted → Type 0
+  Answers d = Untouched s m (ofCounted m d)
+
+  count-untouched : (o : Op) (r : ℕ) (d : Count) → Answers (PrepareOk.byCount d s o r (m .runs .log) (m .runs .money) (m .acks) (m .reps))
+  unfolding PrepareOk.byCount PrepareOk.committedBy
+  count-untouched o r Counts.Nothing = done s m refl
+  count-untouched o r Counts.Note = done s m refl
+  count-untouched o r (Counts.Refuse k) = refused s m k
+  count-untouched o r Counts.Commit = done s m refl
+
+  pub prepare-ok-untouched : (v : View) (o : Op) (r : ℕ)
+      → Answers (prepareOkStep s v o r (m .runs .log) (m .runs .money) (m .acks) (m .reps))
+  unfolding prepareOkStep
+  prepare-ok-untouched v o r =
+      split Answers _ _ _ (λ _. done s m refl)
+      (λ _. count-untouched o r (PrepareOk.verdictOf s o (getD (m .acks) (o .0 - 1) 0) r (length (m .reps))))
+
+  -- ---- Commit
+
+  pub commit-untouched : (v : View) (c : Op) → Leaves s m (commitStep s v c (m .runs) (m .out))
+  unfolding commitStep takenCommit
+  commit-untouched v c =
+      split (Leaves s m) _ _ _ (λ _. split (Leaves s m) _ _ _ (λ _. transferred-untouched s m) (λ _. done s m refl))
+      (λ _. deferred-untouched s m (acceptOf s v) v)
+
+  -- ---- GetState
+
+  pub get-state-untouched : (r : ℕ) (v : View) (o : Op) → Speaks s m (getStateStep s r v o (m .runs .log) (m .out))
+  unfolding getStateStep
+  get-state-untouched r v o =
+      split (Speaks s m) _ _ _ (λ _. done s m refl) λ _.
+      split (Speaks s m) _ _ _ (λ _. refused s m 9) (λ _. done s m refl)
+
+  -- ---- NewState
+
+  extended-untouched : (t : Replica) (n k : ℕ) (p : Part) (i : Bool) (part : List ℕ) → Leaves s m (extended s t n k p i part (m .runs) (m .out))
+  unfolding extended
+  extended-untouched t n k p i part =
+      split (Leaves s m) _ _ _ (λ _. refused s m 6) λ _.
+      split (Leaves s m) _ _ _ (λ _. refused s m 9) (λ e. done s m (acked-done s t (p .commit) i _ (m .out) e))
+
+  use-untouched : (p : Part) (part : List ℕ) (u : Use) → Leaves s m (byUse u s p part (m .runs) (m .out))
+  unfolding byUse filled installed
+  use-untouched p part Ignore = done s m refl
+  use-untouched p part Hear = done s m refl
+  use-untouched p part Fill = extended-untouched _ _ _ p false _
+  use-untouched p part Install = extended-untouched _ _ _ p true part
+
+  pub new-state-untouched : (v : View) (p : Part) (part : List ℕ) → Leaves s m (newStateStep s v p part (m .runs) (m .out))
+  unfolding newStateStep
+  new-state-untouched v p part = use-untouched p part (useOf s v p)
+
+  -- ---- the tick
+
+  pub primary-tick-untouched : Speaks s m (primaryTick s (m .runs .log) (m .out))
+  unfolding primaryTick
+  primary-tick-untouched = split (Speaks s m) _ _ _ (λ _. refused s m 9) (λ _. done s m refl)

@@ -1,0 +1,79 @@
+// on_idle: what a tick does, by status.
+ghost use mathlib.Core.Path.{_≡_};
+ghost use mathlib.Core.Bool.{true};
+ghost use lib.ListN.{length};
+ghost use Rattle.config.specs.Setup.{setupOk};
+ghost use Rattle.steps.specs.Steps.{spoke};
+ghost use Rattle.normal.specs.Tick.{Leading};
+ghost use Rattle.do_view_change.specs.Record.{memory, recorded, Gathering};
+ghost use Rattle.handlers.specs.Handlers.{followTick, normalTick, askTick, idleStep};
+use clock::Duty;
+use clock::Ticked;
+use state::Answer;
+use state::Replica;
+
+// A backup's: it waits, and then asks for the next view. `t` is what its clock's tick gave.
+fn tick_follow(s: Replica, t: Ticked, out: &mut [u8]) -> Answer
+    requires { ⌜ setupOk (s .setup) ≡ true ⌝ }
+    ensures { λ a. ⌜ spoke a (now (out .exit)) ≡ followTick s t (now (out .entry)) ⌝ }
+{
+    let c = t.clock;
+    if t.up {
+        return voting::tick::next_view(s, c, out);
+    }
+    normal::tick::tick_backup(s, c)
+}
+
+// In Normal.
+fn tick_normal(s: Replica, log: &[u8], out: &mut [u8]) -> Answer
+    requires { ⌜ Leading s (length (now log)) ⌝ }
+    ensures { λ a. ⌜ spoke a (now (out .exit)) ≡ normalTick s (now (log .entry)) (now (out .entry)) ⌝ }
+{
+    if state::is_primary(s) {
+        return normal::tick::tick_primary(s, log, out);
+    }
+    let c = s.clock;
+    tick_follow(s, c.tick(s.setup.timeout, Duty::Follow), out)
+}
+
+// In StateTransfer: GetState on each tick, before a view change too.
+fn tick_asking(s: Replica, t: Ticked, out: &mut [u8]) -> Answer
+    requires { ⌜ setupOk (s .setup) ≡ true ⌝ }
+    ensures { λ a. ⌜ spoke a (now (out .exit)) ≡ askTick s t (now (out .entry)) ⌝ }
+{
+    let c = t.clock;
+    if t.up {
+        return voting::tick::next_view_asking(s, c, out);
+    }
+    transfer::tick_transfer(s, c, out)
+}
+
+// on_idle
+pub fn on_idle(
+    s: Replica,
+    log: &mut [u8],
+    results: &mut [u8],
+    totals: &mut [u8],
+    acks: &mut [u8],
+    stored: &mut [u8],
+    out: &mut [u8],
+    reps: &mut [u8],
+) -> Answer
+    requires { ⌜ Gathering s (memory (now log) (now results) (now totals) (now acks) (now stored) (now out) (now reps)) ⌝ }
+    ensures { λ a. ⌜ recorded a (memory (now (log .exit)) (now (results .exit)) (now (totals .exit)) (now (acks .exit)) (now (stored .exit)) (now (out .exit)) (now (reps .exit))) ≡ idleStep s (memory (now (log .entry)) (now (results .entry)) (now (totals .entry)) (now (acks .entry)) (now (stored .entry)) (now (out .entry)) (now (reps .entry))) ⌝ }
+{
+    let status = s.status;
+    if state::is_normal(status) {
+        return tick_normal(s, log, out);
+    }
+    let c = s.clock;
+    if state::is_transfer(status) {
+        return tick_asking(s, c.tick(s.setup.timeout, Duty::Follow), out);
+    }
+    if state::is_changing(status) {
+        let t = c.tick(s.setup.timeout, Duty::Change);
+        let k = t.clock;
+        return voting::tick::tick_change(s, k, t.up, log, results, totals, acks, stored, out, reps);
+    }
+    recovery::tick_recovering(s, out)
+}

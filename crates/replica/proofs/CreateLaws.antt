@@ -1,0 +1,136 @@
+-- Creation: what is read from the memory that it leaves is the model's new replica, and it is memory as calls produce it. Assumes nothing.
+use mathlib.Core.Path.{_≡_, refl, sym, ap, _∙_, subst}
+use mathlib.Core.Bool.{true, false, false≢true}
+use mathlib.Core.List.{List, [], _∷_, _++_}
+use mathlib.Core.Option.{Option, none}
+use Prim.Native.Nat.{ℕ, zero, suc, _+_, _*_, _<_}
+use native.Mathlib.Omega.{arith}
+use lib.ListN.{length, getD, replicate, length-replicate, getD-replicate, replicate-append-replicate}
+use Rattle.numbers.specs.Numbers.{num, over}
+use Rattle.numbers.specs.Cells.{cells}
+use Rattle.numbers.specs.declared.View.{View}
+use Rattle.numbers.proofs.WordLaws.{split}
+use Rattle.numbers.proofs.RunLaws.{length-over}
+use Rattle.entries.specs.Entries.{entriesOk}
+use Rattle.config.specs.Setup.{setupOk}
+use Rattle.config.specs.declared.Setup.{Setup}
+use Rattle.config.proofs.SetupLaws.{sized}
+use Rattle.frames.specs.declared.Status.{Status}
+use Rattle.table.specs.Layout.{noRow, byteRow, rowsOf}
+use Rattle.table.proofs.LayoutLaws.{left-cleared, byte-lawful}
+use Rattle.state.specs.State.{isRecovering, noReport, newIn}
+use Rattle.state.specs.Lengths.{acksLength, totalsLength, tableLength}
+use Rattle.state.specs.declared.Replica.{Replica}
+use Rattle.handlers.proofs.Held.{none-ok}
+use Rattle.meaning.specs.State.{Report, Response}
+use Rattle.meaning.specs.Book.{emptyBook}
+use Rattle.meaning.specs.ViewChange.{noReports, noAcks}
+use Rattle.meaning.specs.Recovery.{noResponses}
+use Rattle.meaning.specs.Layout.{totalOf, tableOf, Ordered, storeOf, bookOf, modelOf}
+use Rattle.meaning.specs.Steps.{newAt}
+use Rattle.meaning.proofs.RowLaws.{Means}
+use Rattle.meaning.proofs.TableLift.{blank-means}
+use Rattle.meaning.proofs.StepLift.{reports-cleared, responses-cleared}
+use Rattle.meaning.proofs.StartViewLift.{over-all}
+use Rattle.safety.specs.Demand.{Created, run}
+use Rattle.replica.specs.Calls.{Lent, lengthsOf, sound, emptied}
+use Rattle.replica.specs.Promise.{meaningOf, Kept}
+use Rattle.replica.proofs.SoundLaws.{Long, is-sound}
+
+zero-totals : (k : ℕ) (rest : List ℕ) → cells 8 totalOf k (replicate (8 * k) 0 ++ rest) ≡ replicate k 0
+unfolding cells num
+zero-totals zero rest = refl
+zero-totals (suc k) rest =
+    let e : 8 * suc k ≡ 8 + 8 * k = omega arith in
+    rw (e, ← replicate-append-replicate {A = ℕ} 8 (8 * k) 0) (ap (λ (l : List ℕ). 0 ∷ l) (zero-totals k rest))
+
+module _ (u : Setup) (x : Lent) (out : List ℕ) (ok : setupOk u ≡ true) (long : Long u (lengthsOf x)) (status : Status) (v : View) (nonce : ℕ) where
+  abbrev t : Replica
+  t = newIn u status v nonce
+
+  abbrev y : Lent
+  y = emptied u x out
+
+  -- ---- what is read
+
+  rows-are : rowsOf (u .room) (over (replicate (tableLength u) 0) (x .table)) ≡ replicate (u .room) noRow
+  rows-are = left-cleared (u .room) {s = x .table} refl .rows
+
+  blank : Means byteRow (u .room) [] (replicate (u .room) noRow)
+  blank = blank-means byteRow byte-lawful (u .room)
+
+  totals-are : cells 8 totalOf (u .members) (over (replicate (totalsLength u) 0) (x .core .runs .money .totals)) ≡ replicate (u .members) 0
+  unfolding over
+  totals-are = zero-totals (u .members) _
+
+  acks-are : over (replicate (acksLength u) 0) (x .core .acks) ≡ noAcks u
+  unfolding noAcks
+  acks-are = over-all _ (x .core .acks) (length-replicate (u .room) 0 ∙ sym (long .acks))
+
+  store-is : storeOf t (x .core .stored) ≡ record { reports = noReports u; responses = noResponses u; nonce = nonce }
+  unfolding storeOf noReports noResponses
+  store-is =
+      let few = sized u ok .seven in
+      let p = split (λ (l : List (Option Report)). l ≡ replicate (u .n) none) (isRecovering status) _ _ (λ _. refl)
+      (λ _. reports-cleared u (x .core .stored) few) in
+      let q = split (λ (l : List (Option Response)). l ≡ replicate (u .n) none) (isRecovering status) _ _
+      (λ _. responses-cleared u (x .core .stored) few) (λ _. refl) in
+      λ i. record { reports = p i; responses = q i; nonce = nonce }
+
+  pub new-reads : meaningOf (newIn u status v nonce) (emptied u x out) [] ≡ newAt u status (v .0) nonce
+  unfolding emptied modelOf bookOf newAt emptyBook cells
+  new-reads =
+      let rows : tableOf byteRow (rowsOf (u .room) (over (replicate (tableLength u) 0) (x .table))) ≡ [] =
+      ap (tableOf byteRow) rows-are ∙ blank .table in
+      λ i. record {
+        place = record { status = status; view = v .0; lastNormal = v .0; catchingUp = false };
+        book =
+            record { log = []; commit = 0; results = []; table = rows i; totals = totals-are i; applied = [] };
+        votes = record { acks = acks-are i; starts = 0; sent = false };
+        store = store-is i;
+        clock = t .clock;
+      }
+
+  -- ---- it is memory as calls produce it
+
+  written : (k : ℕ) (s : List ℕ) → length s ≡ k → length (over (replicate k 0) s) ≡ k
+  written k s e = length-over (replicate k 0) s (omega (arith, length-replicate {A = ℕ} k 0)) ∙ e
+
+  new-sound : sound t (lengthsOf y) ≡ true
+  unfolding emptied
+  new-sound =
+      is-sound t y
+      record {
+        gathering =
+            record {
+              sound =
+                  record {
+                    sized = ok;
+                    commit-le = omega arith;
+                    op-le = omega arith;
+                    log-long = long .log;
+                    results-long = long .results;
+                    totals-long = written (totalsLength u) _ (long .totals);
+                  };
+              reports = none-ok u;
+              acks-long = written (acksLength u) _ (long .acks);
+              stored-long = long .stored;
+            };
+        table-long = written (tableLength u) _ (long .table);
+        old-long = long .old;
+      }
+
+  none-there : (i : ℕ) → i < u .n → getD (replicate 7 noReport) i noReport .there ≡ false
+  none-there i h = rw (getD-replicate 7 i noReport noReport (omega (arith, sized u ok .seven)))
+
+  pub new-kept : Created u (newAt u status (v .0) nonce) → Kept (newIn u status v nonce) (emptied u x out) []
+  unfolding emptied entriesOk run
+  new-kept c =
+      record {
+        sound = new-sound;
+        log-ok = refl;
+        rows-count = refl;
+        stored-ok = λ i h p. absurd (false≢true (sym (none-there i h) ∙ p));
+        ordered = subst (Ordered byteRow) (sym rows-are) (blank .ordered);
+        reached = record { first = newAt u status (v .0) nonce; created = c; calls = []; is = new-reads };
+      }

@@ -1,0 +1,8 @@
+pub mod SoundLaws
+pub mod RowLaws
+pub mod TableLaws
+pub mod KeptLaws
+pub mod CreateLaws
+pub mod StartLaws
+pub mod PromiseLaws
+pub mod CallLaws

@@ -1,0 +1,138 @@
+-- What refusal 1 asks, as the laws of the handlers and of the client table have it.
+--     Long, long-is, is-long        of the buffers' lengths alone, and back
+--     creatable-is                  of a setup and the buffers
+--     Whole, sound-is, is-sound     of a state and its memory, and back
+-- Assumes nothing.
+use mathlib.Core.Path.{_≡_, refl, sym, _∙_}
+use mathlib.Core.Bool.{Bool, true, false, not, false≢true}
+use lib.ListN.{length}
+use borrow.Author.Tests.{ltb-false, le-ltb, eqb-true, eq-eqb, not-false}
+use Rattle.numbers.specs.Words.{if_then_else_}
+use Rattle.numbers.proofs.WordLaws.{if-true}
+use Rattle.config.specs.Setup.{setupOk}
+use Rattle.config.specs.declared.Setup.{Setup}
+use Rattle.state.specs.Lengths.{logLength, resultsLength, acksLength, totalsLength, tableLength, storedLength}
+use Rattle.state.specs.declared.Replica.{Replica}
+use Rattle.reports.proofs.RowLaws.{both}
+use Rattle.do_view_change.specs.Record.{Gathering}
+use Rattle.replica.specs.declared.Lengths.{Lengths}
+use Rattle.replica.specs.Calls.{Lent, lengthsOf, lengthsOk, creatable, sound}
+
+-- a test that must pass, and one that must fail
+passes : (a b : Bool) → (if not a then false else b) ≡ true → (a ≡ true) × (b ≡ true)
+unfolding if_then_else_
+passes true b p = (refl, p)
+passes false b p = absurd (false≢true p)
+
+fails : (a b : Bool) → (if a then false else b) ≡ true → (a ≡ false) × (b ≡ true)
+unfolding if_then_else_
+fails true b p = absurd (false≢true p)
+fails false b p = (refl, p)
+
+passed : (a b : Bool) → a ≡ true → b ≡ true → (if not a then false else b) ≡ true
+unfolding if_then_else_
+passed true b p q = q
+passed false b p q = p
+
+failed : (a b : Bool) → a ≡ false → b ≡ true → (if a then false else b) ≡ true
+unfolding if_then_else_
+failed true b p q = absurd (false≢true (sym p))
+failed false b p q = q
+
+-- each buffer has its length
+pub record Long (u : Setup) (l : Lengths) : Type 0 where
+  pub log : l .log ≡ logLength u
+  pub results : l .results ≡ resultsLength u
+  pub totals : l .totals ≡ totalsLength u
+  pub acks : l .acks ≡ acksLength u
+  pub stored : l .stored ≡ storedLength u
+  pub table : l .table ≡ tableLength u
+  pub old : l .old ≡ tableLength u
+
+pub long-is : (u : Setup) (l : Lengths) → lengthsOk u l ≡ true → Long u l
+unfolding lengthsOk
+long-is u l p =
+    let a = passes _ _ p in
+    let b = passes _ _ (a .1) in
+    let c = passes _ _ (b .1) in
+    let d = passes _ _ (c .1) in
+    let e = passes _ _ (d .1) in
+    let f = passes _ _ (e .1) in
+    record {
+      log = eqb-true _ _ (a .0);
+      results = eqb-true _ _ (b .0);
+      totals = eqb-true _ _ (c .0);
+      acks = eqb-true _ _ (d .0);
+      stored = eqb-true _ _ (e .0);
+      table = eqb-true _ _ (f .0);
+      old = eqb-true _ _ (f .1);
+    }
+
+pub is-long : (u : Setup) (l : Lengths) → Long u l → lengthsOk u l ≡ true
+unfolding lengthsOk
+is-long u l h =
+    passed _ _ (eq-eqb _ _ (h .log))
+    (passed _ _ (eq-eqb _ _ (h .results))
+    (passed _ _ (eq-eqb _ _ (h .totals))
+    (passed _ _ (eq-eqb _ _ (h .acks))
+    (passed _ _ (eq-eqb _ _ (h .stored))
+    (passed _ _ (eq-eqb _ _ (h .table)) (eq-eqb _ _ (h .old)))))))
+
+-- of a setup and the buffers
+pub creatable-is : (u : Setup) (l : Lengths) (b : Bool) → b ≡ creatable u l → not b ≡ false → (setupOk u ≡ true) × Long u l
+unfolding creatable
+creatable-is u l b e h =
+    let p = both _ _ (sym e ∙ not-false b h) in
+    (p .0, long-is u l (p .1))
+
+-- of a state and its memory
+pub record Whole (s : Replica) (x : Lent) : Type 0 where
+  pub gathering : Gathering s (x .core)
+  pub table-long : length (x .table) ≡ tableLength (s .setup)
+  pub old-long : length (x .old) ≡ tableLength (s .setup)
+
+module _ (s : Replica) (x : Lent) where
+  pub sound-is : sound s (lengthsOf x) ≡ true → Whole s x
+  unfolding sound creatable
+  sound-is p =
+      let a = passes _ _ p in
+      let b = both _ _ (a .0) in
+      let c = fails _ _ (a .1) in
+      let d = fails _ _ (c .1) in
+      let h = long-is (s .setup) (lengthsOf x) (b .1) in
+      record {
+        gathering =
+            record {
+              sound =
+                  record {
+                    sized = b .0;
+                    commit-le = ltb-false _ _ (c .0);
+                    op-le = ltb-false _ _ (d .0);
+                    log-long = h .log;
+                    results-long = h .results;
+                    totals-long = h .totals;
+                  };
+              reports = d .1;
+              acks-long = h .acks;
+              stored-long = h .stored;
+            };
+        table-long = h .table;
+        old-long = h .old;
+      }
+
+  pub is-sound : Whole s x → sound s (lengthsOf x) ≡ true
+  unfolding sound creatable
+  is-sound h =
+      let g = h .gathering in
+      let long : Long (s .setup) (lengthsOf x) =
+      record {
+        log = g .sound .log-long;
+        results = g .sound .results-long;
+        totals = g .sound .totals-long;
+        acks = g .acks-long;
+        stored = g .stored-long;
+        table = h .table-long;
+        old = h .old-long;
+      } in
+      passed _ _ (if-true _ _ _ (g .sound .sized) ∙ is-long (s .setup) (lengthsOf x) long)
+      (failed _ _ (le-ltb _ _ (g .sound .commit-le)) (failed _ _ (le-ltb _ _ (g .sound .op-le)) (g .reports)))

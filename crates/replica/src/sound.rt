@@ -1,0 +1,63 @@
+// Refusal 1: numbers of the state and lengths only, in constant time.
+ghost use mathlib.Core.Path.{_≡_};
+ghost use mathlib.Core.Bool.{true};
+ghost use Rattle.config.specs.Setup.{setupOk};
+ghost use Rattle.replica.specs.Calls.{lengthsOk, creatable, sound};
+use crate::Lengths;
+use config::Setup;
+use state::Replica;
+
+// Each run has the length that follows from n, L and M.
+fn lengths_ok(u: Setup, l: Lengths) -> bool
+    requires { ⌜ setupOk u ≡ true ⌝ }
+    ensures { λ r. ⌜ r ≡ lengthsOk u l ⌝ }
+{
+    let room = u.room as usize;
+    if l.log != 32 * room {
+        return false;
+    }
+    if l.results != 9 * room {
+        return false;
+    }
+    if l.totals != 8 * (u.members as usize) {
+        return false;
+    }
+    if l.acks != room {
+        return false;
+    }
+    if l.stored != reports::judge::place(u.room, u.n) {
+        return false;
+    }
+    if l.table != 25 * room {
+        return false;
+    }
+    l.old == 25 * room
+}
+
+// Setup and lengths.
+pub fn is_creatable(u: Setup, l: Lengths) -> bool
+    ensures { λ r. ⌜ r ≡ creatable u l ⌝ }
+{
+    if !config::setup_ok(u) {
+        return false;
+    }
+    lengths_ok(u, l)
+}
+
+// Given exactly where this is false.
+pub fn is_sound(s: Replica, l: Lengths) -> bool
+    ensures { λ r. ⌜ r ≡ sound s l ⌝ }
+{
+    let setup = s.setup;
+    if !is_creatable(setup, l) {
+        return false;
+    }
+    if s.op.0 < s.commit.0 {
+        return false;
+    }
+    if s.setup.room < s.op.0 {
+        return false;
+    }
+    let rows = s.reports;
+    reports::rows::reports_ok(rows, s.setup.n, s.setup.room)
+}

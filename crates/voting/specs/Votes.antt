@@ -1,0 +1,53 @@
+-- on_start_view_change and maybe_send_do_view_change, on the state by value and the bytes of the lent runs: DoViewChange goes out once, as soon
+-- as StartViewChange is held from n/2 distinct replica ids. Assumes nothing.
+use mathlib.Core.Bool.{Bool, true, false, not}
+use mathlib.Core.List.{List}
+use Prim.Native.Nat.{ℕ, _/_}
+use lib.Count.{ones}
+use lib.Dec.{ltb, leb}
+use lib.ListN.{length}
+use Rattle.numbers.specs.Words.{if_then_else_}
+use Rattle.numbers.specs.Numbers.{over}
+use Rattle.numbers.specs.declared.View.{View}
+use Rattle.state.specs.State.{isNormal, isChanging, leads, changingTo, withStart, withSent}
+use Rattle.state.specs.Answers.{refusal, completed, quiet}
+use Rattle.state.specs.declared.Replica.{Replica}
+use Rattle.steps.specs.Steps.{Spoke, spoke}
+use Rattle.view_change.specs.StartView.{sentStartView}
+use Rattle.do_view_change.specs.Begin.{callsFirst, firstLength}
+use Rattle.do_view_change.specs.Record.{Memory, Recorded, recorded, onlySent, sendStep}
+
+-- only what goes out first, from state t; s is the state as it was
+unfoldable pub called : (s t : Replica) (first : Bool) → List ℕ → Spoke
+called s t first out =
+    if ltb (length out) (firstLength first t) then spoke (refusal 9 s) out else
+    spoke (completed t (firstLength first t) 0 false) (over (callsFirst first t) out)
+
+-- whether our DoViewChange is due
+unfoldable pub due : Replica → Bool
+due t =
+    if not (isChanging (t .status)) then false else
+    if t .catching then false else
+    if t .sent then false else
+    leb (t .setup .n / 2) (ones (t .starts))
+
+-- maybe_send_do_view_change
+unfoldable pub maybeStep : (s t : Replica) (first : Bool) → Memory → Recorded
+maybeStep s t first m =
+    if due t then sendStep s (withSent t) first m else
+    onlySent m (called s t first (m .out))
+
+-- on_start_view_change of our view: counted while we change to it; a Normal primary sends StartView to one who missed it
+unfoldable pub sameView : Replica → (r : ℕ) → Memory → Recorded
+sameView s r m =
+    if isChanging (s .status) then maybeStep s (withStart s r) false m else
+    if not (isNormal (s .status)) then recorded (quiet s) m else
+    if leads s then onlySent m (sentStartView s r (m .runs .log) (m .out)) else
+    recorded (quiet s) m
+
+-- on_start_view_change of view v, from replica r
+unfoldable pub startViewChangeStep : Replica → View → (r : ℕ) → Memory → Recorded
+startViewChangeStep s v r m =
+    if ltb (v .0) (s .view .0) then recorded (quiet s) m else
+    if ltb (s .view .0) (v .0) then maybeStep s (withStart (changingTo s v) r) true m else
+    sameView s r m
