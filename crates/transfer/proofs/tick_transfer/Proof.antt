@@ -13,4 +13,4 @@ unfolding transferTick
 returns c = c .before .before .ask-state .ensures ∙ rw (c .before .before .before .before .with-clock .ensures)
 
 pub tick-transfer-spec : {M : Type 1} → statement M
-tick-transfer-spec = tie.close (tie.spec (λ c κs. search needs) ask-state-requires (λ c. search needs) returns)
+tick-transfer-spec = tie.close (tie.spec (λ c κs. search needs) ask-state-requires (λ c. c .before .before .ask-state .kept .1 .1 .1 .0) returns)

@@ -108,7 +108,7 @@ begin-spec =
     (λ c κs. search needs)
     same-length
     same-length-2
-    (λ c. search needs)
-    (λ c. search needs)
-    (λ c. search needs)
+    (λ c. c .before .before .before .before .before .before .before .own-acks .kept .1 .0)
+    (λ c. c .before .before .before .send-start-views .kept .1 .1 .1 .1 .0)
+    (λ c. c .before .before .before .before .before .before .before .before .before .before .before .write-replies .kept .1 .1 .1 .1 .1 .0)
     returns)

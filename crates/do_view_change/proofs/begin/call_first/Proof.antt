@@ -19,4 +19,4 @@ returns-2 : tie.Need-returns-2
 returns-2 c = none-go (c .before .before .args .first) (c .before .before .args .t) _ (c .if1 .left)
 
 pub call-first-spec : {M : Type 1} → statement M
-call-first-spec = tie.close (tie.spec call-others-requires (λ c. search needs) returns returns-2)
+call-first-spec = tie.close (tie.spec call-others-requires (λ c. c .before .before .call-others .kept .1 .1 .0) returns returns-2)

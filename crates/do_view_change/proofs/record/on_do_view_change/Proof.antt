@@ -1,4 +1,5 @@
 -- `do_view_change::record::on_do_view_change` meets its contract. Assumes nothing.
+use mathlib.Core.Path.{refl}
 use Rattle.do_view_change.proofs.TellLaws.{report-told, moved-gathers, moved-told, too-old, not-ours, moves, tells-view, gathers}
 use Rattle.do_view_change.specs.Record.{memory}
 use borrow.Author.Needs.{needs}
@@ -108,25 +109,53 @@ on-do-view-change-spec =
     (λ c κs. search needs)
     (λ c κs. search needs)
     record-frame-requires
-    (λ c. search needs)
-    (λ c. search needs)
-    (λ c. search needs)
-    (λ c. search needs)
-    (λ c. search needs)
-    (λ c. search needs)
-    (λ c. search needs)
+    (λ c.
+    let k = c .before .before .before .before .before .before .before .before .before .before .before .before .before .before in
+    k .record-frame .kept .1 .1 .1 .1 .1 .1 .0)
+    (λ c.
+    let k = c .before .before .before .before .before .before .before .before .before .before .before .before .before .before in
+    k .record-frame .kept .1 .1 .1 .1 .1 .1 .1 .0)
+    (λ c.
+    let k = c .before .before .before .before .before .before .before .before .before .before .before .before .before .before in
+    k .record-frame .kept .1 .1 .1 .1 .1 .1 .1 .1 .0)
+    (λ c.
+    let k = c .before .before .before .before .before .before .before .before .before .before .before .before .before .before in
+    k .record-frame .kept .1 .1 .1 .1 .1 .1 .1 .1 .1 .0)
+    (λ c.
+    let k = c .before .before .before .before .before .before .before .before .before .before .before .before .before .before in
+    k .record-frame .kept .1 .1 .1 .1 .1 .1 .1 .1 .1 .1 .0)
+    (λ c.
+    let k = c .before .before .before .before .before .before .before .before .before .before .before .before .before .before in
+    k .record-frame .kept .1 .1 .1 .1 .1 .1 .1 .1 .1 .1 .1 .0)
+    (λ c.
+    let k = c .before .before .before .before .before .before .before .before .before .before .before .before .before .before in
+    k .record-frame .kept .1 .1 .1 .1 .1 .1 .1 .1 .1 .1 .1 .1 .0)
     returns-3
     (λ c κs. search needs)
     send-start-view-requires
-    (λ c. search needs)
-    (λ c. search needs)
+    (λ c. refl)
+    (λ c. c .before .before .send-start-view .kept .1 .1 .1 .0)
     returns-4
     record-frame-requires-2
-    (λ c. search needs)
-    (λ c. search needs)
-    (λ c. search needs)
-    (λ c. search needs)
-    (λ c. search needs)
-    (λ c. search needs)
-    (λ c. search needs)
+    (λ c.
+    let k = c .before .before .before .before .before .before .before .before .before .before .before .before .before .before in
+    k .record-frame2 .kept .1 .1 .1 .1 .1 .1 .0)
+    (λ c.
+    let k = c .before .before .before .before .before .before .before .before .before .before .before .before .before .before in
+    k .record-frame2 .kept .1 .1 .1 .1 .1 .1 .1 .0)
+    (λ c.
+    let k = c .before .before .before .before .before .before .before .before .before .before .before .before .before .before in
+    k .record-frame2 .kept .1 .1 .1 .1 .1 .1 .1 .1 .0)
+    (λ c.
+    let k = c .before .before .before .before .before .before .before .before .before .before .before .before .before .before in
+    k .record-frame2 .kept .1 .1 .1 .1 .1 .1 .1 .1 .1 .0)
+    (λ c.
+    let k = c .before .before .before .before .before .before .before .before .before .before .before .before .before .before in
+    k .record-frame2 .kept .1 .1 .1 .1 .1 .1 .1 .1 .1 .1 .0)
+    (λ c.
+    let k = c .before .before .before .before .before .before .before .before .before .before .before .before .before .before in
+    k .record-frame2 .kept .1 .1 .1 .1 .1 .1 .1 .1 .1 .1 .1 .0)
+    (λ c.
+    let k = c .before .before .before .before .before .before .before .before .before .before .before .before .before .before in
+    k .record-frame2 .kept .1 .1 .1 .1 .1 .1 .1 .1 .1 .1 .1 .1 .0)
     returns-5)

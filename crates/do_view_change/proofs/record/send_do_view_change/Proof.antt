@@ -1,4 +1,5 @@
 -- `do_view_change::record::send_do_view_change` meets its contract. Assumes nothing.
+use mathlib.Core.Path.{refl}
 use Rattle.do_view_change.proofs.TellLaws.{leads-so, follows-so}
 use Rattle.do_view_change.specs.Record.{memory}
 use native.Mathlib.Omega.{arith}
@@ -39,15 +40,29 @@ send-do-view-change-spec =
     (tie.spec
     is-primary-requires
     (λ c κs. search needs)
-    (λ c. search needs)
-    (λ c. search needs)
-    (λ c. search needs)
-    (λ c. search needs)
-    (λ c. search needs)
-    (λ c. search needs)
-    (λ c. search needs)
+    (λ c.
+    let k = c .before .before .before .before .before .before .before .before .before .before .before .before .before .before in
+    k .record-own .kept .1 .1 .1 .0)
+    (λ c.
+    let k = c .before .before .before .before .before .before .before .before .before .before .before .before .before .before in
+    k .record-own .kept .1 .1 .1 .1 .0)
+    (λ c.
+    let k = c .before .before .before .before .before .before .before .before .before .before .before .before .before .before in
+    k .record-own .kept .1 .1 .1 .1 .1 .0)
+    (λ c.
+    let k = c .before .before .before .before .before .before .before .before .before .before .before .before .before .before in
+    k .record-own .kept .1 .1 .1 .1 .1 .1 .0)
+    (λ c.
+    let k = c .before .before .before .before .before .before .before .before .before .before .before .before .before .before in
+    k .record-own .kept .1 .1 .1 .1 .1 .1 .1 .0)
+    (λ c.
+    let k = c .before .before .before .before .before .before .before .before .before .before .before .before .before .before in
+    k .record-own .kept .1 .1 .1 .1 .1 .1 .1 .1 .0)
+    (λ c.
+    let k = c .before .before .before .before .before .before .before .before .before .before .before .before .before .before in
+    k .record-own .kept .1 .1 .1 .1 .1 .1 .1 .1 .1 .0)
     returns
     (λ c κs. search needs)
-    (λ c. search needs)
-    (λ c. search needs)
+    (λ c. refl)
+    (λ c. c .before .before .tell-primary .kept .1 .1 .1 .1 .0)
     returns-2)

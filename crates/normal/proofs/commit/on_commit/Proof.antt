@@ -26,10 +26,10 @@ on-commit-spec =
     accept-from-primary-requires
     (λ c κs. search needs)
     (λ c κs. search needs)
-    (λ c. search needs)
-    (λ c. search needs)
-    (λ c. search needs)
+    (λ c. c .before .before .before .before .before .before .take-commit .kept .1 .1 .1 .0)
+    (λ c. c .before .before .before .before .before .before .take-commit .kept .1 .1 .1 .1 .0)
+    (λ c. c .before .before .before .before .before .before .take-commit .kept .1 .1 .1 .1 .1 .0)
     returns
     defer-requires
-    (λ c. search needs)
+    (λ c. c .before .before .defer .kept .1 .1 .1 .0)
     returns-2)

@@ -21,11 +21,11 @@ take-commit-spec =
     tie.close
     (tie.spec
     state-transfer-requires
-    (λ c. search needs)
+    (λ c. c .before .before .state-transfer .kept .1 .0)
     returns
     (λ c κs. search needs)
     commit-up-to-requires
     (λ c κs. search needs)
-    (λ c. search needs)
-    (λ c. search needs)
+    (λ c. c .before .before .before .before .before .commit-up-to .kept .1 .1 .1 .0)
+    (λ c. c .before .before .before .before .before .commit-up-to .kept .1 .1 .1 .1 .0)
     returns-2)

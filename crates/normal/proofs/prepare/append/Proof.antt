@@ -31,8 +31,10 @@ append-spec =
     (λ c κs. search needs)
     (λ c κs. search needs)
     acknowledge-requires
-    (λ c. search needs)
-    (λ c. search needs)
-    (λ c. search needs)
-    (λ c. search needs)
+    (λ c.
+    let k = c .before .before .before .before .before .before .before .before .before .before .before .before .before .before .before .before in
+    k .append .kept .0)
+    (λ c. c .before .before .before .before .before .before .acknowledge .kept .1 .1 .1 .1 .1 .0)
+    (λ c. c .before .before .before .before .before .before .acknowledge .kept .1 .1 .1 .1 .1 .1 .0)
+    (λ c. c .before .before .before .before .before .before .acknowledge .kept .1 .1 .1 .1 .1 .1 .1 .0)
     returns-2)

@@ -26,11 +26,11 @@ on-prepare-spec =
     accept-from-primary-requires
     (λ c κs. search needs)
     (λ c κs. search needs)
-    (λ c. search needs)
-    (λ c. search needs)
-    (λ c. search needs)
-    (λ c. search needs)
+    (λ c. c .before .before .before .before .before .before .before .before .take-prepare .kept .1 .1 .0)
+    (λ c. c .before .before .before .before .before .before .before .before .take-prepare .kept .1 .1 .1 .0)
+    (λ c. c .before .before .before .before .before .before .before .before .take-prepare .kept .1 .1 .1 .1 .0)
+    (λ c. c .before .before .before .before .before .before .before .before .take-prepare .kept .1 .1 .1 .1 .1 .0)
     returns
     defer-requires
-    (λ c. search needs)
+    (λ c. c .before .before .defer .kept .1 .1 .1 .0)
     returns-2)

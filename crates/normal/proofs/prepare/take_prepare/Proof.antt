@@ -1,7 +1,7 @@
 -- `normal::prepare::take_prepare` meets its contract. Assumes nothing.
 use Rattle.normal.proofs.PrepareLaws.{op-small, lower-fits, room-left, weighed, acked-again}
 use Rattle.normal.proofs.CommitLaws.{some, sound-heard}
-use mathlib.Core.Path.{ap}
+use mathlib.Core.Path.{ap, refl}
 use Rattle.state.specs.declared.Replica.{Replica}
 use Rattle.steps.specs.Steps.{left, alone, runs}
 use Rattle.state.specs.declared.Answer.{Answer}
@@ -55,16 +55,16 @@ take-prepare-spec =
     (λ c κs. search needs)
     (λ c. search needs)
     append-requires
-    (λ c. search needs)
+    (λ c. c .before .before .state-transfer .kept .1 .0)
     returns
-    (λ c. search needs)
-    (λ c. search needs)
-    (λ c. search needs)
-    (λ c. search needs)
+    (λ c. refl)
+    (λ c. c .before .before .before .before .before .before .acknowledge .kept .1 .1 .1 .1 .1 .0)
+    (λ c. c .before .before .before .before .before .before .acknowledge .kept .1 .1 .1 .1 .1 .1 .0)
+    (λ c. c .before .before .before .before .before .before .acknowledge .kept .1 .1 .1 .1 .1 .1 .1 .0)
     returns-2
     returns-3
-    (λ c. search needs)
-    (λ c. search needs)
-    (λ c. search needs)
-    (λ c. search needs)
+    (λ c. c .before .before .before .before .before .before .before .before .append .kept .1 .1 .0)
+    (λ c. c .before .before .before .before .before .before .before .before .append .kept .1 .1 .1 .0)
+    (λ c. c .before .before .before .before .before .before .before .before .append .kept .1 .1 .1 .1 .0)
+    (λ c. c .before .before .before .before .before .before .before .before .append .kept .1 .1 .1 .1 .1 .0)
     returns-4)

@@ -30,8 +30,12 @@ commit-with-replies-spec =
     fill-requires
     (λ c. search needs)
     (λ c κs. search needs)
-    (λ c. search needs)
-    (λ c. search needs)
-    (λ c. search needs)
-    (λ c. search needs)
+    (λ c.
+    let k = c .before .before .before .before .before .before .before .before .before .before .before .before .before .before .before in
+    k .commit-up-to .kept .1 .1 .1 .0)
+    (λ c.
+    let k = c .before .before .before .before .before .before .before .before .before .before .before .before .before .before .before in
+    k .commit-up-to .kept .1 .1 .1 .1 .0)
+    (λ c. c .before .before .before .fill .kept .0)
+    (λ c. c .before .before .before .before .before .before .before .before .write-replies .kept .1 .1 .1 .1 .1 .0)
     returns)

@@ -80,8 +80,8 @@ on-prepare-ok-spec =
     (λ c. search needs)
     returns-3
     returns-4
+    (λ c. c .before .before .before .before .before .before .before .before .commit-with-replies .kept .1 .1 .1 .0)
+    (λ c. c .before .before .before .before .before .before .before .before .commit-with-replies .kept .1 .1 .1 .1 .0)
     (λ c. search needs)
-    (λ c. search needs)
-    (λ c. search needs)
-    (λ c. search needs)
+    (λ c. c .before .before .before .before .before .before .before .before .commit-with-replies .kept .1 .1 .1 .1 .1 .1 .0)
     returns-5)

@@ -45,7 +45,7 @@ accept-spec =
     broadcast-requires
     (λ c κs. search needs)
     (λ c κs. search needs)
+    (λ c. c .before .before .before .before .before .before .before .before .before .before .append .kept .0)
     (λ c. search needs)
-    (λ c. search needs)
-    (λ c. search needs)
+    (λ c. c .before .before .before .before .broadcast .kept .0)
     returns)

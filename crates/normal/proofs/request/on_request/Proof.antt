@@ -71,10 +71,10 @@ on-request-spec =
     (λ c. search needs)
     accept-requires
     returns
-    (λ c. search needs)
+    (λ c. c .before .before .resend .kept .1 .1 .1 .0)
     returns-2
     returns-3
-    (λ c. search needs)
-    (λ c. search needs)
-    (λ c. search needs)
+    (λ c. c .before .before .before .before .before .before .accept .kept .1 .1 .0)
+    (λ c. c .before .before .before .before .before .before .accept .kept .1 .1 .1 .0)
+    (λ c. c .before .before .before .before .before .before .accept .kept .1 .1 .1 .1 .0)
     returns-4)

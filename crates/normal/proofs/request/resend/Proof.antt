@@ -10,4 +10,4 @@ returns c =
     resends (a .s) (a .e) (a .o) (a .reps .now) _ _ _ (c .before .before .before .write-reply .ensures) (c .done .ensures)
 
 pub resend-spec : {M : Type 1} → statement M
-resend-spec = tie.close (tie.spec (λ c κs. search needs) (λ c κs. search needs) (λ c. search needs) returns)
+resend-spec = tie.close (tie.spec (λ c κs. search needs) (λ c κs. search needs) (λ c. c .before .before .before .write-reply .kept .0) returns)

@@ -33,5 +33,5 @@ send-prepare-spec =
     (λ c. search needs)
     entry-requires
     broadcast-requires
-    (λ c. search needs)
+    (λ c. c .before .before .broadcast .kept .0)
     returns)

@@ -83,5 +83,5 @@ on-get-state-spec =
     (λ c. search needs)
     new-state-requires
     (λ c κs. search needs)
-    (λ c. search needs)
+    (λ c. c .before .before .before .new-state .kept .0)
     returns-3)

@@ -89,13 +89,13 @@ on-new-state-spec =
     install-requires
     returns
     returns-2
-    (λ c. search needs)
-    (λ c. search needs)
-    (λ c. search needs)
-    (λ c. search needs)
+    (λ c. c .before .before .before .before .before .before .before .before .fill .kept .1 .1 .1 .0)
+    (λ c. c .before .before .before .before .before .before .before .before .fill .kept .1 .1 .1 .1 .0)
+    (λ c. c .before .before .before .before .before .before .before .before .fill .kept .1 .1 .1 .1 .1 .0)
+    (λ c. c .before .before .before .before .before .before .before .before .fill .kept .1 .1 .1 .1 .1 .1 .0)
     returns-3
-    (λ c. search needs)
-    (λ c. search needs)
-    (λ c. search needs)
-    (λ c. search needs)
+    (λ c. c .before .before .before .before .before .before .before .before .install .kept .1 .1 .1 .0)
+    (λ c. c .before .before .before .before .before .before .before .before .install .kept .1 .1 .1 .1 .0)
+    (λ c. c .before .before .before .before .before .before .before .before .install .kept .1 .1 .1 .1 .1 .0)
+    (λ c. c .before .before .before .before .before .before .before .before .install .kept .1 .1 .1 .1 .1 .1 .0)
     returns-4)
