@@ -6,3 +6,4 @@ pub mod CreateLaws
 pub mod StartLaws
 pub mod PromiseLaws
 pub mod CallLaws
+pub mod DemandLaws
