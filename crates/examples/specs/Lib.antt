@@ -4,3 +4,4 @@ pub mod Marked
 pub mod Directed
 pub mod Misread
 pub mod Surprises
+pub mod Public

@@ -102,10 +102,10 @@ module _ (s : Replica) (applied : List Entry) (x y : Lent) (h : HandedBack x y) 
         old = h .old i;
       }
 
-  handed-means : meaningOf s y applied ≡ meaningOf s x applied
+  pub handed-means : meaningOf s y applied ≡ meaningOf s x applied
   handed-means = ap (λ (z : Lent). meaningOf s z applied) is-other
 
-  handed-kept : Kept s x applied → Kept s y applied
+  pub handed-kept : Kept s x applied → Kept s y applied
   handed-kept k =
       subst (λ (z : Lent). Kept s z applied) (sym is-other)
       (record {
@@ -120,7 +120,7 @@ module _ (s : Replica) (applied : List Entry) (x y : Lent) (h : HandedBack x y) 
 -- ---- one call
 
 -- state and memory after it mean the model's next state
-next-means : (s : Replica) (x : Lent) (applied : List Entry) (d : Called) (a : Answer) → Means (s .setup) s x d a
+pub next-means : (s : Replica) (x : Lent) (applied : List Entry) (d : Called) (a : Answer) → Means (s .setup) s x d a
     → (meaningOf (d .answer .state) (d .lent) (appliedAfter (meaningOf s x applied) a) ≡ after (meaningOf s x applied) a)
     × (d .answer .state .setup ≡ s .setup)
 unfolding after modelOf bookOf
