@@ -25,7 +25,8 @@ use Rattle.fees.specs.declared.Outcome.{Outcome}
 use Rattle.fees.proofs.ResultLaws.{result-codec}
 use Rattle.writers.specs.Writers.{header, reply}
 use Rattle.book.specs.Log.{entryIn}
-use Rattle.book.specs.Runs.{Money, money, applied, committed, replyTo, replies}
+use Rattle.book.specs.Runs.{applied, committed, replyTo, replies}
+use Rattle.book.specs.Memory.{Money, money}
 
 -- ---- commits
 

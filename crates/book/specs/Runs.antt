@@ -10,15 +10,8 @@ use Rattle.fees.specs.Fees.{outcomeOf, totalsAfter}
 use Rattle.fees.specs.Results.{resultOf, encodeResult}
 use Rattle.fees.specs.declared.Outcome.{Outcome}
 use Rattle.writers.specs.Writers.{reply}
+use Rattle.book.specs.Memory.{Money, money}
 use Rattle.book.specs.Log.{entryIn}
-
--- the two runs that a commit changes
-pub record Money : Type 0 where
-  pub results : List ℕ
-  pub totals : List ℕ
-
-abbrev pub money : List ℕ → List ℕ → Money
-money rs ts = record { results = rs; totals = ts }
 
 -- the entry of op number i + 1 goes through the fee rules of M members: one result more, its member's total changed
 unfoldable pub applied : (M : ℕ) → Entry → (i : ℕ) → Money → Money

@@ -5,7 +5,8 @@ ghost use lib.ListN.{length, take};
 ghost use Rattle.numbers.specs.Numbers.{over};
 ghost use Rattle.entries.specs.Entries.{encodeEntry, entries};
 ghost use Rattle.book.specs.Log.{placeOf, entryIn, withEntries, risesAfter, noneBreaks, isSame, keepsFirst};
-ghost use Rattle.book.specs.Runs.{money, applied, committed, replies};
+ghost use Rattle.book.specs.Runs.{applied, committed, replies};
+ghost use Rattle.book.specs.Memory.{money};
 use entries::Entry;
 use numbers::View;
 

@@ -22,13 +22,14 @@ use Rattle.writers.specs.Writers.{sizeOf, lengthOf, toOthers}
 use Rattle.writers.proofs.WriterLaws.{others-length}
 use Rattle.book.specs.Log.{placeOf}
 use Rattle.book.proofs.LogLaws.{place-is, place-mono}
-use Rattle.book.specs.Runs.{money, replies}
+use Rattle.book.specs.Runs.{replies}
+use Rattle.book.specs.Memory.{money, Runs, runs}
 use Rattle.state.specs.State.{withLog, normalIn}
 use Rattle.state.specs.Answers.{completed}
 use Rattle.state.specs.Lengths.{acksLength}
 use Rattle.state.specs.declared.Answer.{Answer}
 use Rattle.state.specs.declared.Replica.{Replica}
-use Rattle.steps.specs.Steps.{Runs, Sound, runs, committedTo, settled}
+use Rattle.steps.specs.Steps.{Sound, committedTo, settled}
 use Rattle.view_change.specs.StartViewChange.{callsLength, callsOf}
 use Rattle.view_change.specs.StartView.{Holding}
 use Rattle.view_change.proofs.StartViewChangeLaws.{calls-long}

@@ -17,9 +17,10 @@ use Rattle.numbers.specs.declared.Op.{Op}
 use Rattle.numbers.proofs.NumberLaws.{eq-or-not}
 use Rattle.config.specs.Setup.{setupOk}
 use Rattle.config.proofs.SetupLaws.{sized}
-use Rattle.book.specs.Runs.{money}
+use Rattle.book.specs.Memory.{money, runs, Memory, memory}
 use Rattle.book.proofs.LogLaws.{with-length}
-use Rattle.state.specs.State.{noReport, withReports}
+use Rattle.state.specs.State.{withReports}
+use Rattle.state.specs.Statuses.{noReport}
 use Rattle.state.specs.Answers.{refusal, completed}
 use Rattle.state.specs.Lengths.{acksLength, storedPlace}
 use Rattle.state.specs.declared.Answer.{Answer}
@@ -34,9 +35,9 @@ use Rattle.reports.specs.declared.Best.{Best}
 use Rattle.reports.proofs.RowLaws.{rows-ok-is}
 use Rattle.reports.proofs.JudgeLaws.{length-chosen, begin-lies}
 use Rattle.reports.proofs.StoreLaws.{install-fits}
-use Rattle.steps.specs.Steps.{Sound, runs}
+use Rattle.steps.specs.Steps.{Sound}
 use Rattle.do_view_change.specs.Begin.{callsFirst, firstLength, startViewsLength, entered, owed, begun, beginStep}
-use Rattle.do_view_change.specs.Record.{Memory, memory, recorded, Gathering, Told}
+use Rattle.do_view_change.specs.Record.{recorded, Gathering, Told}
 use Rattle.do_view_change.specs.Record.{decided, keptBy, withBegun, startedBy, byDecision, recordStep}
 use Rattle.do_view_change.specs.declared.Decision.{Decision}
 use Rattle.do_view_change.specs.declared.Decision.the-variants.{Keep, No, Start}

@@ -24,16 +24,18 @@ use Rattle.config.proofs.SetupLaws.{sized}
 use Rattle.frames.specs.declared.Message.the-variants.{DoViewChange}
 use Rattle.writers.specs.Writers.{encode, sizeOf, lengthOf}
 use Rattle.writers.proofs.WriterLaws.{encode-length}
-use Rattle.state.specs.State.{noReport, isNormal, leads, changingTo}
+use Rattle.state.specs.State.{leads, changingTo}
+use Rattle.state.specs.Statuses.{noReport, isNormal}
 use Rattle.state.specs.Answers.{refusal, completed, quiet}
 use Rattle.state.specs.declared.Answer.{Answer}
 use Rattle.state.specs.declared.Replica.{Replica}
 use Rattle.state.specs.declared.Report.{Report}
-use Rattle.reports.specs.Rows.{reportOk, reportsOk}
-use Rattle.steps.specs.Steps.{spoke, runs}
+use Rattle.reports.specs.Sound.{reportOk, reportsOk}
+use Rattle.steps.specs.Steps.{spoke}
+use Rattle.book.specs.Memory.{runs, Memory}
 use Rattle.view_change.specs.StartView.{Holding, sentStartView}
 use Rattle.do_view_change.specs.Begin.{callsFirst, firstLength}
-use Rattle.do_view_change.specs.Record.{Memory, Recorded, recorded, onlySent, Gathering, Told, reportOf, ownReport}
+use Rattle.do_view_change.specs.Record.{Recorded, recorded, onlySent, Gathering, Told, reportOf, ownReport}
 use Rattle.do_view_change.specs.Record.{recordStep}
 use Rattle.do_view_change.specs.Record.{reportLength, reportTo, toldPrimary, sendStep, doViewChangeStep}
 use Rattle.do_view_change.proofs.BeginLaws.{first-small, first-long}

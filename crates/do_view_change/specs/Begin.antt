@@ -12,7 +12,8 @@ use Rattle.config.specs.Setup.{setupOk}
 use Rattle.config.specs.Replicas.{withMember}
 use Rattle.frames.specs.declared.Message.the-variants.{StartView}
 use Rattle.writers.specs.Writers.{toOthers}
-use Rattle.book.specs.Runs.{Money, committed, replies}
+use Rattle.book.specs.Runs.{committed, replies}
+use Rattle.book.specs.Memory.{Money}
 use Rattle.state.specs.State.{withLog, normalIn}
 use Rattle.state.specs.Answers.{completed}
 use Rattle.state.specs.declared.Answer.{Answer}

@@ -14,35 +14,26 @@ use Rattle.numbers.specs.declared.Op.{Op}
 use Rattle.config.specs.Setup.{primaryOf}
 use Rattle.frames.specs.declared.Message.the-variants.{DoViewChange}
 use Rattle.writers.specs.Writers.{encode}
-use Rattle.state.specs.State.{isNormal, leads, changingTo, withReports}
+use Rattle.state.specs.State.{leads, changingTo, withReports}
+use Rattle.state.specs.Statuses.{isNormal}
 use Rattle.state.specs.Answers.{refusal, completed, quiet}
 use Rattle.state.specs.Lengths.{acksLength, storedLength}
 use Rattle.state.specs.declared.Answer.{Answer}
 use Rattle.state.specs.declared.Replica.{Replica}
 use Rattle.state.specs.declared.Report.{Report}
 use Rattle.state.specs.declared.Reports.{Reports}
-use Rattle.reports.specs.Rows.{withReport, reportsOk}
+use Rattle.reports.specs.Rows.{withReport}
+use Rattle.reports.specs.Sound.{reportsOk}
 use Rattle.reports.specs.Judge.{judged}
 use Rattle.reports.specs.Store.{keptLog, chosenOver}
 use Rattle.reports.specs.declared.Judged.{Judged}
 use Rattle.reports.specs.declared.Judged.the-variants.{Wait, Refuse, Begin}
-use Rattle.steps.specs.Steps.{Runs, Sound, Spoke, spoke, runs}
+use Rattle.steps.specs.Steps.{Sound, Spoke, spoke}
+use Rattle.book.specs.Memory.{Memory, memory}
 use Rattle.view_change.specs.StartView.{sentStartView}
 use Rattle.do_view_change.specs.Begin.{callsFirst, firstLength, startViewsLength, entered, owed, Begun, beginStep}
 use Rattle.do_view_change.specs.declared.Decision.{Decision}
 use Rattle.do_view_change.specs.declared.Decision.the-variants.{Keep, No, Start}
-
--- the lent runs and the two areas
-pub record Memory : Type 0 where
-  pub runs : Runs
-  pub acks : List ℕ
-  pub stored : List ℕ
-  pub out : List ℕ
-  pub reps : List ℕ
-
-abbrev pub memory : (log results totals acks stored out reps : List ℕ) → Memory
-memory log results totals acks stored out reps =
-    record { runs = runs log results totals; acks = acks; stored = stored; out = out; reps = reps }
 
 -- what a call leaves
 pub record Recorded : Type 0 where

@@ -7,7 +7,7 @@ use Prim.Native.Nat.{ℕ}
 use lib.ListN.{length, take}
 use Rattle.numbers.specs.Numbers.{Bytes}
 use Rattle.state.specs.declared.Replica.{Replica}
-use Rattle.replica.specs.Calls.{Lent, Called, lengthsOf, lengthsOk}
+use Rattle.replica.specs.Lent.{Lent, Called, lengthsOf, lengthsOk}
 use Rattle.replica.specs.Promise.{Owned, MessagePromise, IdlePromise, CreatePromise}
 use Rattle.replica.specs.Demands.{HandedBack}
 use Rattle.examples.specs.Shape.{Event, Seen, Example}

@@ -32,7 +32,8 @@ use Rattle.view_change.specs.StartView.{Joined, clearing, withLogOf, joinedBy, 
 use Rattle.view_change.specs.declared.Verdict.{Verdict}
 use Rattle.view_change.specs.declared.Verdict.the-variants as Verdicts
 use Rattle.do_view_change.specs.Begin.{begunIn, beginStep}
-use Rattle.do_view_change.specs.Record.{Memory, onlySent, reportOf, ownReport, decidedBy, decided, keptBy, startedBy, byDecision, recordStep, toldPrimary, sendStep, doViewChangeStep}
+use Rattle.do_view_change.specs.Record.{onlySent, reportOf, ownReport, decidedBy, decided, keptBy, startedBy, byDecision, recordStep, toldPrimary, sendStep, doViewChangeStep}
+use Rattle.book.specs.Memory.{Memory}
 use Rattle.do_view_change.specs.declared.Decision.{Decision}
 use Rattle.voting.specs.Votes.{called, maybeStep, sameView, startViewChangeStep}
 use Rattle.recovery.specs.Recovery.{Collected, responseOf, recoveredBy, byResponse, collectedBy, responseStep}

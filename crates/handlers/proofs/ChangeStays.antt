@@ -16,21 +16,23 @@ use Rattle.state.specs.Lengths.{acksLength, storedLength}
 use Rattle.state.specs.declared.Replica.{Replica}
 use Rattle.state.specs.declared.Report.{Report}
 use Rattle.state.specs.declared.Reports.{Reports}
-use Rattle.reports.specs.Rows.{withReport, reportsOk}
+use Rattle.reports.specs.Rows.{withReport}
+use Rattle.reports.specs.Sound.{reportsOk}
 use Rattle.reports.specs.Judge.{judged, Fits}
 use Rattle.reports.specs.Store.{chosenOver}
 use Rattle.reports.specs.declared.Best.{Best}
 use Rattle.reports.specs.declared.Judged.{Judged}
 use Rattle.reports.specs.declared.Judged.the-variants.{Wait, Refuse, Begin}
 use Rattle.reports.proofs.JudgeLaws.{begin-lies}
-use Rattle.steps.specs.Steps.{Runs, Spoke, settled, committedTo}
+use Rattle.steps.specs.Steps.{Spoke, settled, committedTo}
+use Rattle.book.specs.Memory.{Runs, Memory}
 use Rattle.view_change.specs.StartView as StartView
 use Rattle.view_change.specs.StartView.{Carried, Joined, withLogOf, sentStartView, joinedBy, startViewStep}
 use Rattle.view_change.specs.declared.Verdict.{Verdict}
 use Rattle.view_change.specs.declared.Verdict.the-variants as Verdicts
 use Rattle.view_change.proofs.StartViewLaws.{join-keeps, joins-sound}
 use Rattle.do_view_change.specs.Begin.{ownAcks, entered, begunIn, beginStep}
-use Rattle.do_view_change.specs.Record.{Memory, recorded, Gathering, onlySent, reportOf, ownReport, decidedBy, decided, keptBy, startedBy, byDecision, recordStep, toldPrimary, sendStep, doViewChangeStep}
+use Rattle.do_view_change.specs.Record.{recorded, Gathering, onlySent, reportOf, ownReport, decidedBy, decided, keptBy, startedBy, byDecision, recordStep, toldPrimary, sendStep, doViewChangeStep}
 use Rattle.do_view_change.specs.declared.Decision.{Decision}
 use Rattle.handlers.specs.Handlers.{ofJoined}
 use Rattle.handlers.proofs.Held.{Held, Kept, none-ok, as-it-was, moves, settled-held, acked-held, still-kept, sent-kept}

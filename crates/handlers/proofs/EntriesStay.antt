@@ -23,7 +23,8 @@ use Rattle.steps.specs.Steps.{Spoke}
 use Rattle.normal.specs.Tick.{primaryTick}
 use Rattle.transfer.specs.GetState.{getStateStep}
 use Rattle.transfer.specs.Tick.{transferTick}
-use Rattle.do_view_change.specs.Record.{Memory, Recorded, Gathering, onlySent}
+use Rattle.do_view_change.specs.Record.{Recorded, Gathering, onlySent}
+use Rattle.book.specs.Memory.{Memory}
 use Rattle.voting.specs.Tick.{nextView, nextViewAsking, repeated, changeTick}
 use Rattle.recovery.specs.Recovery.{recoveringTick, fullAnswer, bareAnswer, recoveryStep}
 use Rattle.handlers.specs.Handlers.{preparedBy, partOf, handled, messageStep, followTick, normalTick, askTick, changingTick, idleStep}

@@ -29,12 +29,13 @@ use Rattle.frames.specs.declared.RecoveryState.{RecoveryState}
 use Rattle.frames.specs.declared.Message.{Message}
 use Rattle.frames.specs.declared.Message.the-variants.{Request, Prepare, PrepareOk, Commit, GetState, NewState, StartViewChange, DoViewChange, StartView, Recovery, RecoveryResponse}
 use Rattle.rows.specs.declared.Latest.{Latest}
-use Rattle.state.specs.State.{isNormal, isTransfer, isChanging, leads}
+use Rattle.state.specs.State.{leads}
+use Rattle.state.specs.Statuses.{isNormal, isTransfer, isChanging}
 use Rattle.state.specs.Answers.{quiet}
 use Rattle.state.specs.declared.Answer.{Answer}
 use Rattle.state.specs.declared.Replica.{Replica}
-use Rattle.book.specs.Runs.{money}
-use Rattle.steps.specs.Steps.{runs, left, Spoke, spoke}
+use Rattle.book.specs.Memory.{money, runs, Memory, memory}
+use Rattle.steps.specs.Steps.{left, Spoke, spoke}
 use Rattle.normal.specs.Request.{served, requestStep}
 use Rattle.normal.specs.Prepare.{prepareStep}
 use Rattle.normal.specs.PrepareOk.{counted, prepareOkStep}
@@ -44,7 +45,7 @@ use Rattle.transfer.specs.GetState.{getStateStep}
 use Rattle.transfer.specs.NewState.{newStateStep}
 use Rattle.transfer.specs.Tick.{transferTick}
 use Rattle.view_change.specs.StartView.{joined, startViewStep}
-use Rattle.do_view_change.specs.Record.{Memory, memory, Recorded, recorded, onlySent, doViewChangeStep}
+use Rattle.do_view_change.specs.Record.{Recorded, recorded, onlySent, doViewChangeStep}
 use Rattle.voting.specs.Votes.{startViewChangeStep}
 use Rattle.voting.specs.Tick.{nextView, nextViewAsking, changeTick}
 use Rattle.recovery.specs.Recovery.{collected, recoveringTick, recoveryStep, responseStep}

@@ -18,16 +18,18 @@ use Rattle.numbers.proofs.WordLaws.{split}
 use Rattle.config.specs.Setup.{setupOk}
 use Rattle.config.specs.declared.Setup.{Setup}
 use Rattle.book.proofs.RunLaws.{committed-lengths}
-use Rattle.state.specs.State.{noReport, noReports, heardBy, catchingUpIn, changingTo}
+use Rattle.state.specs.State.{heardBy, catchingUpIn, changingTo}
+use Rattle.state.specs.Statuses.{noReport, noReports}
 use Rattle.state.specs.Lengths.{logLength, resultsLength, totalsLength, acksLength, storedLength}
 use Rattle.state.specs.declared.Answer.{Answer}
 use Rattle.state.specs.declared.Replica.{Replica}
-use Rattle.reports.specs.Rows.{reportOk, reportsOk}
-use Rattle.steps.specs.Steps.{Runs, Sound, Spoke, Left, committedTo, settled, asked, transferred, deferred, acked}
+use Rattle.reports.specs.Sound.{reportOk, reportsOk}
+use Rattle.steps.specs.Steps.{Sound, Spoke, Left, committedTo, settled, asked, transferred, deferred, acked}
+use Rattle.book.specs.Memory.{Runs, Memory}
 use Rattle.steps.specs.declared.Accept.{Accept}
 use Rattle.steps.specs.declared.Accept.the-variants.{Ignore, Hear, Join, Rejoin, Take}
 use Rattle.view_change.specs.StartViewChange.{startedChange}
-use Rattle.do_view_change.specs.Record.{Memory, Recorded, recorded, onlySent, Gathering}
+use Rattle.do_view_change.specs.Record.{Recorded, recorded, onlySent, Gathering}
 use Rattle.handlers.specs.Handlers.{ofLeft}
 
 -- the state t and the runs x, in a setup u

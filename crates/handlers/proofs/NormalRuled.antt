@@ -39,7 +39,7 @@ use Rattle.transfer.specs.declared.Part.{Part}
 use Rattle.transfer.specs.declared.Use.{Use}
 use Rattle.transfer.specs.declared.Use.the-variants.{Ignore, Hear, Fill, Install}
 use Rattle.transfer.proofs.NewStateLaws.{fill-told, install-told}
-use Rattle.do_view_change.specs.Record.{Memory}
+use Rattle.book.specs.Memory.{Memory}
 use Rattle.handlers.specs.Handlers.{ofServed, ofLeft, ofCounted}
 use Rattle.handlers.proofs.Ruled.{Has, RuledBy, cleared, still, wrote, transferred-has, deferred-has, acked-left}
 

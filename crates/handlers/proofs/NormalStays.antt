@@ -15,7 +15,8 @@ use Rattle.rows.specs.declared.Latest.{Latest}
 use Rattle.frames.specs.declared.Status.the-variants.{Normal}
 use Rattle.state.specs.State.{heardBy, withStatus, withLog, normalIn}
 use Rattle.state.specs.declared.Replica.{Replica}
-use Rattle.steps.specs.Steps.{Runs, Left, acceptOf, settled}
+use Rattle.steps.specs.Steps.{Left, acceptOf, settled}
+use Rattle.book.specs.Memory.{Runs, Memory}
 use Rattle.normal.specs.Request as Request
 use Rattle.normal.specs.Request.{requestStep}
 use Rattle.normal.specs.Prepare as Prepare
@@ -38,7 +39,7 @@ use Rattle.transfer.specs.declared.Part.{Part}
 use Rattle.transfer.specs.declared.Use.{Use}
 use Rattle.transfer.specs.declared.Use.the-variants.{Ignore, Hear, Fill, Install}
 use Rattle.transfer.proofs.NewStateLaws.{fill-told, install-told, fill-fits, install-fits}
-use Rattle.do_view_change.specs.Record.{Memory, Gathering}
+use Rattle.do_view_change.specs.Record.{Gathering}
 use Rattle.handlers.specs.Handlers.{ofServed, ofCounted}
 use Rattle.handlers.proofs.Held.{Held, Kept, none-ok, as-it-was, other, back, heard-held, transferred-held, deferred-held, settled-held, acked-held}
 

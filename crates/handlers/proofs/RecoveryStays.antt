@@ -11,13 +11,15 @@ use Rattle.state.specs.State.{changingTo, withReports}
 use Rattle.state.specs.declared.Replica.{Replica}
 use Rattle.state.specs.declared.Report.{Report}
 use Rattle.state.specs.declared.Reports.{Reports}
-use Rattle.reports.specs.Rows.{withReport, reportsOk}
+use Rattle.reports.specs.Rows.{withReport}
+use Rattle.reports.specs.Sound.{reportsOk}
 use Rattle.reports.specs.Judge.{responded, Fits}
 use Rattle.reports.specs.declared.Judged.{Judged}
 use Rattle.reports.specs.declared.Judged.the-variants.{Wait, Refuse, Begin}
 use Rattle.reports.proofs.JudgeLaws.{response-lies}
 use Rattle.steps.specs.Steps.{Spoke}
-use Rattle.do_view_change.specs.Record.{Memory, Gathering}
+use Rattle.do_view_change.specs.Record.{Gathering}
+use Rattle.book.specs.Memory.{Memory}
 use Rattle.recovery.specs.Recovery.{Collected, recoveringTick, fullAnswer, bareAnswer, recoveryStep, responseOf, backIn, recoveredBy, byResponse, collectedBy, responseStep}
 use Rattle.handlers.specs.Handlers.{ofCollected}
 use Rattle.handlers.proofs.Held.{Held, Kept, none-ok, as-it-was, moves, settled-held, started-held}

@@ -32,7 +32,7 @@ use Rattle.transfer.specs.NewState.{useOf, extended, filled, installed, byUse, 
 use Rattle.transfer.specs.declared.Part.{Part}
 use Rattle.transfer.specs.declared.Use.{Use}
 use Rattle.transfer.specs.declared.Use.the-variants.{Ignore, Hear, Fill, Install}
-use Rattle.do_view_change.specs.Record.{Memory}
+use Rattle.book.specs.Memory.{Memory}
 use Rattle.handlers.specs.Handlers.{ofServed, ofCounted}
 use Rattle.handlers.proofs.RefusedSteps.{Untouched, Speaks, Leaves, done, refused, acked-done, transferred-untouched, deferred-untouched, acked-untouched}
 

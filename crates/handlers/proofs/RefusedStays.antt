@@ -12,7 +12,7 @@ use Rattle.frames.specs.declared.Message.the-variants.{Request, Prepare, Prepar
 use Rattle.rows.specs.declared.Latest.{Latest}
 use Rattle.state.specs.declared.Replica.{Replica}
 use Rattle.transfer.specs.Tick.{transferTick}
-use Rattle.do_view_change.specs.Record.{Memory}
+use Rattle.book.specs.Memory.{Memory}
 use Rattle.handlers.specs.Handlers.{preparedBy, partOf, handled, messageStep, followTick, normalTick, askTick, changingTick, idleStep}
 use Rattle.handlers.proofs.RefusedSteps.{Untouched, Speaks, done, asked-untouched}
 use Rattle.handlers.proofs.RefusedNormal.{request-untouched, prepare-untouched, prepare-ok-untouched, commit-untouched, get-state-untouched, new-state-untouched, primary-tick-untouched}

@@ -11,12 +11,13 @@ use Rattle.numbers.specs.declared.Op.{Op}
 use Rattle.numbers.proofs.WordLaws.{split}
 use Rattle.state.specs.Answers.{refusal}
 use Rattle.state.specs.declared.Replica.{Replica}
-use Rattle.steps.specs.Steps.{Runs, Spoke, Left, asked, transferred, deferred, acked}
+use Rattle.steps.specs.Steps.{Spoke, Left, asked, transferred, deferred, acked}
+use Rattle.book.specs.Memory.{Runs, Memory}
 use Rattle.steps.specs.declared.Accept.{Accept}
 use Rattle.steps.specs.declared.Accept.the-variants.{Ignore, Hear, Join, Rejoin, Take}
 use Rattle.view_change.specs.StartViewChange.{startedChange}
 use Rattle.view_change.specs.StartView.{sentStartView}
-use Rattle.do_view_change.specs.Record.{Memory, Recorded, recorded, onlySent}
+use Rattle.do_view_change.specs.Record.{Recorded, recorded, onlySent}
 use Rattle.handlers.specs.Handlers.{ofLeft}
 
 -- done, or all as it was

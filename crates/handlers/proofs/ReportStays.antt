@@ -19,13 +19,14 @@ use Rattle.config.specs.Setup.{setupOk}
 use Rattle.config.specs.declared.Setup.{Setup}
 use Rattle.config.proofs.SetupLaws.{sized}
 use Rattle.book.proofs.LogLaws.{with-length, keeps-prefix}
-use Rattle.state.specs.State.{noReport}
+use Rattle.state.specs.Statuses.{noReport}
 use Rattle.state.specs.Lengths.{storedPlace, storedLength}
 use Rattle.state.specs.declared.Replica.{Replica}
 use Rattle.state.specs.declared.Report.{Report}
 use Rattle.state.specs.declared.Reports.{Reports}
 use Rattle.state.proofs.LengthLaws.{stored-place-next}
-use Rattle.reports.specs.Rows.{withReport, reportOk, reportsOk}
+use Rattle.reports.specs.Rows.{withReport}
+use Rattle.reports.specs.Sound.{reportOk, reportsOk}
 use Rattle.reports.specs.Judge.{chosenLog, weighed, judged, answered, responded, Lies, Fits}
 use Rattle.reports.specs.Store.{keptLog, chosenOver}
 use Rattle.reports.specs.declared.Best.{Best}
@@ -34,7 +35,7 @@ use Rattle.reports.specs.declared.Judged.the-variants.{Wait, Begin}
 use Rattle.reports.proofs.RowLaws.{both, row-ok-is}
 use Rattle.reports.proofs.JudgeLaws.{length-chosen, weighed-begins}
 use Rattle.reports.proofs.StoreLaws.{install-fits}
-use Rattle.steps.specs.Steps.{Runs}
+use Rattle.book.specs.Memory.{Runs}
 use Rattle.handlers.proofs.Held.{Held, other}
 
 -- ---- rows

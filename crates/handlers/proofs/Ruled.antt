@@ -17,18 +17,20 @@ use Rattle.entries.specs.Entries.{entriesOk}
 use Rattle.config.specs.Setup.{setupOk}
 use Rattle.config.specs.declared.Setup.{Setup}
 use Rattle.config.proofs.SetupLaws.{sized}
-use Rattle.state.specs.State.{noReport, noReports, changingTo}
+use Rattle.state.specs.State.{changingTo}
+use Rattle.state.specs.Statuses.{noReport, noReports}
 use Rattle.state.specs.Answers.{completed}
 use Rattle.state.specs.Lengths.{storedPlace, logLength, storedLength}
 use Rattle.state.specs.declared.Replica.{Replica}
 use Rattle.state.specs.declared.Report.{Report}
 use Rattle.reports.proofs.RowLaws.{rows-ok-is}
-use Rattle.steps.specs.Steps.{Runs, Spoke, Left, left, committedTo, settled, asked, transferred, deferred, prepareOkOf, acked}
+use Rattle.steps.specs.Steps.{Spoke, Left, left, committedTo, settled, asked, transferred, deferred, prepareOkOf, acked}
+use Rattle.book.specs.Memory.{Runs, Memory}
 use Rattle.steps.specs.declared.Accept.{Accept}
 use Rattle.steps.specs.declared.Accept.the-variants.{Ignore, Hear, Join, Rejoin, Take}
 use Rattle.view_change.specs.StartViewChange.{startedChange}
 use Rattle.view_change.specs.StartView.{sentStartView}
-use Rattle.do_view_change.specs.Record.{Memory, Recorded, Gathering}
+use Rattle.do_view_change.specs.Record.{Recorded, Gathering}
 
 pub record Ruled (s : Replica) (m : Memory) : Type 0 where
   pub log : entriesOk (s .op .0) (m .runs .log) ≡ true

@@ -22,9 +22,10 @@ use Rattle.fees.specs.Fees.{totalsAfter}
 use Rattle.fees.specs.Results.{encodeResult}
 use Rattle.fees.specs.declared.Outcome.{Outcome}
 use Rattle.book.specs.Log.{withEntries}
-use Rattle.book.specs.Runs.{Money, applied, committed}
+use Rattle.book.specs.Runs.{applied, committed}
+use Rattle.book.specs.Memory.{Money, Runs}
 use Rattle.state.specs.declared.Replica.{Replica}
-use Rattle.steps.specs.Steps.{Runs, Left, settled, acked}
+use Rattle.steps.specs.Steps.{Left, settled, acked}
 use Rattle.normal.specs.Prepare as Prepare
 use Rattle.normal.specs.Prepare.{appendedBy, prepareStep}
 use Rattle.normal.specs.Commit.{takenCommit, commitStep}

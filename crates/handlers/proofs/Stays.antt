@@ -21,12 +21,13 @@ use Rattle.rows.specs.declared.Latest.{Latest}
 use Rattle.state.specs.State.{withClock}
 use Rattle.state.specs.Lengths.{acksLength, storedLength}
 use Rattle.state.specs.declared.Replica.{Replica}
-use Rattle.reports.specs.Rows.{reportsOk}
+use Rattle.reports.specs.Sound.{reportsOk}
 use Rattle.steps.specs.Steps.{Spoke}
 use Rattle.normal.specs.Tick.{primaryTick}
 use Rattle.transfer.specs.GetState.{getStateStep}
 use Rattle.transfer.specs.Tick.{transferTick}
-use Rattle.do_view_change.specs.Record.{Memory, Recorded, Gathering}
+use Rattle.do_view_change.specs.Record.{Recorded, Gathering}
+use Rattle.book.specs.Memory.{Memory}
 use Rattle.handlers.specs.Handlers.{preparedBy, partOf, handled, messageStep, followTick, normalTick, askTick, changingTick, idleStep}
 use Rattle.handlers.proofs.FrameLaws.{new-state-fit, report-fit, start-view-fit, response-fit}
 use Rattle.handlers.proofs.Held.{Held, Kept, as-it-was, moves, asked-held, sent-kept, left-kept, still-kept}

@@ -10,7 +10,8 @@ use Rattle.state.specs.State.{withClock, changingTo, withStart, withSent}
 use Rattle.state.specs.Lengths.{acksLength, storedLength}
 use Rattle.state.specs.declared.Replica.{Replica}
 use Rattle.steps.specs.Steps.{Spoke}
-use Rattle.do_view_change.specs.Record.{Memory, Gathering, onlySent}
+use Rattle.do_view_change.specs.Record.{Gathering, onlySent}
+use Rattle.book.specs.Memory.{Memory}
 use Rattle.voting.specs.Votes.{called, maybeStep, sameView, startViewChangeStep}
 use Rattle.voting.specs.Tick.{viewAfter, nextView, nextViewAsking, repeated, changeTick}
 use Rattle.handlers.proofs.Held.{Held, Kept, none-ok, as-it-was, moves, asked-held, started-held, still-kept, sent-kept}

@@ -17,7 +17,8 @@ use Rattle.frames.specs.Looks.{looksAt}
 use Rattle.frames.specs.declared.Message.{Message}
 use Rattle.frames.specs.declared.Message.the-variants.{Request, Prepare, PrepareOk, Commit, GetState, NewState, StartViewChange, DoViewChange, StartView, Recovery, RecoveryResponse}
 use Rattle.rows.specs.declared.Latest.{Latest}
-use Rattle.state.specs.State.{isNormal, isTransfer, isChanging, leads}
+use Rattle.state.specs.State.{leads}
+use Rattle.state.specs.Statuses.{isNormal, isTransfer, isChanging}
 use Rattle.state.specs.Answers.{quiet}
 use Rattle.state.specs.declared.Replica.{Replica}
 use Rattle.steps.specs.Steps.{Left, Spoke, spoke}
@@ -32,7 +33,8 @@ use Rattle.transfer.specs.NewState.{newStateStep}
 use Rattle.transfer.specs.Tick.{transferTick}
 use Rattle.transfer.specs.declared.Part.{Part}
 use Rattle.view_change.specs.StartView.{Joined, startViewStep}
-use Rattle.do_view_change.specs.Record.{Memory, Recorded, recorded, onlySent, doViewChangeStep}
+use Rattle.do_view_change.specs.Record.{Recorded, recorded, onlySent, doViewChangeStep}
+use Rattle.book.specs.Memory.{Memory}
 use Rattle.voting.specs.Votes.{startViewChangeStep}
 use Rattle.voting.specs.Tick.{nextView, nextViewAsking, changeTick}
 use Rattle.recovery.specs.Recovery.{Collected, recoveringTick, recoveryStep, responseStep}

@@ -27,7 +27,7 @@ use Rattle.writers.specs.Writers.{encode, sizeOf, lengthOf}
 use Rattle.writers.proofs.WriterLaws.{encode-length}
 use Rattle.state.specs.Answers.{refusal, completed}
 use Rattle.state.specs.declared.Replica.{Replica}
-use Rattle.steps.specs.Steps as Steps
+use Rattle.book.specs.Memory as Memory
 use Rattle.steps.specs.Steps.{Sound, Left, left, committedTo, settled, prepareOkOf, acked}
 use Rattle.meaning.specs.State.{viewOf, opNumber, Row, Book, State, Sent, Answer, withBook, opOf}
 use Rattle.meaning.specs.State.Answer.{refused, done}
@@ -42,10 +42,10 @@ use Rattle.meaning.proofs.BookLift.{settle-lift}
 use Rattle.meaning.proofs.StepLift.{ofLeft, bookRuns, one-message}
 
 -- the lent runs with other log, results and totals
-abbrev pub withRuns : Runs → Steps.Runs → Runs
+abbrev pub withRuns : Runs → Memory.Runs → Runs
 withRuns x y = record { log = y .log; results = y .money .results; totals = y .money .totals; acks = x .acks; stored = x .stored }
 
-module _ (c : Given) (t : Replica) (x : Steps.Runs) (table : List Row) (applied : List Entry) (k : Op) (installed : Bool) (b : Book)
+module _ (c : Given) (t : Replica) (x : Memory.Runs) (table : List Row) (applied : List Entry) (k : Op) (installed : Bool) (b : Book)
     (same : t .setup ≡ c .state .setup) (sound : Sound t x) (bytes : Bytes (x .money .totals)) (le : k .0 ≤ t .op .0) where
   abbrev before : State
   before = modelOf t (withRuns (c .runs) x) table applied

@@ -24,14 +24,15 @@ use Rattle.writers.specs.Writers as W
 use Rattle.writers.specs.Writers.{sizeOf, lengthOf}
 use Rattle.writers.proofs.WriterLaws.{others-length}
 use Rattle.book.specs.Log.{placeOf, withEntries}
-use Rattle.book.specs.Runs.{Money, money, committed, replies}
+use Rattle.book.specs.Runs.{committed, replies}
+use Rattle.book.specs.Memory.{Money, money, Memory, memory}
 use Rattle.book.proofs.LogLaws.{place-is}
 use Rattle.book.proofs.RunLaws.{replies-length}
-use Rattle.state.specs.State.{isRecovering}
+use Rattle.state.specs.Statuses.{isRecovering}
 use Rattle.state.specs.declared.Replica.{Replica}
 use Rattle.steps.specs.Steps.{committedTo}
 use Rattle.do_view_change.specs.Begin.{callsFirst, firstLength, startViewsLength, startViewsOf, ownAcks, entered, owed, begunIn, beginStep}
-use Rattle.do_view_change.specs.Record.{Memory, memory, Recorded, Gathering, startedBy}
+use Rattle.do_view_change.specs.Record.{Recorded, Gathering, startedBy}
 use Rattle.meaning.specs.State.{opNumber, Row, Book, State, Sent, opOf}
 use Rattle.meaning.specs.Book.{due, commitUpTo, commitReplies, install}
 use Rattle.meaning.specs.Sending.{sentBytes, messagesOut, repliesOut, startViewOf, startViewToOthers}

@@ -31,7 +31,8 @@ use Rattle.fees.specs.Results.{resultOf, encodeResult, ResultFits, outcomes}
 use Rattle.fees.specs.declared.Outcome.{Outcome}
 use Rattle.fees.proofs.ResultLaws.{result-codec}
 use Rattle.book.specs.Log.{placeOf, entryIn, withEntries}
-use Rattle.book.specs.Runs.{Money, applied, committed, replyTo, replies}
+use Rattle.book.specs.Runs.{applied, committed, replyTo, replies}
+use Rattle.book.specs.Memory.{Money}
 use Rattle.book.proofs.LogLaws.{place-next, entry-get, append-entries, part-entries}
 use Rattle.book.proofs.RunLaws.{committed-lengths, replies-length}
 use Rattle.meaning.specs.State.{Row, Book}

@@ -28,13 +28,14 @@ use Rattle.config.proofs.SetupLaws.{sized}
 use Rattle.frames.specs.declared.Message.the-variants.{StartViewChange, DoViewChange}
 use Rattle.writers.specs.Writers.{encode, sizeOf, lengthOf}
 use Rattle.writers.proofs.WriterLaws.{encode-length}
-use Rattle.book.specs.Runs.{money}
+use Rattle.book.specs.Memory.{money}
 use Rattle.state.specs.State as S
-use Rattle.state.specs.State.{isRecovering, leads, noReport}
+use Rattle.state.specs.State.{leads}
+use Rattle.state.specs.Statuses.{isRecovering, noReport}
 use Rattle.state.specs.Answers.{refusal, completed}
 use Rattle.state.specs.declared.Replica.{Replica}
 use Rattle.steps.specs.Steps.{spoke}
-use Rattle.reports.specs.Rows.{reportOk, reportsOk}
+use Rattle.reports.specs.Sound.{reportOk, reportsOk}
 use Rattle.view_change.specs.StartView.{Holding}
 use Rattle.view_change.proofs.StartViewChangeLaws.{calls-long}
 use Rattle.do_view_change.specs.Begin.{callsFirst, firstLength}

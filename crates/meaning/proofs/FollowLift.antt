@@ -9,7 +9,8 @@ use Rattle.numbers.proofs.CellLaws.{cells-length}
 use Rattle.entries.specs.Entries.{entryOf, entries}
 use Rattle.entries.specs.declared.Entry.{Entry}
 use Rattle.fees.specs.Results.{resultOf, outcomes}
-use Rattle.rows.specs.Rows.{Shape, followed}
+use Rattle.rows.specs.Rows.{followed}
+use Rattle.rows.specs.Shape.{Shape}
 use Rattle.rows.specs.Lawful.{Lawful}
 use Rattle.meaning.specs.State.{Row, Book, State, Sent, Reply}
 use Rattle.meaning.specs.Layout.{bookOf, modelOf}

@@ -6,7 +6,8 @@ use mathlib.Core.List.{List}
 use mathlib.Core.Option.{Option, none, some}
 use lib.Dec.{eqb}
 use Rattle.numbers.specs.Words.{if_then_else_}
-use Rattle.table.specs.Layout.{byteRow, foundIn, latestOf}
+use Rattle.table.specs.Layout.{byteRow}
+use Rattle.table.specs.Steps.{foundIn, latestOf}
 use Rattle.table.specs.declared.Row.{Row}
 use Rattle.table.proofs.LayoutLaws.{byte-lawful}
 use Rattle.meaning.specs.Layout.{tableOf, Ordered}

@@ -34,7 +34,8 @@ use Rattle.frames.specs.declared.Message.the-variants.{Request, Prepare, Prepar
 use Rattle.frames.specs.declared.Checked.the-variants.{Passed}
 use Rattle.writers.specs.Writers.{stateSize, sizeOf}
 use Rattle.rows.specs.declared.Latest.{Latest}
-use Rattle.state.specs.State.{isNormal, isTransfer, isChanging, isRecovering, leads}
+use Rattle.state.specs.State.{leads}
+use Rattle.state.specs.Statuses.{isNormal, isTransfer, isChanging, isRecovering}
 use Rattle.steps.specs.Steps.{Sound, Spoke}
 use Rattle.do_view_change.specs.Record.{Recorded, Gathering}
 use Rattle.voting.specs.Tick.{nextView, nextViewAsking}

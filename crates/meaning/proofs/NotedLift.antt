@@ -17,7 +17,8 @@ use Rattle.entries.specs.declared.Entry.{Entry}
 use Rattle.config.specs.declared.Setup.{Setup}
 use Rattle.frames.specs.declared.RecoveryState.{RecoveryState}
 use Rattle.frames.specs.declared.RecoveryState.the-variants.{Absent, Present}
-use Rattle.state.specs.State.{isRecovering, noReport, withReports}
+use Rattle.state.specs.State.{withReports}
+use Rattle.state.specs.Statuses.{isRecovering, noReport}
 use Rattle.state.specs.Lengths.{storedPlace}
 use Rattle.state.specs.declared.Replica.{Replica}
 use Rattle.state.specs.declared.Report.{Report}

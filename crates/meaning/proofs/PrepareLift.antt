@@ -28,10 +28,10 @@ use Rattle.config.proofs.SetupLaws.{sized}
 use Rattle.rows.specs.declared.Latest as Rows
 use Rattle.frames.specs.declared.Status.the-variants.{StateTransfer}
 use Rattle.state.specs.State as S
-use Rattle.state.specs.State.{isRecovering}
+use Rattle.state.specs.Statuses.{isRecovering}
 use Rattle.state.specs.Answers.{refusal, quiet}
 use Rattle.state.specs.declared.Replica.{Replica}
-use Rattle.steps.specs.Steps as Steps
+use Rattle.book.specs.Memory as Memory
 use Rattle.steps.specs.Steps.{Sound, Left, left, committedTo, settled, asked, transferred, acked}
 use Rattle.normal.specs.Commit.{takenCommit, commitStep}
 use Rattle.normal.specs.Prepare.{lowerOf, appendVerdict, verdictOf, withEntry, nextOp, appendedBy, byVerdict, takenPrepare, prepareStep}
@@ -66,7 +66,7 @@ silent-shown c d b m′ h =
     h
 
 -- what refusal 1 leaves of the number of replicas
-few : (s : Replica) (x : Steps.Runs) → Sound s x → s .setup .n ≤ 7
+few : (s : Replica) (x : Memory.Runs) → Sound s x → s .setup .n ≤ 7
 few s x h = sized (s .setup) (h .sized) .seven
 
 module _ (c : Given) (table : List Row) (applied : List Entry) where
@@ -206,7 +206,7 @@ twice-not true = refl
 twice-not false = refl
 
 -- on_prepare, its last part, by a state t with runs y that are read as m₁
-module _ (c : Given) (k : Op) (t : Replica) (y : Steps.Runs) (table : List Row) (applied : List Entry) (b : Book)
+module _ (c : Given) (k : Op) (t : Replica) (y : Memory.Runs) (table : List Row) (applied : List Entry) (b : Book)
     (same : t .setup ≡ c .state .setup) (sound : Sound t y) (bytes : Bytes (y .money .totals)) where
   abbrev ends : Left
   ends =
@@ -244,7 +244,7 @@ module _ (c : Given) (p : Prepared) (table : List Row) (applied : List Entry) (m
   abbrev s : Replica
   s = c .state
 
-  abbrev x : Steps.Runs
+  abbrev x : Memory.Runs
   x = bookRuns (c .runs)
 
   abbrev m : State

@@ -18,8 +18,9 @@ use Rattle.numbers.proofs.CellLaws.{cells-length}
 use Rattle.entries.specs.Entries.{entryOf}
 use Rattle.entries.specs.declared.Entry.{Entry}
 use Rattle.config.specs.Replicas.{bit, withMember, quorumOf}
-use Rattle.book.specs.Runs.{Money, money}
-use Rattle.state.specs.State.{isNormal, leads}
+use Rattle.book.specs.Memory.{Money, money}
+use Rattle.state.specs.State.{leads}
+use Rattle.state.specs.Statuses.{isNormal}
 use Rattle.state.specs.Answers.{quiet}
 use Rattle.state.specs.declared.Replica.{Replica}
 use Rattle.steps.specs.Steps.{Sound, committedTo}

@@ -24,7 +24,7 @@ use Rattle.book.proofs.LogLaws.{place-is, keeps-prefix}
 use Rattle.config.specs.Replicas.{quorumOf}
 use Rattle.config.specs.declared.Setup.{Setup}
 use Rattle.config.proofs.SetupLaws.{Sized, sized}
-use Rattle.state.specs.State.{noReport}
+use Rattle.state.specs.Statuses.{noReport}
 use Rattle.state.specs.Lengths.{storedPlace}
 use Rattle.state.specs.declared.Replica.{Replica}
 use Rattle.state.specs.declared.Report.{Report}

@@ -16,10 +16,11 @@ use Rattle.entries.specs.declared.Entry.{Entry}
 use Rattle.config.specs.declared.Setup.{Setup}
 use Rattle.config.proofs.SetupLaws.{sized}
 use Rattle.frames.specs.declared.Status.the-variants.{Normal}
-use Rattle.state.specs.State.{isRecovering, withLog, normalIn}
+use Rattle.state.specs.State.{withLog, normalIn}
+use Rattle.state.specs.Statuses.{isRecovering}
 use Rattle.state.specs.Answers.{completed}
 use Rattle.state.specs.declared.Replica.{Replica}
-use Rattle.steps.specs.Steps as Steps
+use Rattle.book.specs.Memory as Memory
 use Rattle.steps.specs.Steps.{Sound, committedTo, settled}
 use Rattle.view_change.specs.StartView.{Carried, withLogOf}
 use Rattle.view_change.proofs.StartViewLaws.{part-fits, joins-sound}
@@ -48,10 +49,10 @@ module _ (c : Given) (table : List Row) (applied : List Entry) (sound : Sound (c
   abbrev was : State
   was = modelOf s (c .runs) table applied
 
-  abbrev x : Steps.Runs
+  abbrev x : Memory.Runs
   x = bookRuns (c .runs)
 
-  abbrev y : Steps.Runs
+  abbrev y : Memory.Runs
   y = withLogOf o part x
 
   -- the state before it commits

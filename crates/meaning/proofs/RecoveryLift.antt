@@ -36,7 +36,8 @@ use Rattle.writers.specs.Writers.{encode, stateSize, sizeOf, lengthOf}
 use Rattle.writers.proofs.WriterLaws.{encode-length}
 use Rattle.book.specs.Log.{withEntries, keepsFirst}
 use Rattle.book.proofs.LogLaws.{place-is, keeps-prefix}
-use Rattle.state.specs.State.{isRecovering, leads, noReport}
+use Rattle.state.specs.State.{leads}
+use Rattle.state.specs.Statuses.{isRecovering, noReport}
 use Rattle.state.specs.Answers.{completed}
 use Rattle.state.specs.Lengths.{storedPlace}
 use Rattle.state.specs.declared.Replica.{Replica}

@@ -22,7 +22,7 @@ use Rattle.numbers.proofs.CellLaws.{cells-length, cells-taken}
 use Rattle.entries.specs.Entries.{entryOf, encodeEntry, entries, EntryFits}
 use Rattle.entries.proofs.EntryLaws.{entry-codec}
 use Rattle.config.specs.declared.Setup.{Setup}
-use Rattle.state.specs.State.{noReport}
+use Rattle.state.specs.Statuses.{noReport}
 use Rattle.state.specs.Lengths.{storedPlace}
 use Rattle.state.specs.declared.Report.{Report}
 use Rattle.reports.specs.Rows.{countOne, greaterCommit, laterView, betterOf, filledIn, greatestIn, latestIn, chosenFrom}

@@ -23,7 +23,8 @@ use Rattle.frames.specs.declared.Message.the-variants.{Prepare}
 use Rattle.writers.specs.Writers as W
 use Rattle.rows.specs.declared.Latest.{Latest}
 use Rattle.book.specs.Log.{placeOf}
-use Rattle.book.specs.Runs.{money, replyTo}
+use Rattle.book.specs.Runs.{replyTo}
+use Rattle.book.specs.Memory.{money}
 use Rattle.book.proofs.LogLaws.{place-is, place-mono}
 use Rattle.book.proofs.RunLaws.{reply-length}
 use Rattle.state.specs.State.{leads, withLog}

@@ -22,7 +22,8 @@ use Rattle.numbers.proofs.NumberLaws.{le-or-lt}
 use Rattle.rows.specs.declared.Goal.the-variants.{Client, End}
 use Rattle.rows.specs.Search.{isBefore}
 use Rattle.rows.specs.Lawful.{Lawful}
-use Rattle.rows.specs.Rows.{Shape, rowAt, seek, spotOf, isThere, stored, endOf, inserted, putRow}
+use Rattle.rows.specs.Rows.{seek, spotOf, isThere, stored, endOf, inserted, putRow}
+use Rattle.rows.specs.Shape.{Shape, rowAt}
 use Rattle.rows.proofs.SeekLaws.{beforeAt, seek-is}
 use Rattle.rows.proofs.StoreLaws.{stored-length, stored-behind}
 use Rattle.meaning.specs.State.{Row}

@@ -32,10 +32,11 @@ use Rattle.writers.proofs.WriterLaws.{encode-length}
 use Rattle.book.specs.Log.{keepsFirst}
 use Rattle.book.proofs.LogLaws.{place-is, keeps-prefix}
 use Rattle.state.specs.State as S
-use Rattle.state.specs.State.{isChanging, isRecovering, withLog, normalIn}
+use Rattle.state.specs.State.{withLog, normalIn}
+use Rattle.state.specs.Statuses.{isChanging, isRecovering}
 use Rattle.state.specs.Lengths.{acksLength}
 use Rattle.state.specs.declared.Replica.{Replica}
-use Rattle.steps.specs.Steps as Steps
+use Rattle.book.specs.Memory as Memory
 use Rattle.steps.specs.Steps.{Sound}
 use Rattle.view_change.specs.StartViewChange.{callsLength, callsOf, startedChange}
 use Rattle.view_change.specs.StartView.{Holding, Carried, startViewLength, sentStartView, keepVerdict, verdictOf, Joined, withLogOf, joinedBy, byVerdict, startViewStep}
@@ -222,7 +223,7 @@ module _ (c : Given) (table : List Row) (applied : List Entry) (v : View) (o k :
   abbrev fit : Answer → Answer
   fit a = fitted (length (c .out)) (length (c .reps)) a
 
-  abbrev x : Steps.Runs
+  abbrev x : Memory.Runs
   x = bookRuns (c .runs)
 
   -- the log that it carries
@@ -255,7 +256,7 @@ module _ (c : Given) (table : List Row) (applied : List Entry) (v : View) (o k :
     abbrev r : Replica
     r = withLog (normalIn (c .state) v) o (c .state .commit)
 
-    abbrev y : Steps.Runs
+    abbrev y : Memory.Runs
     y = withLogOf o part x
 
     abbrev new-book : Book

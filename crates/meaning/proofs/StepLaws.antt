@@ -10,7 +10,7 @@ use borrow.Author.Tests.{lt-leb}
 use Rattle.numbers.specs.Words.{_and_}
 use Rattle.numbers.proofs.WordLaws.{if-false}
 use Rattle.config.specs.declared.Setup.{Setup}
-use Rattle.state.specs.State.{isChanging}
+use Rattle.state.specs.Statuses.{isChanging}
 use Rattle.meaning.specs.State.{State, Sent}
 use Rattle.meaning.specs.State.Answer.{done}
 use Rattle.meaning.specs.ViewChange.{clearedVotes, enough, changingTo, maybeSendDoViewChange}

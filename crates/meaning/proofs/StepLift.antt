@@ -31,12 +31,15 @@ use Rattle.writers.specs.Writers.{encode, sizeOf, lengthOf}
 use Rattle.writers.proofs.WriterLaws.{encode-length}
 use Rattle.config.specs.declared.Setup.{Setup}
 use Rattle.state.specs.State as S
-use Rattle.state.specs.State.{isRecovering, noReport, catchingUpIn}
+use Rattle.state.specs.Statuses as Statuses
+use Rattle.state.specs.State.{catchingUpIn}
+use Rattle.state.specs.Statuses.{isRecovering, noReport}
 use Rattle.state.specs.declared.Report.{Report}
 use Rattle.state.specs.Answers.{refusal, completed, quiet}
 use Rattle.state.specs.declared.Replica.{Replica}
-use Rattle.steps.specs.Steps as Steps
-use Rattle.steps.specs.Steps.{Spoke, Left, spoke, runs, acceptChanging, acceptOf, isTake, asked, deferred, alone}
+use Rattle.book.specs.Memory as Memory
+use Rattle.steps.specs.Steps.{Spoke, Left, spoke, acceptChanging, acceptOf, isTake, asked, deferred, alone}
+use Rattle.book.specs.Memory.{runs}
 use Rattle.steps.proofs.StepLaws.{older, newer, changing, absent, leading, follows}
 use Rattle.steps.specs.declared.Accept.{Accept}
 use Rattle.steps.specs.declared.Accept.the-variants.{Ignore, Hear, Join, Rejoin, Take}
@@ -152,7 +155,7 @@ ofLeft c d =
     }
 
 -- log, results and totals among the lent runs
-abbrev pub bookRuns : Runs → Steps.Runs
+abbrev pub bookRuns : Runs → Memory.Runs
 bookRuns x = runs (x .log) (x .results) (x .totals)
 
 -- a book that a call leaves alone
@@ -174,12 +177,12 @@ unfolding placed
 none-placed f h i zero = refl
 none-placed f h i (suc k) = rw (h i, none-placed f h (suc i) k)
 
-pub reports-cleared : (u : Setup) (stored : List ℕ) → u .n ≤ 7 → placed (reportAt u stored) 0 (take (u .n) (S.noReports .rows)) ≡ replicate (u .n) none
+pub reports-cleared : (u : Setup) (stored : List ℕ) → u .n ≤ 7 → placed (reportAt u stored) 0 (take (u .n) (Statuses.noReports .rows)) ≡ replicate (u .n) none
 unfolding reportAt if_then_else_
 reports-cleared u stored h = rw (take-same (u .n) 7 noReport h) (none-placed (reportAt u stored) (λ i. refl) 0 (u .n))
 
 pub responses-cleared : (u : Setup) (stored : List ℕ) → u .n ≤ 7
-    → placed (responseAt u stored) 0 (take (u .n) (S.noReports .rows)) ≡ replicate (u .n) none
+    → placed (responseAt u stored) 0 (take (u .n) (Statuses.noReports .rows)) ≡ replicate (u .n) none
 unfolding responseAt if_then_else_
 responses-cleared u stored h = rw (take-same (u .n) 7 noReport h) (none-placed (responseAt u stored) (λ i. refl) 0 (u .n))
 

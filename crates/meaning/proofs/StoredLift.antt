@@ -14,7 +14,8 @@ use lib.Seq.{getD-take}
 use Rattle.numbers.proofs.WordLaws.{if-true, if-false, split₂}
 use Rattle.entries.specs.declared.Entry.{Entry}
 use Rattle.config.specs.declared.Setup.{Setup}
-use Rattle.state.specs.State.{isRecovering, noReport, withReports}
+use Rattle.state.specs.State.{withReports}
+use Rattle.state.specs.Statuses.{isRecovering, noReport}
 use Rattle.state.specs.Lengths.{storedPlace}
 use Rattle.state.specs.declared.Replica.{Replica}
 use Rattle.state.specs.declared.Report.{Report}

@@ -20,7 +20,8 @@ use Rattle.numbers.proofs.WordLaws.{split, split₂, if-true, if-false, and-tru
 use Rattle.entries.specs.declared.Entry.{Entry}
 use Rattle.fees.specs.declared.Outcome.{Outcome}
 use Rattle.rows.specs.declared.Change.{Change}
-use Rattle.rows.specs.Rows.{Shape, rowAt, spotOf, isThere, putRow, appended, isLatest, replied, committed, keptRow, rebuilt, renewed, followed}
+use Rattle.rows.specs.Rows.{spotOf, isThere, putRow, appended, isLatest, replied, committed, keptRow, rebuilt, renewed, followed}
+use Rattle.rows.specs.Shape.{Shape, rowAt}
 use Rattle.rows.specs.Lawful.{Holds, Lawful}
 use Rattle.meaning.specs.State.{Row, Book}
 use Rattle.meaning.specs.Book.{outcome, totalsAfter, answersOf, Seen, find, put, rowOf, append, appendAll, keep, keptFor, install}

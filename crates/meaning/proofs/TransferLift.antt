@@ -33,10 +33,11 @@ use Rattle.writers.proofs.WriterLaws.{encode-length}
 use Rattle.book.specs.Log.{placeOf, risesAfter}
 use Rattle.book.proofs.LogLaws.{place-is}
 use Rattle.state.specs.State as S
-use Rattle.state.specs.State.{isNormal, isChanging, isRecovering, withLog, normalIn}
+use Rattle.state.specs.State.{withLog, normalIn}
+use Rattle.state.specs.Statuses.{isNormal, isChanging, isRecovering}
 use Rattle.state.specs.Answers.{refusal}
 use Rattle.state.specs.declared.Replica.{Replica}
-use Rattle.steps.specs.Steps as Steps
+use Rattle.book.specs.Memory as Memory
 use Rattle.steps.specs.Steps.{Sound, Spoke, Left, left, deferred, acked, spoke}
 use Rattle.transfer.specs.declared.Part.{Part}
 use Rattle.transfer.specs.declared.Use.{Use}
@@ -205,14 +206,14 @@ module _ (c : Given) (table : List Row) (applied : List Entry) where
   -- ---- on_new_state
 
   module _ (v : View) (p : Part) (part : List ℕ) (h : Taken c p part) where
-    abbrev x : Steps.Runs
+    abbrev x : Memory.Runs
     x = bookRuns (c .runs)
 
     abbrev Goal : Use → Answer → Type 0
     Goal z a = Shown c (ofLeft c (byUse z (c .state) p part x (c .out))) (now .book) (fit a)
 
     -- a state t commits over the runs y and acknowledges; refusal 9 leaves all as it was
-    abbrev extending : Replica → Steps.Runs → Bool → Left
+    abbrev extending : Replica → Memory.Runs → Bool → Left
     extending t y b =
         if ltb (length (c .out)) 16 then left (refusal 9 (c .state)) x (c .out) else acked (c .state) t (p .commit) b y (c .out)
 
@@ -257,7 +258,7 @@ module _ (c : Given) (table : List Row) (applied : List Entry) where
       abbrev t : Replica
       t = withLog (S.withStatus (S.heardBy (c .state)) Normal) (p .end) (c .state .commit)
 
-      abbrev y : Steps.Runs
+      abbrev y : Memory.Runs
       y = withPart (c .state .op .0) k rest x
 
       abbrev more-book : Book
@@ -326,7 +327,7 @@ module _ (c : Given) (table : List Row) (applied : List Entry) where
       abbrev r : Replica
       r = withLog (normalIn (c .state) (c .state .view)) (p .end) (c .state .commit)
 
-      abbrev z : Steps.Runs
+      abbrev z : Memory.Runs
       z = withPart (c .state .commit .0) j part x
 
       abbrev new-book : Book

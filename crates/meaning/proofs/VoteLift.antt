@@ -25,7 +25,8 @@ use Rattle.clock.specs.declared.Ticked.{Ticked}
 use Rattle.frames.specs.declared.Message.the-variants.{GetState, StartViewChange}
 use Rattle.writers.specs.Writers.{encode}
 use Rattle.state.specs.State as S
-use Rattle.state.specs.State.{isNormal, isChanging, leads}
+use Rattle.state.specs.State.{leads}
+use Rattle.state.specs.Statuses.{isNormal, isChanging}
 use Rattle.state.specs.Answers.{refusal, completed, quiet}
 use Rattle.state.specs.declared.Replica.{Replica}
 use Rattle.steps.specs.Steps.{Spoke, spoke, asked}

@@ -13,9 +13,9 @@ use Rattle.entries.specs.Entries.{entries}
 use Rattle.entries.specs.declared.Entry.{Entry}
 use Rattle.config.specs.declared.Setup.{Setup}
 use Rattle.fees.specs.Results.{outcomes}
-use Rattle.rows.specs.Rows.{Shape, rowAt}
-use Rattle.book.specs.Runs.{Money, money}
-use Rattle.state.specs.State.{isRecovering}
+use Rattle.rows.specs.Shape.{Shape, rowAt}
+use Rattle.book.specs.Memory.{Money, money}
+use Rattle.state.specs.Statuses.{isRecovering}
 use Rattle.state.specs.Lengths.{logLength, resultsLength, acksLength, totalsLength, storedPlace, storedLength}
 use Rattle.state.specs.declared.Replica.{Replica}
 use Rattle.state.specs.declared.Report.{Report}

@@ -15,7 +15,7 @@ use Rattle.config.specs.declared.Setup.{Setup}
 use Rattle.fees.specs.declared.Outcome.{Outcome}
 use Rattle.clock.specs.Clock.{heardOf}
 use Rattle.frames.specs.declared.Status.the-variants.{Normal, StateTransfer}
-use Rattle.state.specs.State.{isNormal, isTransfer, isChanging}
+use Rattle.state.specs.Statuses.{isNormal, isTransfer, isChanging}
 use Rattle.meaning.specs.State.{State, Answer}
 use Rattle.meaning.specs.State.Answer.{refused, done}
 use Rattle.meaning.specs.State.{ignored, withBook, withClock, withStatus, withAcks, opOf}

@@ -8,7 +8,7 @@ use lib.ListN.{getD, set, replicate}
 use Rattle.numbers.specs.Words.{if_then_else_, _or_}
 use Rattle.config.specs.Replicas.{quorumOf}
 use Rattle.config.specs.declared.Setup.{Setup}
-use Rattle.state.specs.State.{isNormal}
+use Rattle.state.specs.Statuses.{isNormal}
 use Rattle.meaning.specs.State.{Held, Response, State, Answer}
 use Rattle.meaning.specs.State.Answer.{refused, done}
 use Rattle.meaning.specs.State.{ignored, withStore}

@@ -12,7 +12,7 @@ use Rattle.fees.specs.declared.Outcome.{Outcome}
 use Rattle.clock.specs.declared.Clock.{Clock}
 use Rattle.frames.specs.declared.Status.{Status}
 use Rattle.frames.specs.declared.Message.{Message}
-use Rattle.state.specs.State.{isNormal, isTransfer, isChanging}
+use Rattle.state.specs.Statuses.{isNormal, isTransfer, isChanging}
 
 -- a view number as the tuple struct that messages carry
 abbrev pub viewOf : ℕ → View

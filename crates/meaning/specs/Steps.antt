@@ -29,7 +29,7 @@ use Rattle.frames.specs.declared.Message.the-variants.{Request, Prepare, Prepar
 use Rattle.frames.specs.declared.Checked.{Checked}
 use Rattle.frames.specs.declared.Checked.the-variants.{Passed, Refused}
 use Rattle.writers.specs.Writers.{stateSize, sizeOf}
-use Rattle.state.specs.State.{isNormal, isTransfer, isChanging}
+use Rattle.state.specs.Statuses.{isNormal, isTransfer, isChanging}
 use Rattle.meaning.specs.State.{Held, Report, Response, State, Sent, Answer}
 use Rattle.meaning.specs.State.Answer.{refused, done}
 use Rattle.meaning.specs.State.{ignored, withClock, opOf, open-state}

@@ -13,7 +13,7 @@ use Rattle.config.specs.Replicas.{withMember, quorumOf}
 use Rattle.config.specs.declared.Setup.{Setup}
 use Rattle.clock.specs.Clock.{resetOf, startOf, restartOf}
 use Rattle.frames.specs.declared.Status.the-variants.{Normal, ViewChange}
-use Rattle.state.specs.State.{isNormal, isChanging}
+use Rattle.state.specs.Statuses.{isNormal, isChanging}
 use Rattle.meaning.specs.State.{Book, Votes, Held, Report, Store, State, Sent, Answer}
 use Rattle.meaning.specs.State.Answer.{refused, done}
 use Rattle.meaning.specs.State.{ignored, withVotes, withStore}

@@ -15,7 +15,8 @@ use Rattle.state.specs.Answers.{quiet}
 use Rattle.state.specs.declared.Answer.{Answer}
 use Rattle.state.specs.declared.Replica.{Replica}
 use Rattle.steps.specs.declared.Accept.{Accept}
-use Rattle.steps.specs.Steps.{Runs, Sound, Left, spoke, left, alone, acceptOf, isTake, committedTo, settled, deferred, transferred}
+use Rattle.steps.specs.Steps.{Sound, Left, spoke, left, alone, acceptOf, isTake, committedTo, settled, deferred, transferred}
+use Rattle.book.specs.Memory.{Runs}
 use Rattle.normal.specs.Commit.{takenCommit}
 
 -- there are replicas to ask

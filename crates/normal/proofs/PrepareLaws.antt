@@ -21,7 +21,8 @@ use Rattle.state.specs.State.{heardBy, withLog}
 use Rattle.state.specs.Answers.{refusal}
 use Rattle.state.specs.declared.Answer.{Answer}
 use Rattle.state.specs.declared.Replica.{Replica}
-use Rattle.steps.specs.Steps.{Runs, Sound, Left, runs, left, acked}
+use Rattle.steps.specs.Steps.{Sound, Left, left, acked}
+use Rattle.book.specs.Memory.{Runs, runs}
 use Rattle.normal.specs.declared.prepare.Verdict.{Verdict}
 use Rattle.normal.specs.declared.prepare.Verdict.the-variants.{Transfer, Again, Refuse, Append}
 use Rattle.normal.specs.declared.prepare.Prepared.{Prepared}

@@ -16,12 +16,14 @@ use Rattle.numbers.proofs.WordLaws.{split}
 use Rattle.config.specs.Replicas.{bit, withMember, quorumOf}
 use Rattle.config.proofs.SetupLaws.{sized}
 use Rattle.book.specs.Log.{placeOf}
-use Rattle.book.specs.Runs.{Money, money, replies}
-use Rattle.state.specs.State.{isNormal, leads}
+use Rattle.book.specs.Runs.{replies}
+use Rattle.book.specs.Memory.{Money, money, Runs, runs}
+use Rattle.state.specs.State.{leads}
+use Rattle.state.specs.Statuses.{isNormal}
 use Rattle.state.specs.Answers.{completed, quiet}
 use Rattle.state.specs.declared.Answer.{Answer}
 use Rattle.state.specs.declared.Replica.{Replica}
-use Rattle.steps.specs.Steps.{Runs, Sound, runs, committedTo, settled}
+use Rattle.steps.specs.Steps.{Sound, committedTo, settled}
 use Rattle.steps.proofs.StepLaws.{commits-fit}
 use Rattle.normal.specs.declared.prepare_ok.Count.{Count}
 use Rattle.normal.specs.declared.prepare_ok.Count.the-variants.{Nothing, Note, Refuse, Commit}

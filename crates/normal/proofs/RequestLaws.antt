@@ -21,7 +21,8 @@ use Rattle.book.specs.Log.{placeOf, withEntries}
 use Rattle.book.specs.Runs.{replyTo}
 use Rattle.book.proofs.LogLaws.{place-is, entry-room}
 use Rattle.book.proofs.RunLaws.{reply-length}
-use Rattle.state.specs.State.{isNormal, leads, withLog}
+use Rattle.state.specs.State.{leads, withLog}
+use Rattle.state.specs.Statuses.{isNormal}
 use Rattle.state.specs.Answers.{refusal, completed, quiet}
 use Rattle.state.specs.declared.Answer.{Answer}
 use Rattle.state.specs.declared.Replica.{Replica}

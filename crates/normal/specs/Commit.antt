@@ -8,7 +8,8 @@ use Rattle.numbers.specs.declared.Op.{Op}
 use Rattle.state.specs.State.{heardBy}
 use Rattle.state.specs.Answers.{quiet}
 use Rattle.state.specs.declared.Replica.{Replica}
-use Rattle.steps.specs.Steps.{Runs, Left, left, alone, acceptOf, isTake, committedTo, settled, deferred, transferred}
+use Rattle.steps.specs.Steps.{Left, left, alone, acceptOf, isTake, committedTo, settled, deferred, transferred}
+use Rattle.book.specs.Memory.{Runs}
 
 -- a Commit past our log starts a state transfer; c is bounded by nothing
 unfoldable pub takenCommit : Replica → Op → Runs → List ℕ → Left

@@ -12,7 +12,8 @@ use Rattle.book.specs.Log.{withEntries}
 use Rattle.state.specs.State.{heardBy, withLog}
 use Rattle.state.specs.Answers.{refusal}
 use Rattle.state.specs.declared.Replica.{Replica}
-use Rattle.steps.specs.Steps.{Runs, Left, left, alone, acceptOf, isTake, deferred, transferred, acked}
+use Rattle.steps.specs.Steps.{Left, left, alone, acceptOf, isTake, deferred, transferred, acked}
+use Rattle.book.specs.Memory.{Runs}
 use Rattle.normal.specs.declared.prepare.Verdict.{Verdict}
 use Rattle.normal.specs.declared.prepare.Verdict.the-variants.{Transfer, Again, Refuse, Append}
 use Rattle.normal.specs.declared.prepare.Prepared.{Prepared}

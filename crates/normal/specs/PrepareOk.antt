@@ -11,8 +11,10 @@ use Rattle.numbers.specs.Numbers.{over}
 use Rattle.numbers.specs.declared.View.{View}
 use Rattle.numbers.specs.declared.Op.{Op}
 use Rattle.config.specs.Replicas.{bit, withMember, quorumOf}
-use Rattle.book.specs.Runs.{Money, committed, replies}
-use Rattle.state.specs.State.{isNormal, leads}
+use Rattle.book.specs.Runs.{committed, replies}
+use Rattle.book.specs.Memory.{Money}
+use Rattle.state.specs.State.{leads}
+use Rattle.state.specs.Statuses.{isNormal}
 use Rattle.state.specs.Answers.{refusal, completed, quiet}
 use Rattle.state.specs.declared.Answer.{Answer}
 use Rattle.state.specs.declared.Replica.{Replica}

@@ -20,7 +20,8 @@ use Rattle.writers.specs.Writers.{toOthers}
 use Rattle.rows.specs.declared.Latest.{Latest}
 use Rattle.book.specs.Log.{withEntries}
 use Rattle.book.specs.Runs.{replyTo}
-use Rattle.state.specs.State.{isNormal, leads, withLog}
+use Rattle.state.specs.State.{leads, withLog}
+use Rattle.state.specs.Statuses.{isNormal}
 use Rattle.state.specs.Answers.{refusal, completed, quiet}
 use Rattle.state.specs.Lengths.{logLength, acksLength}
 use Rattle.state.specs.declared.Answer.{Answer}

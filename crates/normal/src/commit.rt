@@ -1,6 +1,7 @@
 // on_commit
 ghost use mathlib.Core.Path.{_≡_};
-ghost use Rattle.steps.specs.Steps.{Sound, runs, left};
+ghost use Rattle.steps.specs.Steps.{Sound, left};
+ghost use Rattle.book.specs.Memory.{runs};
 ghost use Rattle.normal.specs.Commit.{takenCommit, commitStep};
 use numbers::Op;
 use numbers::View;

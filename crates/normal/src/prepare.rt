@@ -1,7 +1,8 @@
 // on_prepare
 ghost use mathlib.Core.Path.{_≡_};
 ghost use Prim.Native.Nat.{_≤_, _<_};
-ghost use Rattle.steps.specs.Steps.{Sound, runs, left};
+ghost use Rattle.steps.specs.Steps.{Sound, left};
+ghost use Rattle.book.specs.Memory.{runs};
 ghost use Rattle.normal.specs.Prepare.{lowerOf, appendVerdict, verdictOf, appendedBy, takenPrepare, prepareStep};
 use entries::Entry;
 use numbers::Op;

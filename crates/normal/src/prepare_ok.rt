@@ -2,8 +2,8 @@
 ghost use mathlib.Core.Path.{_≡_};
 ghost use Prim.Native.Nat.{_-_, _*_, _≤_, _<_};
 ghost use lib.ListN.{length};
-ghost use Rattle.book.specs.Runs.{money};
-ghost use Rattle.steps.specs.Steps.{Sound, runs};
+ghost use Rattle.book.specs.Memory.{money, runs};
+ghost use Rattle.steps.specs.Steps.{Sound};
 ghost use Rattle.normal.specs.PrepareOk.{listens, verdictOf, counted, committedBy, prepareOkStep};
 use numbers::Op;
 use numbers::View;

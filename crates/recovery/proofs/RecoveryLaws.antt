@@ -16,7 +16,8 @@ use Rattle.frames.specs.declared.Message.the-variants.{Recovery, RecoveryRespon
 use Rattle.frames.specs.declared.RecoveryState.the-variants.{Absent, Present}
 use Rattle.writers.specs.Writers.{encode, sizeOf, stateSize, lengthOf}
 use Rattle.writers.proofs.WriterLaws.{encode-length}
-use Rattle.state.specs.State.{isNormal, leads}
+use Rattle.state.specs.State.{leads}
+use Rattle.state.specs.Statuses.{isNormal}
 use Rattle.state.specs.Answers.{refusal, completed, quiet}
 use Rattle.state.specs.declared.Answer.{Answer}
 use Rattle.state.specs.declared.Replica.{Replica}

@@ -15,7 +15,8 @@ use Rattle.numbers.proofs.NumberLaws.{eq-or-not}
 use Rattle.config.proofs.SetupLaws.{sized}
 use Rattle.frames.specs.declared.RecoveryState.{RecoveryState}
 use Rattle.frames.specs.declared.RecoveryState.the-variants.{Absent, Present}
-use Rattle.state.specs.State.{noReport, withReports}
+use Rattle.state.specs.State.{withReports}
+use Rattle.state.specs.Statuses.{noReport}
 use Rattle.state.specs.Answers.{refusal, completed, quiet}
 use Rattle.state.specs.Lengths.{storedPlace}
 use Rattle.state.specs.declared.Answer.{Answer}
@@ -32,7 +33,8 @@ use Rattle.reports.specs.declared.Judged.the-variants.{Wait, Refuse, Begin}
 use Rattle.reports.proofs.RowLaws.{rows-ok-is}
 use Rattle.reports.proofs.JudgeLaws.{response-lies, response-within}
 use Rattle.reports.proofs.StoreLaws.{chosen-over-length}
-use Rattle.steps.specs.Steps.{Sound, runs, committedTo, settled}
+use Rattle.steps.specs.Steps.{Sound, committedTo, settled}
+use Rattle.book.specs.Memory.{runs}
 use Rattle.recovery.specs.Recovery.{responseOf, Collecting, Answered, Collected, collected, backIn, recoveredBy, byResponse, collectedBy, responseStep}
 
 -- ---- what is held of a response

@@ -14,20 +14,23 @@ use Rattle.frames.specs.declared.Message.the-variants.{Recovery, RecoveryRespon
 use Rattle.frames.specs.declared.RecoveryState.{RecoveryState}
 use Rattle.frames.specs.declared.RecoveryState.the-variants.{Absent, Present}
 use Rattle.writers.specs.Writers.{encode, toOthers}
-use Rattle.state.specs.State.{isNormal, leads, withLog, normalIn, withReports}
+use Rattle.state.specs.State.{leads, withLog, normalIn, withReports}
+use Rattle.state.specs.Statuses.{isNormal}
 use Rattle.state.specs.Answers.{refusal, completed, quiet}
 use Rattle.state.specs.Lengths.{storedLength}
 use Rattle.state.specs.declared.Answer.{Answer}
 use Rattle.state.specs.declared.Replica.{Replica}
 use Rattle.state.specs.declared.Report.{Report}
 use Rattle.state.specs.declared.Reports.{Reports}
-use Rattle.reports.specs.Rows.{withReport, reportsOk}
+use Rattle.reports.specs.Rows.{withReport}
+use Rattle.reports.specs.Sound.{reportsOk}
 use Rattle.reports.specs.Judge.{responded}
 use Rattle.reports.specs.Store.{keptLog, chosenOver}
 use Rattle.reports.specs.declared.Best.{Best}
 use Rattle.reports.specs.declared.Judged.{Judged}
 use Rattle.reports.specs.declared.Judged.the-variants.{Wait, Refuse, Begin}
-use Rattle.steps.specs.Steps.{Runs, Sound, Spoke, spoke, committedTo, settled}
+use Rattle.steps.specs.Steps.{Sound, Spoke, spoke, committedTo, settled}
+use Rattle.book.specs.Memory.{Runs}
 use Rattle.view_change.specs.StartViewChange.{startedChange}
 
 -- Recovery to all others

@@ -27,18 +27,21 @@ use Rattle.frames.specs.declared.Checked.the-variants.{Passed, Refused}
 use Rattle.rows.specs.Rows.{followed}
 use Rattle.rows.specs.declared.Latest.{Latest}
 use Rattle.rows.specs.declared.Change.{Change}
-use Rattle.table.specs.Layout.{Left, byteRow, rowsOf, oldAfter}
+use Rattle.table.specs.Layout.{byteRow, rowsOf}
+use Rattle.table.specs.Steps.{Left, oldAfter}
 use Rattle.state.specs.State.{newIn}
 use Rattle.state.specs.Answers.{refusal, completed}
 use Rattle.state.specs.Lengths.{totalsLength, acksLength, tableLength}
 use Rattle.state.specs.declared.Answer.{Answer}
 use Rattle.state.specs.declared.Replica.{Replica}
 use Rattle.steps.specs.Steps.{spoke}
-use Rattle.do_view_change.specs.Record.{Memory, memory, Recorded, recorded}
+use Rattle.do_view_change.specs.Record.{Recorded, recorded}
+use Rattle.book.specs.Memory.{Memory, memory}
 use Rattle.recovery.specs.Recovery.{recoveriesLength, recoveriesOf, recoveringTick}
 use Rattle.handlers.specs.Handlers.{messageStep, idleStep}
 use Rattle.handlers.proofs.Stays.{Stays}
-use Rattle.replica.specs.Calls.{Lent, lent, Called, called, lengthsOf, creatable, sound, latestFor, changeBy, tableAfter, tabled, followedBy, Following, withTable, following, checkedCall, messageCall, idleCall, noReplica, emptied, createCall, recoverCall}
+use Rattle.replica.specs.Calls.{latestFor, changeBy, tableAfter, tabled, followedBy, Following, withTable, following, checkedCall, messageCall, idleCall, emptied, createCall, recoverCall}
+use Rattle.replica.specs.Lent.{Lent, lent, Called, called, lengthsOf, creatable, sound, noReplica}
 
 -- ---- the client table
 

@@ -18,7 +18,8 @@ use Rattle.config.proofs.SetupLaws.{sized}
 use Rattle.frames.specs.declared.Status.{Status}
 use Rattle.table.specs.Layout.{noRow, byteRow, rowsOf}
 use Rattle.table.proofs.LayoutLaws.{left-cleared, byte-lawful}
-use Rattle.state.specs.State.{isRecovering, noReport, newIn}
+use Rattle.state.specs.State.{newIn}
+use Rattle.state.specs.Statuses.{isRecovering, noReport}
 use Rattle.state.specs.Lengths.{acksLength, totalsLength, tableLength}
 use Rattle.state.specs.declared.Replica.{Replica}
 use Rattle.handlers.proofs.Held.{none-ok}
@@ -33,7 +34,8 @@ use Rattle.meaning.proofs.TableLift.{blank-means}
 use Rattle.meaning.proofs.StepLift.{reports-cleared, responses-cleared}
 use Rattle.meaning.proofs.StartViewLift.{over-all}
 use Rattle.safety.specs.Demand.{Created, run}
-use Rattle.replica.specs.Calls.{Lent, lengthsOf, sound, emptied}
+use Rattle.replica.specs.Calls.{emptied}
+use Rattle.replica.specs.Lent.{Lent, lengthsOf, sound}
 use Rattle.replica.specs.Promise.{meaningOf, Kept}
 use Rattle.replica.proofs.SoundLaws.{Long, is-sound}
 

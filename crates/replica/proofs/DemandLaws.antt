@@ -19,7 +19,7 @@ use Rattle.config.specs.declared.Setup.{Setup}
 use Rattle.frames.specs.Refusals.{checkFrame}
 use Rattle.frames.specs.declared.Checked.{Checked}
 use Rattle.frames.specs.declared.Checked.the-variants.{Passed, Refused}
-use Rattle.table.specs.Layout.{oldAfter}
+use Rattle.table.specs.Steps.{oldAfter}
 use Rattle.state.specs.Answers.{refusal}
 use Rattle.state.specs.declared.Replica.{Replica}
 use Rattle.do_view_change.specs.Record.{Recorded}
@@ -31,7 +31,8 @@ use Rattle.meaning.specs.Layout.{bookOf, modelOf}
 use Rattle.safety.specs.Demand.{Call, answer, run, Safe, Later}
 use Rattle.safety.specs.Demand.Call.{frame, tick}
 use Rattle.safety.proofs.Runs.{demand3}
-use Rattle.replica.specs.Calls.{Lent, Called, called, latestFor, changeBy, tableAfter, Tabled, tabled, followedBy, withTable, following, checkedCall, messageCall, idleCall}
+use Rattle.replica.specs.Calls.{latestFor, changeBy, tableAfter, Tabled, tabled, followedBy, withTable, following, checkedCall, messageCall, idleCall}
+use Rattle.replica.specs.Lent.{Lent, Called, called}
 use Rattle.replica.specs.Promise.{Reached, Kept, Means, meaningOf, appliedAfter, frameAnswer, tickAnswer, MessagePromise, IdlePromise, CreatePromise, RecoverPromise}
 use Rattle.replica.specs.Demands.{Untouched, HandedBack, Link, Chain, GoesOn}
 use Rattle.replica.specs.Demands.Link.{message, tick as idled}

@@ -18,7 +18,8 @@ use Rattle.fees.specs.Results.{outcomes}
 use Rattle.frames.specs.declared.Message.{Message}
 use Rattle.frames.specs.declared.Message.the-variants.{Request, Prepare, PrepareOk, Commit, GetState, NewState, StartViewChange, DoViewChange, StartView, Recovery, RecoveryResponse}
 use Rattle.rows.specs.Rows.{followed}
-use Rattle.table.specs.Layout.{byteRow, rowOf, rowsOf, Left, oldAfter}
+use Rattle.table.specs.Layout.{byteRow, rowOf, rowsOf}
+use Rattle.table.specs.Steps.{Left, oldAfter}
 use Rattle.table.specs.declared.Row as T
 use Rattle.table.proofs.LayoutLaws.{left-size, byte-lawful}
 use Rattle.state.specs.Answers.{refusal}
@@ -41,7 +42,8 @@ use Rattle.meaning.proofs.HandlersLift.{RowTells, Fit}
 use Rattle.safety.specs.Demand.{Call, answer, run, Safe}
 use Rattle.safety.proofs.Runs.{demand3}
 use Rattle.safety.proofs.Latest.{safe-rising, safe-latest}
-use Rattle.replica.specs.Calls.{Lent, Called, called, changeBy, tableAfter, following, latestFor}
+use Rattle.replica.specs.Calls.{changeBy, tableAfter, following, latestFor}
+use Rattle.replica.specs.Lent.{Lent, Called, called}
 use Rattle.replica.specs.Promise.{runsOf, meaningOf, Owned, Reached, Kept, Done, Means, appliedAfter}
 use Rattle.replica.proofs.SoundLaws.{Whole, sound-is, is-sound}
 use Rattle.replica.proofs.TableLaws.{refused-follows, done-follows, table-after, old-after}

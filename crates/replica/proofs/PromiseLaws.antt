@@ -23,7 +23,8 @@ use Rattle.meaning.specs.Steps.{fitted, onChecked, onIdle, onFrame, onTick}
 use Rattle.meaning.proofs.HandlersLift.{message-shown, idle-shown}
 use Rattle.safety.specs.Demand.{answer}
 use Rattle.safety.specs.Demand.Call.{frame as framed, tick}
-use Rattle.replica.specs.Calls.{Lent, Called, latestFor, following, checkedCall, messageCall, idleCall, createCall, recoverCall}
+use Rattle.replica.specs.Calls.{latestFor, following, checkedCall, messageCall, idleCall, createCall, recoverCall}
+use Rattle.replica.specs.Lent.{Lent, Called}
 use Rattle.replica.specs.Promise.{meaningOf, Owned, Reached, Kept, frameAnswer, tickAnswer}
 use Rattle.replica.specs.Promise.{MessagePromise, IdlePromise, CreatePromise, RecoverPromise}
 use Rattle.replica.proofs.KeptLaws.{goes-on, Promised, given, rows, whole, never-1, fit, row-tells, refused-kept, step-kept}

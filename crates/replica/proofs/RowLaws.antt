@@ -18,9 +18,11 @@ use Rattle.entries.specs.declared.Entry.{Entry}
 use Rattle.fees.specs.Results.{resultOf, ResultFits, outcomes}
 use Rattle.fees.specs.declared.Outcome.{Outcome}
 use Rattle.book.proofs.EntryRules.{num-fits}
-use Rattle.rows.specs.Rows.{rowAt, spotOf, stored, inserted, putRow, appended, replied, committed, keptRow, rebuilt, renewed, followed}
+use Rattle.rows.specs.Rows.{spotOf, stored, inserted, putRow, appended, replied, committed, keptRow, rebuilt, renewed, followed}
+use Rattle.rows.specs.Shape.{rowAt}
 use Rattle.rows.specs.declared.Change.{Change}
-use Rattle.table.specs.Layout.{noRow, byteRow, freshOf, rowWith, rowOf, encodeRow, rowsOf, RowFits}
+use Rattle.table.specs.Layout.{noRow, byteRow, freshOf, rowWith, rowOf, encodeRow, rowsOf}
+use Rattle.table.specs.Steps.{RowFits}
 use Rattle.table.specs.declared.Row.{Row}
 use Rattle.table.proofs.LayoutLaws.{row-codec}
 use Rattle.safety.specs.Ranges.{All}

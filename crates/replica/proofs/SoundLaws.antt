@@ -16,7 +16,7 @@ use Rattle.state.specs.declared.Replica.{Replica}
 use Rattle.reports.proofs.RowLaws.{both}
 use Rattle.do_view_change.specs.Record.{Gathering}
 use Rattle.replica.specs.declared.Lengths.{Lengths}
-use Rattle.replica.specs.Calls.{Lent, lengthsOf, lengthsOk, creatable, sound}
+use Rattle.replica.specs.Lent.{Lent, lengthsOf, lengthsOk, creatable, sound}
 
 -- a test that must pass, and one that must fail
 passes : (a b : Bool) → (if not a then false else b) ≡ true → (a ≡ true) × (b ≡ true)

@@ -33,7 +33,8 @@ use Rattle.meaning.specs.Steps.{newAt, create, recover}
 use Rattle.meaning.proofs.SendLift.{bare-bytes, sends-only}
 use Rattle.meaning.proofs.StartViewLift.{by-not}
 use Rattle.safety.specs.Demand.Created.{new, back}
-use Rattle.replica.specs.Calls.{Lent, Called, called, lengthsOf, lengthsOk, creatable, emptied, noReplica, createCall, recoverCall}
+use Rattle.replica.specs.Calls.{emptied, createCall, recoverCall}
+use Rattle.replica.specs.Lent.{Lent, Called, called, lengthsOf, lengthsOk, creatable, noReplica}
 use Rattle.replica.specs.Promise.{Kept, Done, Means}
 use Rattle.replica.proofs.SoundLaws.{Long, long-is}
 use Rattle.replica.proofs.CreateLaws.{new-reads, new-kept}

@@ -21,15 +21,18 @@ use Rattle.entries.specs.declared.Entry.{Entry}
 use Rattle.fees.specs.Results.{resultOf, outcomes}
 use Rattle.rows.specs.Rows.{appended, committed, renewed, followed}
 use Rattle.rows.specs.declared.Change.{Change}
-use Rattle.table.specs.Layout.{byteRow, encodeRow, rowsOf, Left, oldAfter}
+use Rattle.table.specs.Layout.{byteRow, encodeRow, rowsOf}
+use Rattle.table.specs.Steps.{Left, oldAfter}
 use Rattle.table.specs.declared.Row.{Row}
 use Rattle.table.proofs.LayoutLaws.{left-same}
 use Rattle.state.specs.Answers.{refusal}
 use Rattle.state.specs.Lengths.{tableLength}
 use Rattle.state.specs.declared.Replica.{Replica}
-use Rattle.do_view_change.specs.Record.{Memory, Recorded, recorded}
+use Rattle.do_view_change.specs.Record.{Recorded, recorded}
+use Rattle.book.specs.Memory.{Memory}
 use Rattle.safety.proofs.Ranges.{entries-fit}
-use Rattle.replica.specs.Calls.{called, changeBy, tableAfter, Tabled, followedBy, withTable, following}
+use Rattle.replica.specs.Calls.{changeBy, tableAfter, Tabled, followedBy, withTable, following}
+use Rattle.replica.specs.Lent.{called}
 use Rattle.replica.proofs.RowLaws.{rows-fit, results-fit, followed-fits, read-back}
 
 -- ---- nothing changed

@@ -2,16 +2,15 @@
 -- everything that is lent. Refusals in document 01's order: 1; 2 to 6 on the frame alone; the Rust's early returns and the later causes in the
 -- handlers; 9, 10. Assumes nothing.
 use mathlib.Core.Path.{_≡_}
-use mathlib.Core.Bool.{Bool, true, false, not}
+use mathlib.Core.Bool.{true, false, not}
 use mathlib.Core.List.{List, _++_}
 use Prim.Native.Nat.{ℕ, _*_, _≤_}
-use lib.Dec.{ltb, leb, eqb}
-use lib.ListN.{length, take, drop, replicate}
+use lib.Dec.{ltb, eqb}
+use lib.ListN.{length, drop, replicate}
 use Rattle.numbers.specs.Words.{if_then_else_, _and_}
 use Rattle.numbers.specs.Numbers.{over}
 use Rattle.numbers.specs.Cells.{packed}
 use Rattle.numbers.specs.declared.View.{View}
-use Rattle.numbers.specs.declared.Op.{Op}
 use Rattle.entries.specs.Entries.{entries}
 use Rattle.entries.specs.declared.Entry.{Entry}
 use Rattle.config.specs.Setup.{setupOk}
@@ -26,72 +25,18 @@ use Rattle.frames.specs.declared.Checked.the-variants.{Passed, Refused}
 use Rattle.rows.specs.Rows.{followed}
 use Rattle.rows.specs.declared.Latest.{Latest}
 use Rattle.rows.specs.declared.Change.{Change}
-use Rattle.table.specs.Layout.{byteRow, encodeRow, rowsOf, foundIn, latestOf, oldAfter}
-use Rattle.state.specs.State.{noReports, newIn}
+use Rattle.table.specs.Layout.{byteRow, encodeRow, rowsOf}
+use Rattle.table.specs.Steps.{foundIn, latestOf, oldAfter}
+use Rattle.state.specs.State.{newIn}
 use Rattle.state.specs.Answers.{refusal, completed, quiet}
-use Rattle.state.specs.Lengths.{logLength, resultsLength, acksLength, totalsLength, tableLength, storedLength}
+use Rattle.state.specs.Lengths.{logLength, resultsLength, acksLength, totalsLength, tableLength}
 use Rattle.state.specs.declared.Answer.{Answer}
 use Rattle.state.specs.declared.Replica.{Replica}
-use Rattle.reports.specs.Rows.{reportsOk}
-use Rattle.steps.specs.Steps.{runs}
-use Rattle.do_view_change.specs.Record.{Memory, memory, Recorded}
+use Rattle.book.specs.Memory.{Memory, memory}
+use Rattle.do_view_change.specs.Record.{Recorded}
 use Rattle.recovery.specs.Recovery.{recoveriesLength, recoveriesOf}
 use Rattle.handlers.specs.Handlers.{messageStep, idleStep}
-use Rattle.replica.specs.declared.Lengths.{Lengths}
-
--- everything that a call is lent: the runs of the core, the client table, the run for the rows that a rebuild replaces
-pub record Lent : Type 0 where
-  pub core : Memory
-  pub table : List ℕ
-  pub old : List ℕ
-
-abbrev pub lent : (log results totals acks stored table old out reps : List ℕ) → Lent
-lent log results totals acks stored table old out reps =
-    record { core = memory log results totals acks stored out reps; table = table; old = old }
-
--- what a call leaves
-pub record Called : Type 0 where
-  pub answer : Answer
-  pub lent : Lent
-
-abbrev pub called : Answer → Lent → Called
-called a x = record { answer = a; lent = x }
-
--- the lengths of the lent state buffers
-abbrev pub lengthsOf : Lent → Lengths
-lengthsOf x =
-    record {
-      log = length (x .core .runs .log);
-      results = length (x .core .runs .money .results);
-      totals = length (x .core .runs .money .totals);
-      acks = length (x .core .acks);
-      stored = length (x .core .stored);
-      table = length (x .table);
-      old = length (x .old);
-    }
-
--- refusal 1 on them: each has its fixed length
-unfoldable pub lengthsOk : Setup → Lengths → Bool
-lengthsOk u l =
-    if not (eqb (l .log) (logLength u)) then false else
-    if not (eqb (l .results) (resultsLength u)) then false else
-    if not (eqb (l .totals) (totalsLength u)) then false else
-    if not (eqb (l .acks) (acksLength u)) then false else
-    if not (eqb (l .stored) (storedLength u)) then false else
-    if not (eqb (l .table) (tableLength u)) then false else
-    eqb (l .old) (tableLength u)
-
--- and on a setup
-unfoldable pub creatable : Setup → Lengths → Bool
-creatable u l = if setupOk u then lengthsOk u l else false
-
--- refusal 1 is given exactly where this is false: setup, commit ≤ op number ≤ L of our log and of each stored one, lengths
-unfoldable pub sound : Replica → Lengths → Bool
-sound s l =
-    if not (creatable (s .setup) l) then false else
-    if ltb (s .op .0) (s .commit .0) then false else
-    if ltb (s .setup .room) (s .op .0) then false else
-    reportsOk (s .setup .room) (take (s .setup .n) (s .reports .rows))
+use Rattle.replica.specs.Lent.{Lent, lent, Called, called, lengthsOf, creatable, sound, noReplica}
 
 -- a client of whom nothing is known
 abbrev pub nobody : Latest
@@ -176,24 +121,6 @@ unfoldable pub idleCall : Replica → Lent → Called
 idleCall s x =
     if not (sound s (lengthsOf x)) then called (refusal 1 s) x else
     following s (x .table) (x .old) (idleStep s (x .core))
-
--- the all-zero state, which a refused creation hands back
-abbrev pub noReplica : Replica
-noReplica =
-    record {
-      setup = record { n = 0; id = 0; timeout = 0; room = 0; members = 0 };
-      status = Normal;
-      view = record { 0 = 0 };
-      normal = record { 0 = 0 };
-      catching = false;
-      op = record { 0 = 0 };
-      commit = record { 0 = 0 };
-      clock = record { heard = false; waiting = 0; stable = 0; attempts = 0 };
-      starts = 0;
-      sent = false;
-      nonce = 0;
-      reports = noReports;
-    }
 
 -- what a creation leaves in lent memory: totals, acks and table are zeroed, the other runs stay as they were
 unfoldable pub emptied : Setup → Lent → (out : List ℕ) → Lent

@@ -7,7 +7,7 @@ use Rattle.entries.specs.declared.Entry.{Entry}
 use Rattle.state.specs.Answers.{refusal}
 use Rattle.state.specs.declared.Replica.{Replica}
 use Rattle.safety.specs.Demand.{Safe, Later}
-use Rattle.replica.specs.Calls.{Lent, Called, called}
+use Rattle.replica.specs.Lent.{Lent, Called, called}
 use Rattle.replica.specs.Promise.{Owned, Kept, meaningOf, MessagePromise, IdlePromise}
 
 -- Demand 1: a call that is refused leaves the state and every lent byte as they were, with counts of 0.

@@ -11,7 +11,7 @@ use Rattle.entries.specs.Entries.{entriesOk}
 use Rattle.entries.specs.declared.Entry.{Entry}
 use Rattle.config.specs.declared.Setup.{Setup}
 use Rattle.table.specs.Layout.{byteRow, rowsOf}
-use Rattle.state.specs.State.{noReport}
+use Rattle.state.specs.Statuses.{noReport}
 use Rattle.state.specs.Answers.{refusal}
 use Rattle.state.specs.Lengths.{storedPlace}
 use Rattle.state.specs.declared.Replica.{Replica}
@@ -21,7 +21,8 @@ use Rattle.meaning.specs.Sending.{messagesOut, repliesOut}
 use Rattle.meaning.specs.Layout.{Runs, tableOf, Ordered, modelOf}
 use Rattle.meaning.specs.Steps.{onFrame, onTick, create, recover}
 use Rattle.safety.specs.Demand.{Call, run, Created}
-use Rattle.replica.specs.Calls.{Lent, Called, called, lengthsOf, lengthsOk, sound, noReplica, messageCall, idleCall, createCall, recoverCall}
+use Rattle.replica.specs.Calls.{messageCall, idleCall, createCall, recoverCall}
+use Rattle.replica.specs.Lent.{Lent, Called, called, lengthsOf, lengthsOk, sound, noReplica}
 
 -- the runs beside the client table
 abbrev pub runsOf : Lent → Runs

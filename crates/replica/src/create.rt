@@ -6,7 +6,7 @@ ghost use lib.ListN.{length, replicate};
 ghost use Rattle.numbers.specs.Numbers.{over};
 ghost use Rattle.config.specs.Setup.{setupOk};
 ghost use Rattle.state.specs.Lengths.{totalsLength, acksLength, tableLength};
-ghost use Rattle.replica.specs.Calls.{lent, called, noReplica};
+ghost use Rattle.replica.specs.Lent.{lent, called, noReplica};
 ghost use Rattle.replica.specs.Promise.{CreatePromise, RecoverPromise};
 use crate::Lengths;
 use crate::sound;

@@ -25,7 +25,7 @@ use Rattle.config.specs.Replicas.{quorumOf}
 use Rattle.config.proofs.SetupLaws.{primary-below}
 use Rattle.book.specs.Log.{keepsFirst}
 use Rattle.book.proofs.LogLaws.{keeps-short, keeps-prefix}
-use Rattle.state.specs.State.{noReport}
+use Rattle.state.specs.Statuses.{noReport}
 use Rattle.state.specs.Lengths.{storedPlace}
 use Rattle.state.specs.declared.Report.{Report}
 use Rattle.state.specs.declared.Reports.{Reports}

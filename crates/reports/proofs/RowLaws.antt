@@ -16,9 +16,10 @@ use lib.Seq.{drop-cons, getD-take}
 use borrow.Author.Tests.{leb-true, not-true, not-false}
 use Rattle.numbers.specs.Words.{if_then_else_}
 use Rattle.numbers.proofs.WordLaws.{if-false, split}
-use Rattle.state.specs.State.{noReport}
+use Rattle.state.specs.Statuses.{noReport}
 use Rattle.state.specs.declared.Report.{Report}
-use Rattle.reports.specs.Rows.{countOne, greaterCommit, laterView, betterOf, filledIn, greatestIn, latestIn, chosenFrom, reportOk, reportsOk}
+use Rattle.reports.specs.Rows.{countOne, greaterCommit, laterView, betterOf, filledIn, greatestIn, latestIn, chosenFrom}
+use Rattle.reports.specs.Sound.{reportOk, reportsOk}
 use Rattle.reports.specs.declared.Best.{Best}
 
 -- ---- loops

@@ -23,7 +23,7 @@ use Rattle.config.specs.declared.Setup.{Setup}
 use Rattle.book.specs.Log.{withEntries}
 use Rattle.book.proofs.LogLaws.{place-is}
 use Rattle.book.proofs.EntryRules.{part-ok}
-use Rattle.state.specs.State.{noReport}
+use Rattle.state.specs.Statuses.{noReport}
 use Rattle.state.specs.Lengths.{storedPlace}
 use Rattle.state.specs.declared.Report.{Report}
 use Rattle.state.proofs.LengthLaws.{stored-place-next}

@@ -11,7 +11,7 @@ use Rattle.numbers.specs.declared.Op.{Op}
 use Rattle.config.specs.Setup.{primaryOf}
 use Rattle.config.specs.Replicas.{quorumOf}
 use Rattle.book.specs.Log.{keepsFirst}
-use Rattle.state.specs.State.{noReport}
+use Rattle.state.specs.Statuses.{noReport}
 use Rattle.state.specs.Lengths.{storedPlace}
 use Rattle.state.specs.declared.Reports.{Reports}
 use Rattle.reports.specs.Rows.{filledIn, greatestIn, latestIn, chosenFrom}

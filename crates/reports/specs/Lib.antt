@@ -1,3 +1,4 @@
+pub mod Sound
 pub mod Rows
 pub mod Judge
 pub mod Store

@@ -1,12 +1,12 @@
 -- Reports of replicas, a row for each id: what is counted, chosen and greatest among the first n. A row that isn't there is passed over;
 -- rows from n on are never read. Assumes nothing.
-use mathlib.Core.Bool.{Bool, true, false, not}
+use mathlib.Core.Bool.{not}
 use mathlib.Core.List.{List, [], _∷_}
 use Prim.Native.Nat.{ℕ, suc, _+_}
-use lib.Dec.{ltb, leb}
+use lib.Dec.{ltb}
 use lib.ListN.{set}
 use Rattle.numbers.specs.Words.{if_then_else_}
-use Rattle.state.specs.State.{noReport}
+use Rattle.state.specs.Statuses.{noReport}
 use Rattle.state.specs.declared.Report.{Report}
 use Rattle.state.specs.declared.Reports.{Reports}
 use Rattle.reports.specs.declared.Best.{Best}
@@ -67,15 +67,3 @@ latestIn (d ∷ ds) = laterView d (latestIn ds)
 unfoldable pub chosenFrom : (id : ℕ) → List Report → Best
 chosenFrom i [] = noBest
 chosenFrom i (d ∷ ds) = betterOf d i (chosenFrom (suc i) ds)
-
--- refusal 1 on a row: of a report that is there the log fits its place, and no more is committed than it has
-unfoldable pub reportOk : (room : ℕ) → Report → Bool
-reportOk room d =
-    if not (d .there) then true else
-    if leb (d .op .0) room then leb (d .commit .0) (d .op .0) else
-    false
-
--- refusal 1 on rows
-unfoldable pub reportsOk : (room : ℕ) → List Report → Bool
-reportsOk room [] = true
-reportsOk room (d ∷ ds) = if reportOk room d then reportsOk room ds else false

@@ -2,8 +2,9 @@
 ghost use mathlib.Core.Path.{_≡_};
 ghost use Prim.Native.Nat.{_≤_, _<_};
 ghost use lib.ListN.{length, getD, take};
-ghost use Rattle.state.specs.State.{noReport};
-ghost use Rattle.reports.specs.Rows.{withReport, countOne, greaterCommit, laterView, betterOf, filledIn, greatestIn, latestIn, chosenFrom, reportOk, reportsOk};
+ghost use Rattle.state.specs.Statuses.{noReport};
+ghost use Rattle.reports.specs.Rows.{withReport, countOne, greaterCommit, laterView, betterOf, filledIn, greatestIn, latestIn, chosenFrom};
+ghost use Rattle.reports.specs.Sound.{reportOk, reportsOk};
 use crate::Best;
 use numbers::Op;
 use numbers::View;

@@ -19,7 +19,8 @@ use Rattle.numbers.proofs.NumberLaws.{le-or-lt}
 use Rattle.rows.specs.declared.Span.{Span}
 use Rattle.rows.specs.declared.Goal.{Goal}
 use Rattle.rows.specs.Search.{span, midOf, halved, isBefore}
-use Rattle.rows.specs.Rows.{Shape, rowAt, seekFrom, seek, spotOf, isThere}
+use Rattle.rows.specs.Rows.{seekFrom, seek, spotOf, isThere}
+use Rattle.rows.specs.Shape.{Shape, rowAt}
 
 pub half-less : (s : Span) (up : Bool) → s .lo < s .hi
     → (halved s up .hi - halved s up .lo < s .hi - s .lo) × (halved s up .hi ≤ s .hi) × (s .lo ≤ halved s up .lo)

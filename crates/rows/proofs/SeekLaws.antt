@@ -10,7 +10,8 @@ use Rattle.numbers.proofs.WordLaws.{split}
 use Rattle.rows.specs.declared.Span.{Span}
 use Rattle.rows.specs.declared.Goal.{Goal}
 use Rattle.rows.specs.Search.{span, midOf, halved, isBefore}
-use Rattle.rows.specs.Rows.{Shape, rowAt, seekFrom, seek}
+use Rattle.rows.specs.Rows.{seekFrom, seek}
+use Rattle.rows.specs.Shape.{Shape, rowAt}
 
 module _ {R : Type 0} (h : Shape R) (g : Goal) (xs : List R) where
   -- the row at a place stands before the goal

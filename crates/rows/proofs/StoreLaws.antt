@@ -5,7 +5,8 @@ use Prim.Native.Nat.{ℕ, _+_, _-_, _≤_, _<_}
 use native.Mathlib.Omega.{arith}
 use lib.ListN.{length, getD, take, drop, length-append, length-take, length-drop}
 use lib.Seq.{getD-append-add, getD-drop}
-use Rattle.rows.specs.Rows.{Shape, rowAt, stored}
+use Rattle.rows.specs.Rows.{stored}
+use Rattle.rows.specs.Shape.{Shape, rowAt}
 
 module _ {R : Type 0} (h : Shape R) (at to : ℕ) (r : R) (xs : List R) (le : at ≤ to) (lt : to < length xs) where
   abbrev front : List R

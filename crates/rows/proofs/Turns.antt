@@ -17,7 +17,8 @@ use Rattle.entries.specs.declared.Entry.{Entry}
 use Rattle.fees.specs.declared.Outcome.{Outcome}
 use Rattle.rows.specs.declared.Change.{Change}
 use Rattle.rows.specs.declared.Goal.the-variants.{End}
-use Rattle.rows.specs.Rows.{Shape, rowAt, seek, spotOf, isThere, stored, endOf, inserted, putRow, appended, isLatest, replied, committed}
+use Rattle.rows.specs.Rows.{seek, spotOf, isThere, stored, endOf, inserted, putRow, appended, isLatest, replied, committed}
+use Rattle.rows.specs.Shape.{Shape, rowAt}
 use Rattle.rows.specs.Rows.{keptRow, rebuilt, renewed, followed}
 
 module _ {R : Type 0} (h : Shape R) where

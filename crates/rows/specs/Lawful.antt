@@ -5,7 +5,7 @@ use mathlib.Core.Option.{Option, none, some}
 use Prim.Native.Nat.{_≤_}
 use Rattle.entries.specs.declared.Entry.{Entry}
 use Rattle.fees.specs.declared.Outcome.{Outcome}
-use Rattle.rows.specs.Rows.{Shape}
+use Rattle.rows.specs.Shape.{Shape}
 
 module _ {R : Type 0} (h : Shape R) where
   -- a row in use, of an entry's client and number, with this reply

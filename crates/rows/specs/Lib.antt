@@ -1,3 +1,4 @@
+pub mod Shape
 pub mod Search
 pub mod Rows
 pub mod Lawful

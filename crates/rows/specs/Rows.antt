@@ -2,10 +2,9 @@
 -- for any rows, those that no call produced too, and for any form of a row: bytes, or a struct. Assumes nothing.
 use mathlib.Core.Bool.{Bool}
 use mathlib.Core.List.{List, [], _∷_, _++_}
-use mathlib.Core.Option.{Option}
 use Prim.Native.Nat.{ℕ, zero, suc, _+_, _-_}
 use lib.Dec.{leb, eqb}
-use lib.ListN.{length, getD, take, drop, replicate}
+use lib.ListN.{length, take, drop, replicate}
 use Rattle.numbers.specs.Words.{if_then_else_, _and_}
 use Rattle.entries.specs.declared.Entry.{Entry}
 use Rattle.fees.specs.declared.Outcome.{Outcome}
@@ -13,31 +12,16 @@ use Rattle.rows.specs.declared.Span.{Span}
 use Rattle.rows.specs.declared.Change.{Change}
 use Rattle.rows.specs.declared.Goal.{Goal}
 use Rattle.rows.specs.declared.Goal.the-variants.{Client, End}
+use Rattle.rows.specs.Shape.{Shape, rowAt}
 use Rattle.rows.specs.Search.{span, midOf, halved, isBefore}
 
--- What the table asks of a form of row: is it in use; whose latest request it holds, and the reply kept for it; an unused row; the row of an
--- entry that has no reply yet; with its reply; with the reply that another row holds.
-pub record Shape (R : Type 0) : Type 0 where
-  pub used : R → Bool
-  pub client : R → ℕ
-  pub request : R → ℕ
-  pub kept : R → Option Outcome
-  pub blank : R
-  pub fresh : Entry → R
-  pub answered : Entry → Outcome → R
-  pub again : Entry → R → R
-
 module _ {R : Type 0} (h : Shape R) where
-  -- the row at a place; past the end an unused one
-  abbrev pub rowAt : List R → ℕ → R
-  rowAt xs i = getD xs i (h .blank)
-
   -- the search within a span; as many halvings as it has fuel
   unfoldable pub seekFrom : (fuel : ℕ) → Span → Goal → List R → ℕ
   seekFrom zero s g xs = s .lo
   seekFrom (suc f) s g xs =
       if leb (s .hi) (s .lo) then s .lo else
-      seekFrom f (halved s (isBefore (h .used (rowAt xs (midOf s))) (h .client (rowAt xs (midOf s))) g)) g xs
+      seekFrom f (halved s (isBefore (h .used (rowAt h xs (midOf s))) (h .client (rowAt h xs (midOf s))) g)) g xs
 
   -- from place a on
   unfoldable pub seek : ℕ → Goal → List R → ℕ
@@ -49,7 +33,7 @@ module _ {R : Type 0} (h : Shape R) where
 
   -- whether its row stands there
   unfoldable pub isThere : List R → ℕ → Bool
-  isThere xs c = h .used (rowAt xs (spotOf xs c)) and eqb (h .client (rowAt xs (spotOf xs c))) c
+  isThere xs c = h .used (rowAt h xs (spotOf xs c)) and eqb (h .client (rowAt h xs (spotOf xs c))) c
 
   -- r at place `at`, the rows from there up to place `to` one place further; at = to: in place of the row there
   unfoldable pub stored : (at to : ℕ) → R → List R → List R
@@ -78,7 +62,7 @@ module _ {R : Type 0} (h : Shape R) where
 
   -- the entry is its client's latest request
   unfoldable pub isLatest : List R → Entry → Bool
-  isLatest xs e = isThere xs (e .client) and eqb (h .request (rowAt xs (spotOf xs (e .client)))) (e .request)
+  isLatest xs e = isThere xs (e .client) and eqb (h .request (rowAt h xs (spotOf xs (e .client)))) (e .request)
 
   -- commit_op: the reply is remembered only where the row's number is the entry's
   unfoldable pub replied : List R → Entry → Outcome → List R
@@ -96,7 +80,7 @@ module _ {R : Type 0} (h : Shape R) where
   unfoldable pub keptRow : (old : List R) (left : ℕ) → Entry → R
   keptRow old left e =
       if eqb left 0 then h .fresh e else
-      if isLatest old e then h .again e (rowAt old (spotOf old (e .client))) else
+      if isLatest old e then h .again e (rowAt h old (spotOf old (e .client))) else
       h .fresh e
 
   -- install_log: the rows of the new log's entries in order, the first `left` of them committed; a later entry of a client overwrites its row

@@ -22,7 +22,7 @@ use Rattle.clock.specs.declared.Duty.{Duty}
 use Rattle.clock.specs.declared.Duty.the-variants.{Lead, Follow, Change}
 use Rattle.frames.specs.declared.Status.{Status}
 use Rattle.meaning.specs.State.{Place, Book, Votes, Report, Response, Store, State}
-use Rattle.state.specs.State.{isChanging}
+use Rattle.state.specs.Statuses.{isChanging}
 use Rattle.meaning.specs.State.{withPlace, withBook, withVotes, withStore, withClock, withStatus, withAcks, opOf}
 use Rattle.meaning.specs.Book.{outcome, totalsAfter, through, append, appendAll, due, commitUpTo, install, emptyBook}
 use Rattle.meaning.specs.Normal.{heardBy, committed, ackRow, acked, blanked, accepted}

@@ -2,7 +2,6 @@
 -- Assumes nothing.
 use mathlib.Core.Bool.{Bool, true, false}
 use lib.Dec.{eqb}
-use lib.ListN.{replicate}
 use Prim.Native.Nat.{ℕ}
 use Rattle.numbers.specs.declared.View.{View}
 use Rattle.numbers.specs.declared.Op.{Op}
@@ -12,50 +11,14 @@ use Rattle.config.specs.declared.Setup.{Setup}
 use Rattle.clock.specs.Clock.{freshClock, heardOf, resetOf, startOf, restartOf}
 use Rattle.clock.specs.declared.Clock.{Clock}
 use Rattle.frames.specs.declared.Status.{Status}
-use Rattle.frames.specs.declared.Status.the-variants.{Normal, StateTransfer, ViewChange, Recovering}
-use Rattle.state.specs.declared.Report.{Report}
+use Rattle.frames.specs.declared.Status.the-variants.{Normal, ViewChange}
+use Rattle.state.specs.Statuses.{isChanging, noReports}
 use Rattle.state.specs.declared.Reports.{Reports}
 use Rattle.state.specs.declared.Replica.{Replica}
-
--- tests on the status: Normal
-unfoldable pub isNormal : Status → Bool
-isNormal Normal = true
-isNormal StateTransfer = false
-isNormal ViewChange = false
-isNormal Recovering = false
-
--- StateTransfer: waiting for NewState within the view
-unfoldable pub isTransfer : Status → Bool
-isTransfer Normal = false
-isTransfer StateTransfer = true
-isTransfer ViewChange = false
-isTransfer Recovering = false
-
--- ViewChange, which catching up is too
-unfoldable pub isChanging : Status → Bool
-isChanging Normal = false
-isChanging StateTransfer = false
-isChanging ViewChange = true
-isChanging Recovering = false
-
--- Recovering: back from a crash
-unfoldable pub isRecovering : Status → Bool
-isRecovering Normal = false
-isRecovering StateTransfer = false
-isRecovering ViewChange = false
-isRecovering Recovering = true
 
 -- is_primary
 unfoldable pub leads : Replica → Bool
 leads s = eqb (s .setup .id) (primaryOf (s .setup .n) (s .view))
-
--- no report of a replica
-abbrev pub noReport : Report
-noReport = record { there = false; full = false; view = record { 0 = 0 }; op = record { 0 = 0 }; commit = record { 0 = 0 } }
-
--- of anyone
-abbrev pub noReports : Reports
-noReports = record { rows = replicate 7 noReport }
 
 -- another clock
 abbrev pub withClock : Replica → Clock → Replica

@@ -1,7 +1,8 @@
 // The replica's state by value, and one small function for each change of it.
 ghost use mathlib.Core.Path.{_≡_};
 ghost use Prim.Native.Nat.{_<_};
-ghost use Rattle.state.specs.State.{isNormal, isTransfer, isChanging, leads, noReports, heardBy, withClock, withStatus, withLog, moved, normalIn, catchingUpIn, changingTo, withStart, withSent, withReports, newIn};
+ghost use Rattle.state.specs.State.{leads, heardBy, withClock, withStatus, withLog, moved, normalIn, catchingUpIn, changingTo, withStart, withSent, withReports, newIn};
+ghost use Rattle.state.specs.Statuses.{isNormal, isTransfer, isChanging, noReports};
 ghost use Rattle.state.specs.Answers.{refusal, completed};
 use clock::Clock;
 use config::Setup;

@@ -17,14 +17,16 @@ use Rattle.frames.specs.declared.Message.the-variants.{PrepareOk, GetState}
 use Rattle.writers.specs.Writers.{header, encode}
 use Rattle.book.specs.Log.{placeOf}
 use Rattle.book.proofs.LogLaws.{place-is, place-mono}
-use Rattle.book.specs.Runs.{Money, money, committed}
-use Rattle.state.specs.State.{isNormal, isChanging, leads, withLog}
+use Rattle.book.specs.Runs.{committed}
+use Rattle.book.specs.Memory.{Money, money, Runs, runs}
+use Rattle.state.specs.State.{leads, withLog}
+use Rattle.state.specs.Statuses.{isNormal, isChanging}
 use Rattle.state.specs.Answers.{refusal, completed}
 use Rattle.state.specs.declared.Answer.{Answer}
 use Rattle.state.specs.declared.Replica.{Replica}
 use Rattle.steps.specs.declared.Accept.{Accept}
 use Rattle.steps.specs.declared.Accept.the-variants.{Ignore, Hear, Join, Rejoin, Take}
-use Rattle.steps.specs.Steps.{Runs, Sound, runs, spoke, left, acceptChanging, acceptOf, committedTo, settled, asked, prepareOkOf, acked}
+use Rattle.steps.specs.Steps.{Sound, spoke, left, acceptChanging, acceptOf, committedTo, settled, asked, prepareOkOf, acked}
 
 -- accept_from_primary
 module _ (s : Replica) (v : View) where

@@ -14,22 +14,16 @@ use Rattle.config.specs.Setup.{setupOk, primaryOf}
 use Rattle.frames.specs.declared.Message.the-variants.{PrepareOk, GetState}
 use Rattle.frames.specs.declared.Status.the-variants.{StateTransfer}
 use Rattle.writers.specs.Writers.{encode}
-use Rattle.book.specs.Runs.{Money, money, committed}
-use Rattle.state.specs.State.{isNormal, isChanging, leads, heardBy, withStatus, withLog, catchingUpIn}
+use Rattle.book.specs.Runs.{committed}
+use Rattle.book.specs.Memory.{money, Runs, runs}
+use Rattle.state.specs.State.{leads, heardBy, withStatus, withLog, catchingUpIn}
+use Rattle.state.specs.Statuses.{isNormal, isChanging}
 use Rattle.state.specs.Answers.{refusal, completed, quiet}
 use Rattle.state.specs.Lengths.{logLength, resultsLength, totalsLength}
 use Rattle.state.specs.declared.Answer.{Answer}
 use Rattle.state.specs.declared.Replica.{Replica}
 use Rattle.steps.specs.declared.Accept.{Accept}
 use Rattle.steps.specs.declared.Accept.the-variants.{Ignore, Hear, Join, Rejoin, Take}
-
--- the lent runs of log, results and totals
-pub record Runs : Type 0 where
-  pub log : List ℕ
-  pub money : Money
-
-abbrev pub runs : (log results totals : List ℕ) → Runs
-runs log results totals = record { log = log; money = money results totals }
 
 -- what refusal 1 leaves: the setup is inside the sizes, commit ≤ op number ≤ L, and each run has its length
 pub record Sound (s : Replica) (x : Runs) : Type 0 where

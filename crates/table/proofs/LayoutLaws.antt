@@ -27,12 +27,14 @@ use Rattle.numbers.proofs.CellLaws.{cells-length, cells-drop, cells-take, cells
 use Rattle.numbers.proofs.CellLaws.{packed-append, packed-length, packed-cells}
 use Rattle.entries.specs.declared.Entry.{Entry}
 use Rattle.fees.specs.declared.Outcome.{Outcome}
-use Rattle.rows.specs.Rows.{rowAt, spotOf, isThere, stored}
+use Rattle.rows.specs.Rows.{spotOf, isThere, stored}
+use Rattle.rows.specs.Shape.{rowAt}
 use Rattle.rows.specs.Lawful.{Holds, Lawful}
 use Rattle.rows.proofs.SearchLaws.{there-inside}
 use Rattle.table.specs.declared.Row.{Row}
 use Rattle.table.specs.declared.Found.{Found}
-use Rattle.table.specs.Layout.{noRow, byteRow, rowOf, encodeRow, rowsOf, RowFits, foundIn, Left}
+use Rattle.table.specs.Layout.{noRow, byteRow, rowOf, encodeRow, rowsOf}
+use Rattle.table.specs.Steps.{RowFits, foundIn, Left}
 
 -- ---- a row as a cell
 

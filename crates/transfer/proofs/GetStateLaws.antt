@@ -20,7 +20,7 @@ use Rattle.writers.specs.Writers.{encode, sizeOf, lengthOf}
 use Rattle.writers.proofs.WriterLaws.{encode-length}
 use Rattle.book.specs.Log.{placeOf}
 use Rattle.book.proofs.LogLaws.{place-is}
-use Rattle.state.specs.State.{isNormal}
+use Rattle.state.specs.Statuses.{isNormal}
 use Rattle.state.specs.Answers.{refusal, completed, quiet}
 use Rattle.state.specs.declared.Answer.{Answer}
 use Rattle.state.specs.declared.Replica.{Replica}

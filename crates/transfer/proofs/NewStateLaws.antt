@@ -17,11 +17,13 @@ use Rattle.config.proofs.SetupLaws.{sized}
 use Rattle.frames.specs.declared.Status.the-variants.{Normal}
 use Rattle.book.specs.Log.{placeOf, withEntries, risesAfter}
 use Rattle.book.proofs.LogLaws.{place-is, with-length}
-use Rattle.state.specs.State.{isTransfer, isChanging, heardBy, withStatus, withLog, normalIn}
+use Rattle.state.specs.State.{heardBy, withStatus, withLog, normalIn}
+use Rattle.state.specs.Statuses.{isTransfer, isChanging}
 use Rattle.state.specs.Answers.{refusal, quiet}
 use Rattle.state.specs.declared.Answer.{Answer}
 use Rattle.state.specs.declared.Replica.{Replica}
-use Rattle.steps.specs.Steps.{Runs, Left, Sound, left, acked}
+use Rattle.steps.specs.Steps.{Left, Sound, left, acked}
+use Rattle.book.specs.Memory.{Runs}
 use Rattle.transfer.specs.declared.Part.{Part}
 use Rattle.transfer.specs.declared.Use.{Use}
 use Rattle.transfer.specs.declared.Use.the-variants.{Ignore, Hear, Fill, Install}

@@ -13,7 +13,7 @@ use Rattle.config.specs.Setup.{setupOk}
 use Rattle.frames.specs.declared.Message.the-variants.{NewState}
 use Rattle.writers.specs.Writers.{encode}
 use Rattle.book.specs.Log.{placeOf}
-use Rattle.state.specs.State.{isNormal}
+use Rattle.state.specs.Statuses.{isNormal}
 use Rattle.state.specs.Answers.{refusal, completed, quiet}
 use Rattle.state.specs.Lengths.{logLength}
 use Rattle.state.specs.declared.Replica.{Replica}

@@ -11,10 +11,12 @@ use Rattle.numbers.specs.declared.View.{View}
 use Rattle.entries.specs.Entries.{entries}
 use Rattle.frames.specs.declared.Status.the-variants.{Normal}
 use Rattle.book.specs.Log.{withEntries, risesAfter}
-use Rattle.state.specs.State.{isTransfer, isChanging, heardBy, withStatus, withLog, normalIn}
+use Rattle.state.specs.State.{heardBy, withStatus, withLog, normalIn}
+use Rattle.state.specs.Statuses.{isTransfer, isChanging}
 use Rattle.state.specs.Answers.{refusal, quiet}
 use Rattle.state.specs.declared.Replica.{Replica}
-use Rattle.steps.specs.Steps.{Runs, Left, left, acked}
+use Rattle.steps.specs.Steps.{Left, left, acked}
+use Rattle.book.specs.Memory.{Runs}
 use Rattle.transfer.specs.declared.Part.{Part}
 use Rattle.transfer.specs.declared.Use.{Use}
 use Rattle.transfer.specs.declared.Use.the-variants.{Ignore, Hear, Fill, Install}

@@ -2,7 +2,8 @@
 ghost use mathlib.Core.Path.{_≡_};
 ghost use Prim.Native.Nat.{_-_, _*_, _≤_, _<_};
 ghost use lib.ListN.{length};
-ghost use Rattle.steps.specs.Steps.{Sound, runs, left};
+ghost use Rattle.steps.specs.Steps.{Sound, left};
+ghost use Rattle.book.specs.Memory.{runs};
 ghost use Rattle.transfer.specs.NewState.{Carried, transferUse, changeUse, useOf, filled, installed, newStateStep};
 use crate::Part;
 use crate::Use;

@@ -19,12 +19,14 @@ use Rattle.writers.specs.Writers.{encode, sizeOf, lengthOf}
 use Rattle.writers.proofs.WriterLaws.{encode-length}
 use Rattle.book.specs.Log.{placeOf, withEntries, keepsFirst}
 use Rattle.book.proofs.LogLaws.{place-is, place-mono, with-length, keeps-prefix}
-use Rattle.state.specs.State.{isChanging, withLog, normalIn}
+use Rattle.state.specs.State.{withLog, normalIn}
+use Rattle.state.specs.Statuses.{isChanging}
 use Rattle.state.specs.Answers.{refusal, completed, quiet}
 use Rattle.state.specs.Lengths.{acksLength}
 use Rattle.state.specs.declared.Answer.{Answer}
 use Rattle.state.specs.declared.Replica.{Replica}
-use Rattle.steps.specs.Steps.{Runs, Sound, runs, left, spoke, acked}
+use Rattle.steps.specs.Steps.{Sound, left, spoke, acked}
+use Rattle.book.specs.Memory.{Runs, runs}
 use Rattle.view_change.specs.declared.Verdict.{Verdict}
 use Rattle.view_change.specs.declared.Verdict.the-variants.{Ignore, Refuse, Join}
 use Rattle.view_change.specs.StartView.{Holding, Carried, startViewLength, sentStartView, keepVerdict, verdictOf, Joined, joined, joinedBy, byVerdict, startViewStep}

@@ -14,12 +14,14 @@ use Rattle.config.specs.Setup.{setupOk}
 use Rattle.frames.specs.declared.Message.the-variants.{StartView}
 use Rattle.writers.specs.Writers.{encode}
 use Rattle.book.specs.Log.{withEntries, keepsFirst}
-use Rattle.state.specs.State.{isChanging, withLog, normalIn}
+use Rattle.state.specs.State.{withLog, normalIn}
+use Rattle.state.specs.Statuses.{isChanging}
 use Rattle.state.specs.Answers.{refusal, completed, quiet}
 use Rattle.state.specs.Lengths.{logLength}
 use Rattle.state.specs.declared.Answer.{Answer}
 use Rattle.state.specs.declared.Replica.{Replica}
-use Rattle.steps.specs.Steps.{Runs, Spoke, Left, spoke, acked}
+use Rattle.steps.specs.Steps.{Spoke, Left, spoke, acked}
+use Rattle.book.specs.Memory.{Runs}
 use Rattle.view_change.specs.declared.Verdict.{Verdict}
 use Rattle.view_change.specs.declared.Verdict.the-variants.{Ignore, Refuse, Join}
 

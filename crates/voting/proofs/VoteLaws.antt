@@ -22,14 +22,16 @@ use Rattle.numbers.proofs.WordLaws.{if-true, if-false}
 use Rattle.config.specs.Setup.{setupOk}
 use Rattle.config.proofs.SetupLaws.{sized}
 use Rattle.clock.specs.declared.Clock.{Clock}
-use Rattle.state.specs.State.{isNormal, isChanging, leads, changingTo, withClock, withVotes, withStart, withSent}
+use Rattle.state.specs.State.{leads, changingTo, withClock, withVotes, withStart, withSent}
+use Rattle.state.specs.Statuses.{isNormal, isChanging}
 use Rattle.state.specs.Answers.{refusal, completed, quiet}
 use Rattle.state.specs.declared.Answer.{Answer}
 use Rattle.state.specs.declared.Replica.{Replica}
 use Rattle.steps.specs.Steps.{Sound, spoke}
 use Rattle.view_change.specs.StartView.{sentStartView}
 use Rattle.do_view_change.specs.Begin.{callsFirst, firstLength}
-use Rattle.do_view_change.specs.Record.{Memory, Recorded, recorded, onlySent, Gathering, sendStep}
+use Rattle.do_view_change.specs.Record.{Recorded, recorded, onlySent, Gathering, sendStep}
+use Rattle.book.specs.Memory.{Memory}
 use Rattle.do_view_change.proofs.BeginLaws.{first-long}
 use Rattle.do_view_change.proofs.TellLaws.{moved-gathers}
 use Rattle.voting.specs.Votes.{called, due, maybeStep, sameView, startViewChangeStep}

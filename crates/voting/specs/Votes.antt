@@ -9,13 +9,15 @@ use lib.ListN.{length}
 use Rattle.numbers.specs.Words.{if_then_else_}
 use Rattle.numbers.specs.Numbers.{over}
 use Rattle.numbers.specs.declared.View.{View}
-use Rattle.state.specs.State.{isNormal, isChanging, leads, changingTo, withStart, withSent}
+use Rattle.state.specs.State.{leads, changingTo, withStart, withSent}
+use Rattle.state.specs.Statuses.{isNormal, isChanging}
 use Rattle.state.specs.Answers.{refusal, completed, quiet}
 use Rattle.state.specs.declared.Replica.{Replica}
 use Rattle.steps.specs.Steps.{Spoke, spoke}
 use Rattle.view_change.specs.StartView.{sentStartView}
 use Rattle.do_view_change.specs.Begin.{callsFirst, firstLength}
-use Rattle.do_view_change.specs.Record.{Memory, Recorded, recorded, onlySent, sendStep}
+use Rattle.do_view_change.specs.Record.{Recorded, recorded, onlySent, sendStep}
+use Rattle.book.specs.Memory.{Memory}
 
 -- only what goes out first, from state t; s is the state as it was
 unfoldable pub called : (s t : Replica) (first : Bool) → List ℕ → Spoke

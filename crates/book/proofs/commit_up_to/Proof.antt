@@ -3,7 +3,8 @@ use mathlib.Core.Path.{_≡_, refl, ap, _∙_}
 use Prim.Native.Nat.{ℕ, _+_, _-_, _≤_}
 use native.Mathlib.Omega.{arith}
 use lib.ListN.{length}
-use Rattle.book.specs.Runs.{money, committed}
+use Rattle.book.specs.Runs.{committed}
+use Rattle.book.specs.Memory.{money}
 use Rattle.book.proofs.LogLaws.{entry-room}
 use Rattle.book.proofs.RunLaws.{commit-none, commit-more}
 use Rattle.book.proofs.commit_up_to.Statement.{statement}

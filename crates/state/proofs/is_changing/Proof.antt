@@ -1,5 +1,5 @@
 -- `state::is_changing` meets its contract. Assumes nothing.
-use Rattle.state.specs.State.{isChanging}
+use Rattle.state.specs.Statuses.{isChanging}
 use borrow.Author.Needs.{needs}
 use Rattle.state.proofs.is_changing.Statement.{statement}
 use Rattle.state.proofs.is_changing.Tie as tie

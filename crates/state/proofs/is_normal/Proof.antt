@@ -1,5 +1,5 @@
 -- `state::is_normal` meets its contract. Assumes nothing.
-use Rattle.state.specs.State.{isNormal}
+use Rattle.state.specs.Statuses.{isNormal}
 use borrow.Author.Needs.{needs}
 use Rattle.state.proofs.is_normal.Statement.{statement}
 use Rattle.state.proofs.is_normal.Tie as tie

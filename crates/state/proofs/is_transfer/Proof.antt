@@ -1,5 +1,5 @@
 -- `state::is_transfer` meets its contract. Assumes nothing.
-use Rattle.state.specs.State.{isTransfer}
+use Rattle.state.specs.Statuses.{isTransfer}
 use borrow.Author.Needs.{needs}
 use Rattle.state.proofs.is_transfer.Statement.{statement}
 use Rattle.state.proofs.is_transfer.Tie as tie

@@ -1,7 +1,7 @@
 -- `table::find` meets its contract. Assumes nothing.
 use borrow.Author.Needs.{needs}
 use Rattle.rows.specs.Rows.{spotOf, isThere}
-use Rattle.table.specs.Layout.{foundIn}
+use Rattle.table.specs.Steps.{foundIn}
 use Rattle.table.proofs.find.Statement.{statement}
 use Rattle.table.proofs.find.Tie as tie
 

@@ -9,7 +9,8 @@ use Rattle.entries.specs.Entries.{entryOf, entries}
 use Rattle.fees.specs.Results.{resultOf, outcomes}
 use Rattle.rows.specs.Rows.{committed}
 use Rattle.rows.proofs.Turns.{commit-turn, commit-nothing}
-use Rattle.table.specs.Layout.{byteRow, rowsOf, Left}
+use Rattle.table.specs.Layout.{byteRow, rowsOf}
+use Rattle.table.specs.Steps.{Left}
 use Rattle.table.proofs.LayoutLaws.{left-same, left-is, left-then, left-now, left-size}
 use Rattle.table.proofs.follow_commit.Statement.{statement}
 use Rattle.table.proofs.follow_commit.Tie as tie

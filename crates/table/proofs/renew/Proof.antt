@@ -8,7 +8,8 @@ use Rattle.numbers.proofs.CellLaws.{cells-length, cells-none, cells-drop}
 use Rattle.numbers.proofs.WordLaws.{if-true, if-false}
 use Rattle.entries.specs.Entries.{entryOf, entries}
 use Rattle.rows.proofs.Turns.{renew-installed, renew-appended, renew-none}
-use Rattle.table.specs.Layout.{byteRow, rowOf, rowsOf, oldAfter}
+use Rattle.table.specs.Layout.{byteRow, rowOf, rowsOf}
+use Rattle.table.specs.Steps.{oldAfter}
 use Rattle.table.proofs.LayoutLaws.{left-same, left-is}
 use Rattle.table.proofs.renew.Statement.{statement}
 use Rattle.table.proofs.renew.Tie as tie

@@ -1,7 +1,7 @@
 -- `do_view_change::record::on_do_view_change` meets its contract. Assumes nothing.
 use mathlib.Core.Path.{refl}
 use Rattle.do_view_change.proofs.TellLaws.{report-told, moved-gathers, moved-told, too-old, not-ours, moves, tells-view, gathers}
-use Rattle.do_view_change.specs.Record.{memory}
+use Rattle.book.specs.Memory.{memory}
 use borrow.Author.Needs.{needs}
 use Rattle.do_view_change.proofs.record.on_do_view_change.Statement.{statement}
 use Rattle.do_view_change.proofs.record.on_do_view_change.Tie as tie

@@ -1,7 +1,7 @@
 -- `do_view_change::record::record_frame` meets its contract. Assumes nothing.
 use Rattle.do_view_change.proofs.RecordLaws.{sender-low, keep-asks, decide-asks, install-asks, begin-asks, keep-room, says-no, says-keep}
 use Rattle.do_view_change.proofs.RecordLaws.{says-start}
-use Rattle.do_view_change.specs.Record.{memory}
+use Rattle.book.specs.Memory.{memory}
 use mathlib.Core.Path.{refl}
 use borrow.Author.Needs.{needs}
 use Rattle.do_view_change.proofs.record.record_frame.Statement.{statement}

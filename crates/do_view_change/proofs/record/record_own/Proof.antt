@@ -1,7 +1,8 @@
 -- `do_view_change::record::record_own` meets its contract. Assumes nothing.
 use Rattle.do_view_change.proofs.RecordLaws.{sender-low, keep-asks, decide-asks, install-asks, begin-asks, keep-room, says-no, says-keep}
 use Rattle.do_view_change.proofs.RecordLaws.{says-start, own-told}
-use Rattle.do_view_change.specs.Record.{memory, ownReport}
+use Rattle.do_view_change.specs.Record.{ownReport}
+use Rattle.book.specs.Memory.{memory}
 use mathlib.Core.Path.{refl, ap, _∙_}
 use Rattle.reports.specs.Rows.{withReport}
 use borrow.Author.Needs.{needs}

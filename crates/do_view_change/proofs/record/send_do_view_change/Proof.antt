@@ -1,7 +1,7 @@
 -- `do_view_change::record::send_do_view_change` meets its contract. Assumes nothing.
 use mathlib.Core.Path.{refl}
 use Rattle.do_view_change.proofs.TellLaws.{leads-so, follows-so}
-use Rattle.do_view_change.specs.Record.{memory}
+use Rattle.book.specs.Memory.{memory}
 use native.Mathlib.Omega.{arith}
 use Rattle.config.proofs.SetupLaws.{sized}
 use borrow.Author.Needs.{needs}

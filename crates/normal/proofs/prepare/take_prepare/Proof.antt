@@ -3,7 +3,8 @@ use Rattle.normal.proofs.PrepareLaws.{op-small, lower-fits, room-left, 
 use Rattle.normal.proofs.CommitLaws.{some, sound-heard}
 use mathlib.Core.Path.{ap, refl}
 use Rattle.state.specs.declared.Replica.{Replica}
-use Rattle.steps.specs.Steps.{left, alone, runs}
+use Rattle.steps.specs.Steps.{left, alone}
+use Rattle.book.specs.Memory.{runs}
 use Rattle.state.specs.declared.Answer.{Answer}
 use Rattle.normal.specs.Prepare.{byVerdict}
 use borrow.Author.Needs.{needs}

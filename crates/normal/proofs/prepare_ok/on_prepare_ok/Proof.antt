@@ -1,7 +1,7 @@
 -- `normal::prepare_ok::on_prepare_ok` meets its contract. Assumes nothing.
 use Rattle.normal.proofs.PrepareOkLaws.{after-commit, ready, sender-small, unheard, weighed}
 use Rattle.normal.specs.PrepareOk.{counted, byCount}
-use Rattle.book.specs.Runs.{money}
+use Rattle.book.specs.Memory.{money}
 use Rattle.state.specs.declared.Answer.{Answer}
 use mathlib.Core.Path.{ap}
 use native.Mathlib.Omega.{arith}

@@ -5,8 +5,8 @@ use Rattle.replica.proofs.SoundLaws.{sound-is}
 use Rattle.replica.proofs.CallLaws.{stays-follow, followed-is, idle-unsound, idle-done}
 use Rattle.replica.proofs.PromiseLaws.{idle-promised}
 use Rattle.handlers.proofs.Stays.{idle-stays}
-use Rattle.do_view_change.specs.Record.{memory}
-use Rattle.replica.specs.Calls.{lent}
+use Rattle.book.specs.Memory.{memory}
+use Rattle.replica.specs.Lent.{lent}
 use borrow.Author.Needs.{needs}
 use Rattle.replica.proofs.call.on_idle.Statement.{statement}
 use Rattle.replica.proofs.call.on_idle.Tie as tie

@@ -4,7 +4,7 @@ use borrow.Author.Tests.{not-false}
 use Rattle.replica.proofs.SoundLaws.{sound-is}
 use Rattle.replica.proofs.CallLaws.{unsound, malformed, passes}
 use Rattle.replica.proofs.PromiseLaws.{message-promised}
-use Rattle.replica.specs.Calls.{lent}
+use Rattle.replica.specs.Lent.{lent}
 use borrow.Author.Needs.{needs}
 use Rattle.replica.proofs.call.on_message.Statement.{statement}
 use Rattle.replica.proofs.call.on_message.Tie as tie

@@ -1,8 +1,8 @@
 -- `replica::call::take` meets its contract. Assumes nothing.
 use Rattle.replica.proofs.CallLaws.{stays-follow, followed-is, taken}
 use Rattle.handlers.proofs.Stays.{message-stays}
-use Rattle.do_view_change.specs.Record.{memory}
-use Rattle.replica.specs.Calls.{lent}
+use Rattle.book.specs.Memory.{memory}
+use Rattle.replica.specs.Lent.{lent}
 use borrow.Author.Needs.{needs}
 use Rattle.replica.proofs.call.take.Statement.{statement}
 use Rattle.replica.proofs.call.take.Tie as tie

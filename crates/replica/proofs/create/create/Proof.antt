@@ -3,7 +3,7 @@ use Rattle.replica.proofs.SoundLaws.{creatable-is}
 use mathlib.Core.List.{[]}
 use Rattle.replica.proofs.CallLaws.{not-created, created}
 use Rattle.replica.proofs.PromiseLaws.{create-promised}
-use Rattle.replica.specs.Calls.{lent}
+use Rattle.replica.specs.Lent.{lent}
 use borrow.Author.Needs.{needs}
 use Rattle.replica.proofs.create.create.Statement.{statement}
 use Rattle.replica.proofs.create.create.Tie as tie

@@ -3,7 +3,7 @@ use Rattle.replica.proofs.SoundLaws.{creatable-is}
 use mathlib.Core.List.{[]}
 use Rattle.replica.proofs.CallLaws.{not-recovered, no-room, recovered}
 use Rattle.replica.proofs.PromiseLaws.{recover-promised}
-use Rattle.replica.specs.Calls.{lent}
+use Rattle.replica.specs.Lent.{lent}
 use native.Mathlib.Omega.{arith}
 use Rattle.config.proofs.SetupLaws.{sized}
 use borrow.Author.Needs.{needs}

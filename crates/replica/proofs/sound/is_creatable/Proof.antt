@@ -2,7 +2,7 @@
 use borrow.Author.Tests.{not-true, not-false}
 use mathlib.Core.Path.{sym, _∙_}
 use Rattle.numbers.specs.Words.{if_then_else_}
-use Rattle.replica.specs.Calls.{creatable}
+use Rattle.replica.specs.Lent.{creatable}
 use borrow.Author.Needs.{needs}
 use Rattle.replica.proofs.sound.is_creatable.Statement.{statement}
 use Rattle.replica.proofs.sound.is_creatable.Tie as tie

@@ -3,7 +3,7 @@ use borrow.Author.Tests.{lt-ltb, le-ltb}
 use native.Mathlib.Omega.{arith}
 use Rattle.config.proofs.SetupLaws.{sized}
 use Rattle.numbers.specs.Words.{if_then_else_}
-use Rattle.replica.specs.Calls.{sound}
+use Rattle.replica.specs.Lent.{sound}
 use Rattle.replica.proofs.SoundLaws.{creatable-is}
 use borrow.Author.Needs.{needs}
 use Rattle.replica.proofs.sound.is_sound.Statement.{statement}

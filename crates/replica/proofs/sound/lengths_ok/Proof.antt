@@ -4,7 +4,7 @@ use Prim.Native.Nat.{_*_}
 use native.Mathlib.Omega.{arith}
 use Rattle.config.proofs.SetupLaws.{sized}
 use Rattle.numbers.specs.Words.{if_then_else_}
-use Rattle.replica.specs.Calls.{lengthsOk}
+use Rattle.replica.specs.Lent.{lengthsOk}
 use borrow.Author.Needs.{needs}
 use Rattle.replica.proofs.sound.lengths_ok.Statement.{statement}
 use Rattle.replica.proofs.sound.lengths_ok.Tie as tie

@@ -5,7 +5,7 @@ use lib.ListN.{take, drop}
 use Prim.Native.Nat.{_-_, _≤_}
 use borrow.Author.Needs.{needs}
 use borrow.Author.Tests.{not-true, not-false}
-use Rattle.reports.specs.Rows.{reportsOk}
+use Rattle.reports.specs.Sound.{reportsOk}
 use Rattle.reports.proofs.RowLaws.{ok-next, ok-stop, ok-end}
 use Rattle.reports.proofs.rows.reports_ok.Statement.{statement}
 use Rattle.reports.proofs.rows.reports_ok.Tie as tie

@@ -6,7 +6,7 @@ use Prim.Native.Nat.{_-_}
 use native.Mathlib.Nat.{le-refl}
 use Rattle.frames.specs.declared.Status.the-variants.{Normal}
 use Rattle.state.specs.State.{heardBy, withStatus, withLog}
-use Rattle.steps.specs.Steps.{runs}
+use Rattle.book.specs.Memory.{runs}
 use Rattle.transfer.specs.NewState.{filled}
 use Rattle.transfer.proofs.NewStateLaws.{rises-fit, append-fits, breaks, short, extends, fill-fits}
 use borrow.Author.Needs.{needs}

@@ -4,7 +4,7 @@ use mathlib.Core.Bool.{not, true}
 use native.Mathlib.Omega.{arith}
 use Prim.Native.Nat.{_-_}
 use Rattle.state.specs.State.{normalIn, withLog}
-use Rattle.steps.specs.Steps.{runs}
+use Rattle.book.specs.Memory.{runs}
 use Rattle.transfer.specs.NewState.{installed}
 use Rattle.transfer.proofs.NewStateLaws.{rises-fit, append-fits, breaks, short, extends, install-fits}
 use borrow.Author.Needs.{needs}

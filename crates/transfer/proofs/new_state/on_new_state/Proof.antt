@@ -1,6 +1,6 @@
 -- `transfer::new_state::on_new_state` meets its contract. Assumes nothing.
 use mathlib.Core.Path.{sym, _∙_}
-use Rattle.steps.specs.Steps.{runs}
+use Rattle.book.specs.Memory.{runs}
 use Rattle.numbers.proofs.RunLaws.{part-rest}
 use Rattle.transfer.proofs.NewStateLaws.{fill-told, install-told, ignored, heard, filled-by, installed-by, skip-fits, rest-fits}
 use borrow.Author.Needs.{needs}

@@ -1,6 +1,6 @@
 -- `voting::start_view_change::maybe_send_do_view_change` meets its contract. Assumes nothing.
 use Rattle.voting.proofs.VoteLaws.{voted-gathers, too-early, in-time}
-use Rattle.do_view_change.specs.Record.{memory}
+use Rattle.book.specs.Memory.{memory}
 use borrow.Author.Needs.{needs}
 use Rattle.voting.proofs.start_view_change.maybe_send_do_view_change.Statement.{statement}
 use Rattle.voting.proofs.start_view_change.maybe_send_do_view_change.Tie as tie

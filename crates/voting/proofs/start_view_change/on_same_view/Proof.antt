@@ -1,6 +1,6 @@
 -- `voting::start_view_change::on_same_view` meets its contract. Assumes nothing.
 use Rattle.voting.proofs.VoteLaws.{bit-low, voted-gathers, joins, is-away, leader-tells, backup-waits}
-use Rattle.do_view_change.specs.Record.{memory}
+use Rattle.book.specs.Memory.{memory}
 use native.Mathlib.Omega.{arith}
 use Rattle.config.proofs.SetupLaws.{sized}
 use borrow.Author.Needs.{needs}

@@ -1,6 +1,6 @@
 -- `voting::start_view_change::on_start_view_change` meets its contract. Assumes nothing.
 use Rattle.voting.proofs.VoteLaws.{bit-low, asked-gathers, too-old, moves-on, same-view}
-use Rattle.do_view_change.specs.Record.{memory}
+use Rattle.book.specs.Memory.{memory}
 use borrow.Author.Needs.{needs}
 use Rattle.voting.proofs.start_view_change.on_start_view_change.Statement.{statement}
 use Rattle.voting.proofs.start_view_change.on_start_view_change.Tie as tie

@@ -1,7 +1,7 @@
 -- `voting::tick::repeat` meets its contract. Assumes nothing.
 use Rattle.voting.proofs.TickLaws.{clocked-sized, asks-again, sends-again, calls-again}
 use Rattle.voting.proofs.VoteLaws.{clocked-gathers}
-use Rattle.do_view_change.specs.Record.{memory}
+use Rattle.book.specs.Memory.{memory}
 use native.Mathlib.Omega.{arith}
 use Rattle.config.proofs.SetupLaws.{sized}
 use borrow.Author.Needs.{needs}

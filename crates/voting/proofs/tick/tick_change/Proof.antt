@@ -1,6 +1,6 @@
 -- `voting::tick::tick_change` meets its contract. Assumes nothing.
 use Rattle.voting.proofs.TickLaws.{wait-over, wait-on}
-use Rattle.do_view_change.specs.Record.{memory}
+use Rattle.book.specs.Memory.{memory}
 use borrow.Author.Needs.{needs}
 use Rattle.voting.proofs.tick.tick_change.Statement.{statement}
 use Rattle.voting.proofs.tick.tick_change.Tie as tie

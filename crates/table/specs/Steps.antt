@@ -1,0 +1,48 @@
+-- What the functions of the byte table promise: rows written over a run, a client found, the rows that a rebuild replaced. Assumes nothing.
+use mathlib.Core.Path.{_≡_}
+use mathlib.Core.Bool.{not}
+use mathlib.Core.List.{List, _++_}
+use Prim.Native.Nat.{ℕ, _*_, _^_, _<_}
+use lib.Dec.{eqb}
+use lib.ListN.{take, drop}
+use Rattle.numbers.specs.Words.{if_then_else_}
+use Rattle.numbers.specs.Numbers.{over}
+use Rattle.numbers.specs.Cells.{packed}
+use Rattle.fees.specs.Fees.{gives}
+use Rattle.rows.specs.Rows.{spotOf, isThere}
+use Rattle.rows.specs.Shape.{rowAt}
+use Rattle.rows.specs.declared.Change.{Change}
+use Rattle.rows.specs.declared.Latest.{Latest}
+use Rattle.table.specs.declared.Row.{Row}
+use Rattle.table.specs.declared.Found.{Found}
+use Rattle.table.specs.Layout.{byteRow, encodeRow, rowsOf}
+
+-- what the types of a row's fields say
+pub record RowFits (r : Row) : Type 0 where
+  pub client : r .client < 2 ^ 64
+  pub request : r .request < 2 ^ 64
+  pub mark : r .mark < 2 ^ 8
+  pub total : r .total < 2 ^ 64
+
+-- A writer's promise: the run's first n rows are these, byte for byte and as they are read again, and what stood behind them is as it was.
+pub record Left (n : ℕ) (before after : List ℕ) (now : List Row) : Type 0 where
+  pub bytes : after ≡ packed encodeRow now ++ drop (25 * n) before
+  pub rows : rowsOf n after ≡ now
+
+-- what is found of a client
+unfoldable pub foundIn : List Row → ℕ → Found
+foundIn xs c = record { at = spotOf byteRow xs c; there = isThere byteRow xs c; row = rowAt byteRow xs (spotOf byteRow xs c) }
+
+-- what was found, as the core is told it: the reply is there where one is kept
+abbrev pub latestOf : Found → Latest
+latestOf f =
+    record {
+      there = f .there;
+      request = f .row .request;
+      replied = not (eqb (f .row .mark) 255);
+      reply = gives (f .row .mark) (f .row .total);
+    }
+
+-- the second run after a call: a rebuild leaves there the rows that it replaced
+unfoldable pub oldAfter : ℕ → Change → (table old : List ℕ) → List ℕ
+oldAfter n k table old = if k .installed then over (take (25 * n) table) old else old
