@@ -1,0 +1,2 @@
+pub mod ReplicaLaws
+pub mod ClientLaws

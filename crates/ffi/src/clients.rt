@@ -1,0 +1,147 @@
+// A client, whose record lies in a lent run of 54 bytes. A refused call leaves that run, like the area, as it was.
+ghost use mathlib.Core.Path.{_≡_};
+ghost use Rattle.client.specs.Replies.{outcomeNumber};
+ghost use Rattle.ffi.specs.Clients.{CreateRan, RequestRan, ReplyRan, idleRun, readRun};
+use client::Outcome;
+use client::Read;
+use numbers::View;
+
+// create
+#[no_mangle]
+pub extern "C" fn whitherhaul_client_create(n: u8, id: u64, held: &mut [u8]) -> u8
+    ensures { λ r. ⌜ CreateRan n id (now (held .entry)) (record { code = r; run = now (held .exit) }) ⌝ }
+{
+    if held.len() != 54 {
+        return 1;
+    }
+    let a = client::create(n, id);
+    if a.refusal != 0 {
+        return a.refusal;
+    }
+    let c = a.client;
+    client_bytes::write_client(held, c);
+    0
+}
+
+// on_request
+#[no_mangle]
+pub extern "C" fn whitherhaul_client_request(
+    held: &mut [u8],
+    operation: u8,
+    member: u32,
+    cents: u64,
+    area: &mut [u8],
+    number: &mut u64,
+    written: &mut usize,
+) -> u8
+    ensures { λ r. ⌜ RequestRan (now (held .entry)) operation member cents (now (area .entry)) (record { code = r; number = now (number .exit); written = now (written .exit); run = now (held .exit); area = now (area .exit) }) ⌝ }
+{
+    *number = 0;
+    *written = 0;
+    if !client_bytes::client_ok(held) {
+        return 1;
+    }
+    let a = client::requested(
+        client_bytes::read_client(held),
+        operation,
+        member,
+        cents,
+        area,
+    );
+    if a.answer.refusal != 0 {
+        return a.answer.refusal;
+    }
+    *number = a.answer.number;
+    *written = a.answer.written;
+    let c = a.client;
+    client_bytes::write_client(held, c);
+    0
+}
+
+// on_reply
+#[no_mangle]
+pub extern "C" fn whitherhaul_client_reply(
+    held: &mut [u8],
+    number: u64,
+    view: u32,
+    done: &mut bool,
+) -> u8
+    ensures { λ r. ⌜ ReplyRan (now (held .entry)) number (record { 0 = view }) (record { code = r; done = now (done .exit); run = now (held .exit) }) ⌝ }
+{
+    *done = false;
+    if !client_bytes::client_ok(held) {
+        return 1;
+    }
+    let a = client::replied(client_bytes::read_client(held), number, View(view));
+    if a.answer.refusal != 0 {
+        return a.answer.refusal;
+    }
+    *done = a.answer.done;
+    let c = a.client;
+    client_bytes::write_client(held, c);
+    0
+}
+
+// on_idle
+#[no_mangle]
+pub extern "C" fn whitherhaul_client_idle(held: &[u8], area: &mut [u8], written: &mut usize) -> u8
+    ensures { λ r. ⌜ (record { code = r; written = now (written .exit); area = now (area .exit) }) ≡ idleRun (now (held .entry)) (now (area .entry)) ⌝ }
+{
+    *written = 0;
+    if !client_bytes::client_ok(held) {
+        return 1;
+    }
+    let a = client::idled(client_bytes::read_client(held), area);
+    *written = a.written;
+    a.refusal
+}
+
+// The document's number of an outcome.
+fn outcome_number(o: Outcome) -> u8
+    ensures { λ r. ⌜ r ≡ outcomeNumber o ⌝ }
+{
+    match o {
+        Outcome::Fee => 1,
+        Outcome::Refund => 2,
+        Outcome::Ask => 3,
+        Outcome::NoMember => 4,
+        Outcome::PastLimit => 5,
+        Outcome::PastTotal => 6,
+    }
+}
+
+// A Reply, read: what it says goes to the five places, or all are 0 where it is malformed.
+#[no_mangle]
+pub extern "C" fn whitherhaul_read_reply(
+    frame: &[u8],
+    view: &mut u32,
+    client: &mut u64,
+    request: &mut u64,
+    outcome: &mut u8,
+    total: &mut u64,
+) -> u8
+    ensures { λ r. ⌜ (record { code = r; view = now (view .exit); client = now (client .exit); request = now (request .exit); outcome = now (outcome .exit); total = now (total .exit) }) ≡ readRun (now (frame .entry)) ⌝ }
+{
+    *view = 0;
+    *client = 0;
+    *request = 0;
+    *outcome = 0;
+    *total = 0;
+    match client::read_reply(frame) {
+        Read::Malformed => 2,
+        Read::Reply {
+            view: v,
+            client: c,
+            request: k,
+            outcome: o,
+            total: t,
+        } => {
+            *view = v.0;
+            *client = c;
+            *request = k;
+            *outcome = outcome_number(o);
+            *total = t;
+            0
+        }
+    }
+}

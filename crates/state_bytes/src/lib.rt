@@ -1,0 +1,92 @@
+// The state in a lent byte run of 146 bytes, for callers that aren't Rattle: read, written, and tested for bytes without meaning.
+ghost use mathlib.Core.Path.{_≡_};
+ghost use Prim.Native.Nat.{_≤_};
+ghost use lib.ListN.{length};
+ghost use Rattle.numbers.specs.Numbers.{over};
+ghost use Rattle.state_bytes.specs.Layout.{stateOf, encodePlace, encodeVotes, stateOk, Holds};
+use state::Replica;
+
+mod part; // setup, clock, reports
+mod flag; // flags and the status
+
+// The state that the run holds.
+pub fn read_state(run: &[u8]) -> Replica
+    requires { ⌜ 146 ≤ length (now run) ⌝ }
+    ensures { λ r. ⌜ r ≡ stateOf (now (run .entry)) ⌝ }
+{
+    Replica {
+        setup: part::setup_at(run, 0),
+        status: flag::status_of(numbers::read_u8(run, 12)),
+        view: numbers::read_view(run, 13),
+        normal: numbers::read_view(run, 17),
+        catching: flag::flag_at(run, 21),
+        op: numbers::read_op(run, 22),
+        commit: numbers::read_op(run, 26),
+        clock: part::clock_at(run, 30),
+        starts: numbers::read_u8(run, 38),
+        sent: flag::flag_at(run, 39),
+        nonce: numbers::read_u64(run, 40),
+        reports: part::reports_at(run, 48),
+    }
+}
+
+// Where the replica stands: 18 bytes.
+fn write_place(area: &mut [u8], s: Replica)
+    requires { ⌜ 18 ≤ length (now area) ⌝ }
+    ensures { λ r. ⌜ now (area .exit) ≡ over (encodePlace s) (now (area .entry)) ⌝ }
+{
+    let status = s.status;
+    numbers::write_u8(area, flag::status_number(status));
+    numbers::write_u32(&mut area[1..], s.view.0);
+    numbers::write_u32(&mut area[5..], s.normal.0);
+    flag::write_flag(&mut area[9..], s.catching);
+    numbers::write_u32(&mut area[10..], s.op.0);
+    numbers::write_u32(&mut area[14..], s.commit.0);
+}
+
+// What a view change or a recovery has gathered, but for the reports: 10 bytes.
+fn write_votes(area: &mut [u8], s: Replica)
+    requires { ⌜ 10 ≤ length (now area) ⌝ }
+    ensures { λ r. ⌜ now (area .exit) ≡ over (encodeVotes s) (now (area .entry)) ⌝ }
+{
+    numbers::write_u8(area, s.starts);
+    flag::write_flag(&mut area[1..], s.sent);
+    numbers::write_u64(&mut area[2..], s.nonce);
+}
+
+// The run holds the state.
+pub fn write_state(run: &mut [u8], s: Replica)
+    requires { ⌜ length (now run) ≡ 146 ⌝ }
+    ensures { λ r. ⌜ Holds s (now (run .exit)) ⌝ }
+{
+    let setup = s.setup;
+    part::write_setup(run, setup);
+    write_place(&mut run[12..], s);
+    let clock = s.clock;
+    part::write_clock(&mut run[30..], clock);
+    write_votes(&mut run[38..], s);
+    let reports = s.reports;
+    part::write_reports(&mut run[48..], reports);
+}
+
+// Whether the run is one that holds a state: its length, and no byte without meaning.
+pub fn state_ok(run: &[u8]) -> bool
+    ensures { λ r. ⌜ r ≡ stateOk (now (run .entry)) ⌝ }
+{
+    if run.len() != 146 {
+        return false;
+    }
+    if 3 < numbers::read_u8(run, 12) {
+        return false;
+    }
+    if !flag::flag_ok(run, 21) {
+        return false;
+    }
+    if !flag::flag_ok(run, 30) {
+        return false;
+    }
+    if !flag::flag_ok(run, 39) {
+        return false;
+    }
+    part::reports_ok(run, 48)
+}
