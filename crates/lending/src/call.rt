@@ -1,4 +1,4 @@
-// One call. The runs are copied out of the memory and cut to the setup's lengths two at a time: a function of many lent parts is slow to check.
+// One call of `replica`, with runs that lie in the memory.
 ghost use Prim.Native.Nat.{_≤_};
 use crate::memory;
 use config::Setup;
@@ -40,9 +40,15 @@ fn replicas(n: u8) -> u8
     n
 }
 
-fn not_made(g: Given) -> Answer {
-    let s = g.state;
-    state::refused(99, s)
+// The length of the stored logs.
+fn logs(room: u32, n: u8) -> usize
+    ensures { λ r. ⌜ r ≤ 1792 ⌝ }
+{
+    let k = reports::judge::place(within(room), replicas(n));
+    if 1792 < k {
+        return 1792;
+    }
+    k
 }
 
 fn made(
@@ -104,195 +110,41 @@ fn made(
     }
 }
 
-fn cut_table(
-    g: Given,
-    frame: &[u8],
-    log: &mut [u8],
-    results: &mut [u8],
-    totals: &mut [u8],
-    acks: &mut [u8],
-    stored: &mut [u8],
-    table: &mut [u8],
-    old: &mut [u8],
-    out: &mut [u8],
-    reps: &mut [u8],
-) -> Answer {
-    let n = 25 * (within(g.setup.room) as usize);
-    if table.len() < n {
-        return not_made(g);
-    }
-    if old.len() < n {
-        return not_made(g);
-    }
-    made(
-        g,
-        frame,
-        log,
-        results,
-        totals,
-        acks,
-        stored,
-        &mut table[0..n],
-        &mut old[0..n],
-        out,
-        reps,
-    )
-}
-
-fn with_table(
-    g: Given,
-    frame: &[u8],
-    mem: &mut [u8],
-    log: &mut [u8],
-    results: &mut [u8],
-    totals: &mut [u8],
-    acks: &mut [u8],
-    stored: &mut [u8],
-    out: &mut [u8],
-    reps: &mut [u8],
-) -> Answer {
-    let mut table = [0; 200];
-    let mut old = [0; 200];
-    memory::fetch_two(mem, memory::TABLE, &mut table, memory::OLD, &mut old);
-    let a = cut_table(
-        g,
-        frame,
-        log,
-        results,
-        totals,
-        acks,
-        stored,
-        &mut table,
-        &mut old,
-        out,
-        reps,
-    );
-    memory::store_two(mem, memory::TABLE, &table, memory::OLD, &old);
-    a
-}
-
-fn cut_stored(
-    g: Given,
-    frame: &[u8],
-    mem: &mut [u8],
-    log: &mut [u8],
-    results: &mut [u8],
-    totals: &mut [u8],
-    acks: &mut [u8],
-    stored: &mut [u8],
-    out: &mut [u8],
-    reps: &mut [u8],
-) -> Answer {
-    let room = within(g.setup.room) as usize;
-    let n = reports::judge::place(within(g.setup.room), replicas(g.setup.n));
-    if acks.len() < room {
-        return not_made(g);
-    }
-    if stored.len() < n {
-        return not_made(g);
-    }
-    with_table(
-        g,
-        frame,
-        mem,
-        log,
-        results,
-        totals,
-        &mut acks[0..room],
-        &mut stored[0..n],
-        out,
-        reps,
-    )
-}
-
-fn with_stored(
-    g: Given,
-    frame: &[u8],
-    mem: &mut [u8],
-    log: &mut [u8],
-    results: &mut [u8],
-    totals: &mut [u8],
-    out: &mut [u8],
-    reps: &mut [u8],
-) -> Answer {
-    let mut acks = [0; 8];
-    let mut stored = [0; 1792];
-    memory::fetch_two(mem, memory::ACKS, &mut acks, memory::STORED, &mut stored);
-    let a = cut_stored(
-        g,
-        frame,
-        mem,
-        log,
-        results,
-        totals,
-        &mut acks,
-        &mut stored,
-        out,
-        reps,
-    );
-    memory::store_two(mem, memory::ACKS, &acks, memory::STORED, &stored);
-    a
-}
-
-fn cut_totals(
-    g: Given,
-    frame: &[u8],
-    mem: &mut [u8],
-    log: &mut [u8],
-    results: &mut [u8],
-    totals: &mut [u8],
-    out: &mut [u8],
-    reps: &mut [u8],
-) -> Answer {
-    let n = 8 * (within(g.setup.members) as usize);
-    if totals.len() < n {
-        return not_made(g);
-    }
-    with_stored(g, frame, mem, log, results, &mut totals[0..n], out, reps)
-}
-
-fn with_totals(
-    g: Given,
-    frame: &[u8],
-    mem: &mut [u8],
-    log: &mut [u8],
-    results: &mut [u8],
-    out: &mut [u8],
-    reps: &mut [u8],
-) -> Answer {
-    let mut totals = [0; 64];
-    memory::fetch(mem, memory::TOTALS, &mut totals);
-    let a = cut_totals(g, frame, mem, log, results, &mut totals, out, reps);
-    memory::store(mem, memory::TOTALS, &totals);
-    a
-}
-
-fn cut_log(
-    g: Given,
-    frame: &[u8],
-    mem: &mut [u8],
-    log: &mut [u8],
-    results: &mut [u8],
-    out: &mut [u8],
-    reps: &mut [u8],
-) -> Answer {
-    let n = 32 * (within(g.setup.room) as usize);
-    let k = 9 * (within(g.setup.room) as usize);
-    if log.len() < n {
-        return not_made(g);
-    }
-    if results.len() < k {
-        return not_made(g);
-    }
-    with_totals(g, frame, mem, &mut log[0..n], &mut results[0..k], out, reps)
-}
-
-// The call, in areas just as long as they are lent. 99: the memory is too short.
+// The call, with runs of the setup's lengths: parts of copies, since no two parts of one run can be lent at a time.
 pub fn make(g: Given, frame: &[u8], mem: &mut [u8], out: &mut [u8], reps: &mut [u8]) -> Answer {
+    let l = within(g.setup.room) as usize;
+    let m = within(g.setup.members) as usize;
+    let n = logs(g.setup.room, g.setup.n);
     let mut log = [0; 256];
     let mut results = [0; 72];
-    memory::fetch_two(mem, memory::LOG, &mut log, memory::RESULTS, &mut results);
-    let a = cut_log(g, frame, mem, &mut log, &mut results, out, reps);
-    memory::store_two(mem, memory::LOG, &log, memory::RESULTS, &results);
+    let mut totals = [0; 64];
+    let mut acks = [0; 8];
+    let mut stored = [0; 1792];
+    let mut table = [0; 200];
+    let mut old = [0; 200];
+    memory::fetch_all(
+        mem,
+        &mut log,
+        &mut results,
+        &mut totals,
+        &mut acks,
+        &mut stored,
+        &mut table,
+        &mut old,
+    );
+    let a = made(
+        g,
+        frame,
+        &mut log[0..32 * l],
+        &mut results[0..9 * l],
+        &mut totals[0..8 * m],
+        &mut acks[0..l],
+        &mut stored[0..n],
+        &mut table[0..25 * l],
+        &mut old[0..25 * l],
+        out,
+        reps,
+    );
+    memory::store_all(mem, &log, &results, &totals, &acks, &stored, &table, &old);
     a
 }

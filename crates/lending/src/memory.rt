@@ -15,7 +15,7 @@ pub const OLD: usize = 600;
 pub const STORED: usize = 800;
 
 // The run at a place, copied out.
-pub fn fetch(memory: &[u8], at: usize, area: &mut [u8]) {
+fn fetch(memory: &[u8], at: usize, area: &mut [u8]) {
     let n = area.len();
     if memory.len() < at {
         return;
@@ -27,7 +27,7 @@ pub fn fetch(memory: &[u8], at: usize, area: &mut [u8]) {
 }
 
 // The run at a place, copied back.
-pub fn store(memory: &mut [u8], at: usize, run: &[u8]) {
+fn store(memory: &mut [u8], at: usize, run: &[u8]) {
     let n = run.len();
     if memory.len() < at {
         return;
@@ -38,14 +38,44 @@ pub fn store(memory: &mut [u8], at: usize, run: &[u8]) {
     numbers::copy(&mut memory[at..], run, n);
 }
 
-pub fn fetch_two(memory: &[u8], at: usize, area: &mut [u8], at2: usize, area2: &mut [u8]) {
-    fetch(memory, at, area);
-    fetch(memory, at2, area2);
+// All runs, copied out.
+pub fn fetch_all(
+    memory: &[u8],
+    log: &mut [u8],
+    results: &mut [u8],
+    totals: &mut [u8],
+    acks: &mut [u8],
+    stored: &mut [u8],
+    table: &mut [u8],
+    old: &mut [u8],
+) {
+    fetch(memory, LOG, log);
+    fetch(memory, RESULTS, results);
+    fetch(memory, TOTALS, totals);
+    fetch(memory, ACKS, acks);
+    fetch(memory, TABLE, table);
+    fetch(memory, OLD, old);
+    fetch(memory, STORED, stored);
 }
 
-pub fn store_two<'a>(memory: &mut [u8], at: usize, run: &'a [u8], at2: usize, run2: &'a [u8]) {
-    store(memory, at, run);
-    store(memory, at2, run2);
+// All runs, copied back.
+pub fn store_all<'a>(
+    memory: &mut [u8],
+    log: &'a [u8],
+    results: &'a [u8],
+    totals: &'a [u8],
+    acks: &'a [u8],
+    stored: &'a [u8],
+    table: &'a [u8],
+    old: &'a [u8],
+) {
+    store(memory, LOG, log);
+    store(memory, RESULTS, results);
+    store(memory, TOTALS, totals);
+    store(memory, ACKS, acks);
+    store(memory, TABLE, table);
+    store(memory, OLD, old);
+    store(memory, STORED, stored);
 }
 
 // n bytes set to what no call writes by chance, so that what it leaves alone shows.

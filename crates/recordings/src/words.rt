@@ -12,6 +12,24 @@ pub fn find(s: &[u8], b: u8) -> usize {
     i
 }
 
+fn one_if(same: bool) -> usize {
+    if same {
+        return 1;
+    }
+    0
+}
+
+// How often a byte is there.
+pub fn count(s: &[u8], b: u8) -> usize {
+    let mut n = 0;
+    let mut i = 0;
+    while i < s.len() {
+        n = std::num::wrapping_add_usize(n, one_if(s[i] == b));
+        i += 1;
+    }
+    n
+}
+
 fn past(left: usize, c: u8) -> usize {
     if c != 32 {
         return left;
@@ -20,7 +38,7 @@ fn past(left: usize, c: u8) -> usize {
 }
 
 // Where word k begins, the first being word 0, or the length.
-fn start(s: &[u8], k: usize) -> usize {
+pub fn start(s: &[u8], k: usize) -> usize {
     let mut left = k;
     let mut i = 0;
     while i < s.len() {

@@ -1,6 +1,7 @@
 // A whole trace, line by line, and its titles: a run's title is a comment line straight before the run.
 use crate::play;
-use crate::play::Play;
+use comparing::counts;
+use comparing::counts::Play;
 use recordings::words;
 
 // Where the next line begins, and the comment that ended just before it, if one did.
@@ -48,12 +49,12 @@ fn say_title(trace: &[u8], from: usize, to: usize) {
     text::say(b": ");
 }
 
-// Before a run: the one before is closed, and the title printed.
+// At a line; before a run the one before is closed, and the title printed.
 fn opened(trace: &[u8], c: u8, t: Place, p: Play) -> Play {
     if !begins(c) {
-        return p;
+        return counts::numbered(p);
     }
-    let mut q = play::closed(p);
+    let mut q = counts::closed(counts::numbered(p));
     if c == b'C' {
         return q;
     }
@@ -64,47 +65,40 @@ fn opened(trace: &[u8], c: u8, t: Place, p: Play) -> Play {
     q
 }
 
-// The line from `at` on is n bytes long.
-fn after(t: Place, c: u8, n: usize) -> Place {
-    let to = std::num::wrapping_add_usize(t.at, n);
+// Where the line from `at` on ends; 0 where none is left.
+fn end_of(trace: &[u8], at: usize) -> usize {
+    if trace.len() <= at {
+        return 0;
+    }
+    std::num::wrapping_add_usize(at, words::find(&trace[at..], 10))
+}
+
+fn after(from: usize, to: usize, c: u8) -> Place {
     Place {
         at: std::num::wrapping_add_usize(to, 1),
         comment: c == b'#',
-        from: t.at,
+        from,
         to,
     }
 }
 
-// The line of n bytes at the front of `rest` is played.
-fn played(
-    trace: &[u8],
-    rest: &[u8],
-    n: usize,
-    t: Turn,
-    mem: &mut [u8],
-    out: &mut [u8],
-    reps: &mut [u8],
-) -> Turn {
-    let here = t.place;
-    let mut p = t.play;
-    if rest.len() < n {
-        return t;
-    }
-    let c = first(&rest[0..n]);
-    p.line = std::num::wrapping_add_u64(p.line, 1);
-    let q = opened(trace, c, here, p);
-    let play = play::line(q, c, &rest[0..n], mem, out, reps);
-    let place = after(here, c, n);
-    Turn { place, play }
-}
-
+// The next line is played, if one is left.
 fn next_line(trace: &[u8], t: Turn, mem: &mut [u8], out: &mut [u8], reps: &mut [u8]) -> Turn {
-    let at = t.place.at;
-    if trace.len() < at {
+    let here = t.place;
+    let p = t.play;
+    let at = here.at;
+    let to = end_of(trace, at);
+    if trace.len() < to {
         return t;
     }
-    let n = words::find(&trace[at..], 10);
-    played(trace, &trace[at..], n, t, mem, out, reps)
+    if to < at {
+        return t;
+    }
+    let c = first(&trace[at..to]);
+    let q = opened(trace, c, here, p);
+    let play = play::line(q, c, &trace[at..to], mem, out, reps);
+    let place = after(at, to, c);
+    Turn { place, play }
 }
 
 fn beginning() -> Turn {
@@ -114,31 +108,25 @@ fn beginning() -> Turn {
         from: 0,
         to: 0,
     };
-    let play = play::nothing();
+    let play = counts::nothing();
     Turn { place, play }
 }
 
-fn is_over(t: Turn, n: usize) -> bool {
-    n <= t.place.at
-}
-
+// Behind the last line.
 fn end(t: Turn) -> Play {
     let p = t.play;
-    play::closed(p)
+    counts::closed(counts::numbered(p))
 }
 
-// Every line. `left` only says that the loop ends.
-fn lines(trace: &[u8], mem: &mut [u8], out: &mut [u8], reps: &mut [u8]) -> Play {
+// Every line; the last one may have no end.
+fn lines(trace: &[u8], mem: &mut [u8], out: &mut [u8], reps: &mut [u8]) -> Turn {
     let mut t = beginning();
-    let mut left = trace.len();
+    let mut left = std::num::wrapping_add_usize(words::count(trace, 10), 1);
     while 0 < left {
         left -= 1;
-        if is_over(t, trace.len()) {
-            return end(t);
-        }
         t = next_line(trace, t, mem, out, reps);
     }
-    end(t)
+    t
 }
 
 fn say_end(p: Play) {
@@ -156,5 +144,5 @@ pub fn replay(trace: &[u8]) {
     let mut mem = [0; 2592];
     let mut out = [0; 8192];
     let mut reps = [0; 512];
-    say_end(lines(trace, &mut mem, &mut out, &mut reps));
+    say_end(end(lines(trace, &mut mem, &mut out, &mut reps)));
 }

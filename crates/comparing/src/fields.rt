@@ -169,35 +169,28 @@ pub fn differing(line: &[u8], s: Replica, mem: &[u8]) -> u8 {
     19
 }
 
-fn name_votes(k: u8) {
-    match k {
-        9 => text::say(b"svc"),
-        10 => text::say(b"dvc_sent"),
-        11 => text::say(b"catching_up"),
-        12 => text::say(b"dvcs"),
-        13 => text::say(b"responses"),
-        14 => text::say(b"log"),
-        15 => text::say(b"rows"),
-        16 => text::say(b"totals"),
-        17 => text::say(b"acks"),
-        _ => text::say(b"applied"),
+fn say_first(s: &[u8]) {
+    let n = words::find(s, 32);
+    if s.len() < n {
+        return;
     }
+    text::say(&s[0..n]);
+}
+
+fn say_word(line: &[u8], k: usize) {
+    let from = words::start(line, k);
+    if line.len() < from {
+        return;
+    }
+    say_first(&line[from..]);
 }
 
 // FORMAT.md's name of the field.
-pub fn name(k: u8) {
-    match k {
-        0 => text::say(b"status"),
-        1 => text::say(b"view"),
-        2 => text::say(b"last_normal"),
-        3 => text::say(b"op"),
-        4 => text::say(b"commit"),
-        5 => text::say(b"heard"),
-        6 => text::say(b"waiting"),
-        7 => text::say(b"stable"),
-        8 => text::say(b"attempts"),
-        _ => name_votes(k),
-    }
+fn name(k: u8) {
+    say_word(
+        b"status view last_normal op commit heard waiting stable attempts svc dvc_sent catching_up dvcs responses log rows totals acks applied",
+        k as usize,
+    );
 }
 
 // The field in the line's form.

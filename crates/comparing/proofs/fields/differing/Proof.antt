@@ -1,8 +1,8 @@
--- `replaying::fields::differing` ends: each turn leaves one field less. Assumes nothing.
+-- `comparing::fields::differing` ends: each turn leaves one field less. Assumes nothing.
 use Prim.Native.Nat.{_-_, _≤_}
 use borrow.Author.Needs.{needs}
-use Rattle.replaying.proofs.fields.differing.Statement.{statement}
-use Rattle.replaying.proofs.fields.differing.Tie as tie
+use Rattle.comparing.proofs.fields.differing.Statement.{statement}
+use Rattle.comparing.proofs.fields.differing.Tie as tie
 
 abbrev Inv-loop : tie.InvT-loop
 Inv-loop line s mem k₀ k = k ≤ 19
