@@ -1,6 +1,6 @@
 // The client table as a list of rows, whichever way the rows are held: what a call changes, and the steps of the search by halves.
 ghost use mathlib.Core.Path.{_≡_};
-ghost use Prim.Native.Nat.{_≤_, _<_};
+ghost use Prim.Native.Nat.{_-_, _≤_, _<_};
 ghost use Rattle.rows.specs.Search.{midOf, halved, isBefore};
 use fees::Outcome;
 use numbers::Op;
@@ -69,4 +69,14 @@ pub fn before(used: bool, client: u64, goal: Goal) -> bool
         Goal::Client { id } => client < id,
         Goal::End => true,
     }
+}
+
+// What a commit number leaves after k entries.
+pub fn left_of(commit: usize, k: usize) -> usize
+    ensures { λ r. ⌜ r ≡ commit - k ⌝ }
+{
+    if commit < k {
+        return 0;
+    }
+    commit - k
 }

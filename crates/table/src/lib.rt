@@ -156,16 +156,6 @@ fn kept(old: &[u8], n: usize, left: usize, e: Entry) -> Row
     }
 }
 
-// What a commit number leaves after k entries.
-fn left_of(commit: usize, k: usize) -> usize
-    ensures { λ r. ⌜ r ≡ commit - k ⌝ }
-{
-    if commit < k {
-        return 0;
-    }
-    commit - k
-}
-
 // The first `op` entries of the log become their clients' rows, in order, by the old rows.
 fn refill(table: &mut [u8], n: usize, old: &[u8], log: &[u8], op: usize, commit: usize)
     requires { ⌜ (25 * n ≤ length (now table)) × ((25 * n ≤ length (now old)) × (32 * op ≤ length (now log))) ⌝ }
@@ -174,7 +164,7 @@ fn refill(table: &mut [u8], n: usize, old: &[u8], log: &[u8], op: usize, commit:
     let mut k = 0;
     while k < op {
         let e = entries::entry_at(log, 32 * k);
-        put(table, n, kept(old, n, left_of(commit, k), e));
+        put(table, n, kept(old, n, rows::left_of(commit, k), e));
         k += 1;
     }
 }

@@ -1,0 +1,4 @@
+pub mod Calling
+pub mod Handing
+pub mod Open
+pub mod Walk
