@@ -5,10 +5,12 @@ use crate::fees::{Entry, ASK, FEE, MOST_CENTS, REFUND};
 use crate::frames::Fees;
 use crate::random::Random;
 use crate::run::{Call, Run, Setup, Start};
+use crate::rust::Rust;
 use vsr_rs::{LogEntry, Message, RecoveryState};
 
 const LAST_VIEW: usize = u32::MAX as usize;
 const MEMBERS: usize = 4;
+const CLIENTS: [u64; 3] = [1, 2, 3];
 
 /// Plays so many calls on some replica of `n`.
 pub fn adversary(random: &mut Random, n: usize, calls: usize) -> Run {
@@ -29,35 +31,41 @@ pub fn adversary(random: &mut Random, n: usize, calls: usize) -> Run {
     };
     let mut run = Run::new(setup, start).0;
     for _ in 0..calls {
-        let call = Adversary { random, run: &run }.call();
+        let call = Adversary {
+            random,
+            rust: &run.rust,
+            clients: &CLIENTS,
+        }
+        .call();
         run.call(call);
     }
     run
 }
 
 /// Chooses the next call by looking at the replica.
-struct Adversary<'a> {
-    random: &'a mut Random,
-    run: &'a Run,
+pub struct Adversary<'a> {
+    pub random: &'a mut Random,
+    pub rust: &'a Rust,
+    pub clients: &'a [u64],
 }
 
 impl Adversary<'_> {
     /// A tick, or a frame, now and then to another replica.
-    fn call(&mut self) -> Call {
+    pub fn call(&mut self) -> Call {
         if self.random.chance(20) {
             return Call::Tick;
         }
         let message = self.message();
-        let mut addressee = self.run.setup.id;
+        let mut addressee = self.rust.setup.id;
         if self.random.chance(1) {
-            addressee = (addressee + 1) % self.run.setup.n;
+            addressee = (addressee + 1) % self.rust.setup.n;
         }
         Call::Frame { addressee, message }
     }
 
     /// A message of any kind; while recovering, mostly responses.
     fn message(&mut self) -> Fees {
-        let recovering = self.run.replica.is_recovering() && self.random.chance(60);
+        let recovering = self.rust.replica.is_recovering() && self.random.chance(60);
         let kind = if recovering {
             11
         } else {
@@ -73,10 +81,10 @@ impl Adversary<'_> {
 
     /// Request, Prepare, PrepareOk, Commit.
     fn normal(&mut self, kind: usize) -> Fees {
-        let op = self.entry(self.run.replica.log());
+        let op = self.entry(self.rust.replica.log());
         let (client_id, request_number) = (op.client as usize, op.request as usize);
         let view_number = self.view();
-        let commit_number = self.near(self.run.replica.commit_number());
+        let commit_number = self.near(self.rust.replica.commit_number());
         match kind {
             1 => Message::Request {
                 client_id,
@@ -85,7 +93,7 @@ impl Adversary<'_> {
             },
             2 => Message::Prepare {
                 view_number,
-                op_number: self.near(self.run.replica.op_number() + 1),
+                op_number: self.near(self.rust.replica.op_number() + 1),
                 client_id,
                 request_number,
                 op,
@@ -93,7 +101,7 @@ impl Adversary<'_> {
             },
             3 => Message::PrepareOk {
                 view_number,
-                op_number: self.near(self.run.replica.op_number()),
+                op_number: self.near(self.rust.replica.op_number()),
                 replica_id: self.sender(),
             },
             _ => Message::Commit {
@@ -110,16 +118,16 @@ impl Adversary<'_> {
             return Message::GetState {
                 replica_id: self.sender(),
                 view_number,
-                op_number: self.near(self.run.replica.op_number()),
+                op_number: self.near(self.rust.replica.op_number()),
             };
         }
         let log = self.log();
         let commit_number = self.commit(log.len());
         let start = self.random.pick(&[
             0,
-            self.run.replica.commit_number(),
-            self.run.replica.commit_number(),
-            self.run.replica.op_number(),
+            self.rust.replica.commit_number(),
+            self.rust.replica.commit_number(),
+            self.rust.replica.op_number(),
         ]);
         let start = start.min(log.len());
         Message::NewState {
@@ -172,7 +180,7 @@ impl Adversary<'_> {
                 view_number,
             };
         }
-        let leads = view_number % self.run.setup.n == replica_id;
+        let leads = view_number % self.rust.setup.n == replica_id;
         let state = (leads || self.random.chance(30)).then(|| {
             let log = self.log();
             let commit_number = self.commit(log.len());
@@ -188,7 +196,7 @@ impl Adversary<'_> {
 
     /// Any replica, ourselves too; now and then one that isn't there.
     fn sender(&mut self) -> usize {
-        let n = self.run.setup.n;
+        let n = self.rust.setup.n;
         if self.random.chance(1) {
             return n;
         }
@@ -197,9 +205,9 @@ impl Adversary<'_> {
 
     /// Our view, one near it, the next one that we lead, a far one, or the last one there is.
     fn view(&mut self) -> usize {
-        let view = self.run.replica.view_number();
-        let n = self.run.setup.n;
-        let led = view + 1 + (self.run.setup.id + n - (view + 1) % n) % n;
+        let view = self.rust.replica.view_number();
+        let n = self.rust.setup.n;
+        let led = view + 1 + (self.rust.setup.id + n - (view + 1) % n) % n;
         let chosen = match self.random.below(100) {
             0..=67 => view,
             68..=75 => view + 1,
@@ -234,8 +242,8 @@ impl Adversary<'_> {
 
     /// A log: mostly our own up to some entry with more behind it; now and then one changed, or a strange one.
     fn log(&mut self) -> Vec<LogEntry<Entry>> {
-        let own = self.run.replica.log();
-        let committed = self.run.replica.commit_number();
+        let own = self.rust.replica.log();
+        let committed = self.rust.replica.commit_number();
         let kept = match self.random.below(10) {
             0 => self.random.below(own.len() + 1),
             1 => 0,
@@ -243,7 +251,7 @@ impl Adversary<'_> {
         };
         let mut log = own[..kept].to_vec();
         for _ in 0..self.random.below(4) {
-            if log.len() < self.run.setup.room || self.random.chance(5) {
+            if log.len() < self.rust.setup.room || self.random.chance(5) {
                 let op = self.entry(&log);
                 log.push(LogEntry {
                     client_id: op.client as usize,
@@ -261,13 +269,13 @@ impl Adversary<'_> {
 
     /// An entry: mostly the next request of its client after this log.
     fn entry(&mut self, log: &[LogEntry<Entry>]) -> Entry {
-        let client = 1 + self.random.below(3);
-        let latest = log.iter().rev().find(|e| e.client_id == client);
-        let next = latest.map_or(0, |e| e.request_number as u64 + 1);
+        let client = self.random.pick(self.clients);
+        let latest = log.iter().rev().find(|e| e.op.client == client);
+        let next = latest.map_or(0, |e| e.op.request.wrapping_add(1));
         let request = match self.random.below(20) {
             0..=14 => next,
             15..=16 => next.saturating_sub(1),
-            17 => next + 1,
+            17 => next.wrapping_add(1),
             18 => u64::MAX,
             _ => 0,
         };
@@ -277,10 +285,10 @@ impl Adversary<'_> {
             _ => self.random.pick(&[1, 4_500, MOST_CENTS]),
         };
         Entry {
-            client: client as u64,
+            client,
             request,
             operation,
-            member: self.random.below(MEMBERS + 1) as u32,
+            member: self.random.below(self.rust.setup.members + 1) as u32,
             cents,
         }
     }

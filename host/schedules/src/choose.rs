@@ -23,7 +23,7 @@ fn shows(run: &Run, place: usize) -> [Shows; 2] {
     };
     [
         Shows::Step(step),
-        Shows::At(run.setup.n, mark.before, mark.kind),
+        Shows::At(run.rust.setup.n, mark.before, mark.kind),
     ]
 }
 
@@ -43,7 +43,7 @@ fn best_front(run: &Run, known: &BTreeSet<Shows>) -> (usize, usize) {
 
 /// Which run of a cluster of `n` shows the most different things, whole.
 fn most_varied(runs: &[Run], n: usize) -> Option<usize> {
-    let of_n = (0..runs.len()).filter(|place| runs[*place].setup.n == n);
+    let of_n = (0..runs.len()).filter(|place| runs[*place].rust.setup.n == n);
     of_n.max_by_key(|place| {
         let calls = 0..runs[*place].calls.len();
         let all: BTreeSet<Shows> = calls.flat_map(|call| shows(&runs[*place], call)).collect();

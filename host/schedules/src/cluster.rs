@@ -118,12 +118,12 @@ impl Cluster<'_> {
     fn crash(&mut self) {
         let id = self.some();
         self.nonce += 1;
-        let view = self.replicas[id].replica.view_number();
+        let view = self.replicas[id].rust.replica.view_number();
         let start = Start::Back {
             view,
             nonce: self.nonce,
         };
-        let (run, answer) = Run::new(self.replicas[id].setup, start);
+        let (run, answer) = Run::new(self.replicas[id].rust.setup, start);
         self.ended
             .push(std::mem::replace(&mut self.replicas[id], run));
         self.send(id, answer);

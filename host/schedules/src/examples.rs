@@ -151,7 +151,7 @@ impl Example {
 
     /// A frame, with areas of these lengths for messages and replies.
     pub fn frame_in(self, areas: (usize, usize), message: Fees, wanted: Expect) -> Example {
-        let addressee = self.run.as_ref().expect("a run").setup.id;
+        let addressee = self.run.as_ref().expect("a run").rust.setup.id;
         let call = Call::Frame { addressee, message };
         self.checked(|run| run.call_in(call, areas), wanted)
     }

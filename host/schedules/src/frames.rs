@@ -1,47 +1,52 @@
 //! Document 01's frames, written; and its refusals 3 to 6 on the frame alone.
 
 use crate::fees::{Entry, Outcome};
+use std::collections::HashMap;
 use vsr_rs::{LogEntry, Message, Reply};
 
 /// A message of the Rust with fees for operations.
 pub type Fees = Message<Entry>;
 
 /// Bytes that grow at the end.
-struct Bytes(Vec<u8>);
+struct Bytes<'a>(&'a mut Vec<u8>);
 
-impl Bytes {
-    fn one(mut self, number: usize) -> Bytes {
+impl Bytes<'_> {
+    fn one(self, number: usize) -> Self {
         self.0
             .push(u8::try_from(number).expect("a number of one byte"));
         self
     }
 
-    fn four(mut self, number: usize) -> Bytes {
+    fn four(self, number: usize) -> Self {
         let number = u32::try_from(number).expect("a number of four bytes");
         self.0.extend(number.to_be_bytes());
         self
     }
 
-    fn eight(mut self, number: u64) -> Bytes {
+    fn eight(self, number: u64) -> Self {
         self.0.extend(number.to_be_bytes());
         self
     }
 
-    fn entry(mut self, entry: &Entry) -> Bytes {
+    fn entry(self, entry: &Entry) -> Self {
         self.0.extend(entry_bytes(entry));
         self
     }
 
-    fn log(self, log: &[LogEntry<Entry>]) -> Bytes {
+    fn log(self, log: &[LogEntry<Entry>]) -> Self {
         log.iter().fold(self, |bytes, e| bytes.entry(&e.op))
     }
 }
 
 /// The 32 bytes of an entry.
-pub fn entry_bytes(entry: &Entry) -> Vec<u8> {
-    let front = Bytes(Vec::new()).eight(entry.client).eight(entry.request);
-    let middle = front.four((entry.operation as usize) << 24);
-    middle.four(entry.member as usize).eight(entry.cents).0
+pub fn entry_bytes(entry: &Entry) -> [u8; 32] {
+    let mut bytes = [0; 32];
+    bytes[..8].copy_from_slice(&entry.client.to_be_bytes());
+    bytes[8..16].copy_from_slice(&entry.request.to_be_bytes());
+    bytes[16] = entry.operation;
+    bytes[20..24].copy_from_slice(&entry.member.to_be_bytes());
+    bytes[24..].copy_from_slice(&entry.cents.to_be_bytes());
+    bytes
 }
 
 /// Which kind a message is: its number in document 01's table.
@@ -61,10 +66,9 @@ pub fn kind(message: &Fees) -> usize {
     }
 }
 
-/// The fields of a message, behind the addressee.
-fn fields(message: &Fees) -> Vec<u8> {
-    let empty = Bytes(Vec::new());
-    let bytes = match message {
+/// Writes the fields of a message, behind the addressee.
+fn write_fields(empty: Bytes, message: &Fees) {
+    match message {
         Message::Request { op, .. } => empty.entry(op),
         Message::Prepare {
             view_number,
@@ -153,37 +157,61 @@ fn fields(message: &Fees) -> Vec<u8> {
             }
         }
     };
-    bytes.0
 }
 
-/// A frame: length, version 1, kind, addressee, fields.
-fn framed(kind: usize, addressee: usize, fields: &[u8]) -> Vec<u8> {
-    let head = Bytes(Vec::new()).four(fields.len() + 3).one(1);
-    let mut frame = head.one(kind).one(addressee).0;
-    frame.extend(fields);
-    frame
+/// Writes a frame at the end: length, version 1, kind, addressee, fields.
+fn framed(bytes: &mut Vec<u8>, kind: usize, addressee: usize, fields: impl FnOnce(Bytes)) {
+    let place = bytes.len();
+    fields(Bytes(bytes).four(0).one(1).one(kind).one(addressee));
+    let length = u32::try_from(bytes.len() - place - 4).expect("a number of four bytes");
+    bytes[place..place + 4].copy_from_slice(&length.to_be_bytes());
+}
+
+/// Writes the frame of a message at the end.
+pub fn write_frame(bytes: &mut Vec<u8>, addressee: usize, message: &Fees) {
+    framed(bytes, kind(message), addressee, |fields| {
+        write_fields(fields, message)
+    });
+}
+
+/// Writes the frame of a reply at the end.
+pub fn write_reply(bytes: &mut Vec<u8>, reply: &Reply<Outcome>) {
+    framed(bytes, 12, 0, |fields| {
+        fields
+            .four(reply.view_number)
+            .eight(reply.client_id as u64)
+            .eight(reply.request_number as u64)
+            .one(reply.result.code as usize)
+            .eight(reply.result.total);
+    });
 }
 
 /// The frame of a message.
 pub fn frame(addressee: usize, message: &Fees) -> Vec<u8> {
-    framed(kind(message), addressee, &fields(message))
+    let mut bytes = Vec::new();
+    write_frame(&mut bytes, addressee, message);
+    bytes
 }
 
 /// The frame of a reply.
 pub fn reply_frame(reply: &Reply<Outcome>) -> Vec<u8> {
-    let front = Bytes(Vec::new())
-        .four(reply.view_number)
-        .eight(reply.client_id as u64)
-        .eight(reply.request_number as u64);
-    let fields = front
-        .one(reply.result.code as usize)
-        .eight(reply.result.total)
-        .0;
-    framed(12, 0, &fields)
+    let mut bytes = Vec::new();
+    write_reply(&mut bytes, reply);
+    bytes
 }
 
-/// Whether for each client the request numbers strictly rise along the log.
+/// Whether for each client the request numbers strictly rise along the log. A short log is looked over by pairs; in a long one
+/// each number is held against the client's latest before it, which is the greatest where all before it rise.
 pub fn rising(log: &[LogEntry<Entry>]) -> bool {
+    if log.len() > 32 {
+        let mut latest = HashMap::new();
+        return log
+            .iter()
+            .all(|e| match latest.insert(e.client_id, e.request_number) {
+                Some(before) => before < e.request_number,
+                None => true,
+            });
+    }
     (0..log.len()).all(|later| {
         (0..later).all(|earlier| {
             log[earlier].client_id != log[later].client_id

@@ -1,6 +1,6 @@
 //! Drives the unchanged vsr-rs with fees and writes what it was given and what it answered, in the format of
 //! `vectors/FORMAT.md`: clusters under a bad network, single replicas under an adversary, and some runs written by hand. The same
-//! words on the command line give the same bytes. How refusals are told, which the Rust hasn't: see `run`.
+//! words on the command line give the same bytes. How refusals are told, which the Rust hasn't: see `rust`.
 //!
 //! ```text
 //! schedules SEED ROUNDS [MOST]
@@ -13,20 +13,9 @@
 //! `client` plays the Rust's client instead, a run of CALLS calls for each number of replicas. `examples` writes the directed
 //! examples: what their calls have to give is written beside them.
 
-mod adversary;
-mod choose;
-mod client;
-mod cluster;
-mod directed;
-mod examples;
-mod fees;
-mod frames;
-mod inside;
-mod random;
-mod run;
-
-use random::Random;
-use run::{Mark, Run};
+use schedules::random::Random;
+use schedules::run::{Mark, Run};
+use schedules::{adversary, choose, client, cluster, directed, examples};
 use std::process::ExitCode;
 
 /// How many replicas the clusters have.
@@ -48,7 +37,8 @@ fn played(random: &mut Random, rounds: usize) -> Vec<Run> {
     runs
 }
 
-/// How many calls of each kind (0: a tick) came in each status, and how many of them were refused, as comment lines.
+/// How many calls of each kind (0: a tick) came in each status, and how many of them were refused, as comment lines. The empty line
+/// behind them says that none is the first run's title.
 fn counts(runs: &[Run]) -> String {
     let marks: Vec<Mark> = runs
         .iter()
@@ -63,7 +53,7 @@ fn counts(runs: &[Run]) -> String {
     }
     let row = (3..9).map(|code| of(&|m| m.code == code).to_string());
     text += &format!(
-        "# refused by 3 to 8: {}\n",
+        "# refused by 3 to 8: {}\n\n",
         row.collect::<Vec<_>>().join(" ")
     );
     text

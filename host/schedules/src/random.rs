@@ -10,7 +10,7 @@ impl Random {
     }
 
     /// The next number.
-    fn next(&mut self) -> u64 {
+    pub fn number(&mut self) -> u64 {
         self.0 ^= self.0 << 13;
         self.0 ^= self.0 >> 7;
         self.0 ^= self.0 << 17;
@@ -19,7 +19,7 @@ impl Random {
 
     /// A number below `bound`, which isn't 0.
     pub fn below(&mut self, bound: usize) -> usize {
-        ((self.next() >> 16) % bound as u64) as usize
+        ((self.number() >> 16) % bound as u64) as usize
     }
 
     /// True in `percent` of a hundred cases.

@@ -132,11 +132,11 @@ impl Expect {
             faults.unless(&what, found, Some(number.to_string().as_str()));
         }
         if let Some(log) = self.log {
-            let found: Vec<Entry> = run.replica.log().iter().map(|e| e.op).collect();
+            let found: Vec<Entry> = run.rust.replica.log().iter().map(|e| e.op).collect();
             faults.unless("log", found, log);
         }
         if let Some(acks) = self.acks {
-            faults.unless("acks", inside(&run.replica).acks, acks);
+            faults.unless("acks", inside(&run.rust.replica).acks, acks);
         }
         faults.1
     }

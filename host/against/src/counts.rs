@@ -1,0 +1,226 @@
+//! What was met: calls by status and kind, refusals by number, later causes by kind and status.
+
+use std::collections::BTreeMap;
+use std::fmt::Write;
+
+const STATUSES: [&str; 4] = ["Normal", "StateTransfer", "ViewChange", "Recovering"];
+const KINDS: [&str; 13] = [
+    "tick",
+    "Request",
+    "Prepare",
+    "PrepareOk",
+    "Commit",
+    "GetState",
+    "NewState",
+    "StartViewChange",
+    "DoViewChange",
+    "StartView",
+    "Recovery",
+    "RecoveryResponse",
+    "malformed",
+];
+
+/// The later causes, by number and kind.
+const LATER: [(usize, usize); 8] = [
+    (4, 1),
+    (5, 3),
+    (6, 2),
+    (6, 6),
+    (7, 7),
+    (7, 8),
+    (7, 9),
+    (8, 0),
+];
+
+/// Counts of one thread, or of all.
+#[derive(Default)]
+pub struct Counts {
+    /// Schedules by their kind.
+    pub schedules: BTreeMap<&'static str, u64>,
+    /// Calls of a replica that were compared, by whether they were done.
+    pub done: u64,
+    pub refused: u64,
+    /// Refused tries before a call: short areas, wrong lengths, states that refusal 1 catches.
+    pub tries: u64,
+    /// Creations, and calls of a client.
+    pub creations: u64,
+    pub client: u64,
+    /// Calls on memory that no call produced; they are compared with nothing.
+    pub garbage: u64,
+    /// Comparisons of what the Rust shows in its Debug text only.
+    pub deep: u64,
+    /// Refusals by number; place 0 isn't used.
+    pub numbers: [u64; 12],
+    /// Done and refused calls by status and kind.
+    pub met: [[(u64, u64); 13]; 4],
+    /// Later causes: number, kind, status.
+    pub later: BTreeMap<(usize, usize, usize), u64>,
+    /// Outcomes of applied entries; place 0 isn't used.
+    pub outcomes: [u64; 7],
+    /// The changes of status that were seen.
+    pub moves: [[u64; 4]; 4],
+}
+
+impl Counts {
+    /// A call of this kind in this status gave this number.
+    pub fn call(&mut self, status: usize, kind: usize, number: usize, later: bool) {
+        let cell = &mut self.met[status][kind];
+        if number == 0 {
+            self.done += 1;
+            cell.0 += 1;
+            return;
+        }
+        self.refused += 1;
+        cell.1 += 1;
+        self.numbers[number] += 1;
+        if later {
+            *self.later.entry((number, kind, status)).or_default() += 1;
+        }
+    }
+
+    /// A try that was refused by this number.
+    pub fn tried(&mut self, number: usize) {
+        self.tries += 1;
+        self.numbers[number] += 1;
+    }
+
+    /// All calls that were compared.
+    pub fn calls(&self) -> u64 {
+        self.done + self.refused + self.tries + self.creations + self.client
+    }
+
+    /// Takes in the counts of another thread.
+    pub fn add(&mut self, other: Counts) {
+        for (kind, count) in other.schedules {
+            *self.schedules.entry(kind).or_default() += count;
+        }
+        self.done += other.done;
+        self.refused += other.refused;
+        self.tries += other.tries;
+        self.creations += other.creations;
+        self.client += other.client;
+        self.garbage += other.garbage;
+        self.deep += other.deep;
+        for (mine, its) in self.numbers.iter_mut().zip(other.numbers) {
+            *mine += its;
+        }
+        for (mine, its) in self.outcomes.iter_mut().zip(other.outcomes) {
+            *mine += its;
+        }
+        let cells = self.met.iter_mut().flatten();
+        for (mine, its) in cells.zip(other.met.into_iter().flatten()) {
+            mine.0 += its.0;
+            mine.1 += its.1;
+        }
+        let moves = self.moves.iter_mut().flatten();
+        for (mine, its) in moves.zip(other.moves.into_iter().flatten()) {
+            *mine += its;
+        }
+        for (cause, count) in other.later {
+            *self.later.entry(cause).or_default() += count;
+        }
+    }
+
+    /// What a run has to have met and didn't: refusal numbers, calls of each kind in each status, and later causes.
+    pub fn missing(&self) -> Vec<String> {
+        let mut missing = Vec::new();
+        for (number, count) in self.numbers.iter().enumerate().skip(1) {
+            if *count == 0 {
+                missing.push(format!("refusal {number}"));
+            }
+        }
+        for (status, cells) in self.met.iter().enumerate() {
+            for (kind, (done, refused)) in cells.iter().enumerate() {
+                if done + refused == 0 {
+                    missing.push(format!("{} in {}", KINDS[kind], STATUSES[status]));
+                }
+            }
+        }
+        for (number, kind) in LATER {
+            if !self
+                .later
+                .keys()
+                .any(|key| (key.0, key.1) == (number, kind))
+            {
+                missing.push(format!("later {number} on a {}", KINDS[kind]));
+            }
+        }
+        missing
+    }
+
+    /// All of it in lines.
+    pub fn text(&self) -> String {
+        let mut text = String::new();
+        self.heads(&mut text);
+        self.causes(&mut text);
+        self.table(&mut text);
+        text
+    }
+
+    fn heads(&self, text: &mut String) {
+        let schedules: u64 = self.schedules.values().sum();
+        line(
+            text,
+            format_args!("schedules {schedules}: {}", listed(&self.schedules)),
+        );
+        line(
+            text,
+            format_args!(
+                "calls compared {}: done {}, refused {}, refused tries before a call {}, creations {}, a client's {}; whole insides {}; besides, calls on memory of no call {}",
+                self.calls(), self.done, self.refused, self.tries, self.creations, self.client, self.deep, self.garbage
+            ),
+        );
+        let numbers = (1..12).map(|number| format!("{number}: {}", self.numbers[number]));
+        let numbers: Vec<String> = numbers.collect();
+        line(
+            text,
+            format_args!("refusals by number: {}", numbers.join(", ")),
+        );
+        let outcomes = (1..7).map(|code| format!("{code}: {}", self.outcomes[code]));
+        let outcomes: Vec<String> = outcomes.collect();
+        line(
+            text,
+            format_args!("applied entries by outcome: {}", outcomes.join(", ")),
+        );
+    }
+
+    fn causes(&self, text: &mut String) {
+        line(text, format_args!("later causes:"));
+        for ((number, kind, status), count) in &self.later {
+            let (kind, status) = (KINDS[*kind], STATUSES[*status]);
+            line(text, format_args!("  {number} {kind} in {status}: {count}"));
+        }
+        line(text, format_args!("statuses before and after a call:"));
+        for (before, row) in self.moves.iter().enumerate() {
+            let row = row.iter().enumerate();
+            let row = row.map(|(after, count)| format!("{} {count}", STATUSES[after]));
+            let row: Vec<String> = row.collect();
+            line(
+                text,
+                format_args!("  {}: {}", STATUSES[before], row.join(", ")),
+            );
+        }
+    }
+
+    fn table(&self, text: &mut String) {
+        line(
+            text,
+            format_args!("calls by kind, done/refused, in each status:"),
+        );
+        for (kind, name) in KINDS.iter().enumerate() {
+            let cells = self.met.iter().map(|row| row[kind]);
+            let cells = cells.map(|(done, refused)| format!("{done}/{refused}"));
+            let cells: Vec<String> = cells.map(|cell| format!("{cell:>20}")).collect();
+            line(text, format_args!("  {name:<17}{}", cells.join("")));
+        }
+    }
+}
+
+fn line(text: &mut String, words: std::fmt::Arguments) {
+    writeln!(text, "{words}").expect("a string takes all");
+}
+
+fn listed(counts: &BTreeMap<&'static str, u64>) -> String {
+    let words = counts.iter().map(|(kind, count)| format!("{kind} {count}"));
+    words.collect::<Vec<_>>().join(", ")
+}

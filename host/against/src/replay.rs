@@ -1,0 +1,443 @@
+//! A recorded trace (`../shared/vectors/FORMAT.md`), given to the library through the C calls: numbers, message and reply bytes, the
+//! state line, and after a refusal every lent byte.
+
+use crate::deep;
+use crate::facts::{number, Facts};
+use schedules::frames::hex;
+use schedules::rust::Setup;
+use std::collections::BTreeMap;
+use std::process::ExitCode;
+use whitherhaul::raw::{self, state, Memory};
+
+/// Areas are lent at most so much longer than the longest that a call can need.
+const SLACK: usize = 64;
+
+/// Plays a trace, and says what was compared.
+pub fn replay(file: &str) -> ExitCode {
+    let text = match std::fs::read_to_string(file) {
+        Ok(text) => text,
+        Err(fault) => {
+            eprintln!("against: {file}: {fault}");
+            return ExitCode::FAILURE;
+        }
+    };
+    let mut replay = Replay::default();
+    for (place, line) in text.lines().enumerate() {
+        if line.is_empty() || line.starts_with('#') {
+            continue;
+        }
+        let words: Vec<&str> = line.split(' ').collect();
+        if let Err(fault) = replay.line(&words) {
+            println!("against: fails: {file}, line {}: {fault}", place + 1);
+            return ExitCode::FAILURE;
+        }
+    }
+    print!("{}", replay.told(file));
+    ExitCode::SUCCESS
+}
+
+/// What a run is of.
+enum Running {
+    Nothing,
+    Replica(Box<Replica>),
+    Client(Vec<u8>),
+}
+
+/// A replica of the library with its memory.
+struct Replica {
+    setup: whitherhaul::Setup,
+    memory: Memory,
+    facts: Facts,
+}
+
+/// The answer of the call that was given last; none of one that was left out.
+#[derive(Default)]
+struct Answer {
+    code: u8,
+    messages: Vec<u8>,
+    replies: Vec<u8>,
+}
+
+struct Replay {
+    running: Running,
+    answer: Option<Answer>,
+    compared: BTreeMap<&'static str, usize>,
+    states: usize,
+    refused: BTreeMap<u8, usize>,
+    left_out: BTreeMap<&'static str, usize>,
+}
+
+impl Default for Replay {
+    fn default() -> Replay {
+        Replay {
+            running: Running::Nothing,
+            answer: None,
+            compared: BTreeMap::new(),
+            states: 0,
+            refused: BTreeMap::new(),
+            left_out: BTreeMap::new(),
+        }
+    }
+}
+
+/// A decimal number of some type; none where it doesn't fit.
+fn fits<T: TryFrom<u64>>(word: &str) -> Result<Option<T>, String> {
+    let number: u64 = word.parse().map_err(|_| format!("no number: {word}"))?;
+    Ok(T::try_from(number).ok())
+}
+
+/// The same where it has to fit.
+fn number_of<T: TryFrom<u64>>(word: &str) -> Result<T, String> {
+    fits(word)?.ok_or(format!("out of range: {word}"))
+}
+
+fn bytes_of(word: &str) -> Result<Vec<u8>, String> {
+    if word == "-" {
+        return Ok(Vec::new());
+    }
+    let pair = |at| u8::from_str_radix(word.get(at..at + 2).unwrap_or("?"), 16);
+    let bytes: Result<Vec<u8>, _> = (0..word.len()).step_by(2).map(pair).collect();
+    bytes.map_err(|_| String::from("no hex"))
+}
+
+/// The setup of five words; none where a number doesn't fit the C call.
+fn setup_of(words: &[&str]) -> Result<Option<whitherhaul::Setup>, String> {
+    let (Some(replicas), Some(id), Some(timeout), Some(room), Some(members)) = (
+        fits(words[0])?,
+        fits(words[1])?,
+        fits(words[2])?,
+        fits(words[3])?,
+        fits(words[4])?,
+    ) else {
+        return Ok(None);
+    };
+    Ok(Some(whitherhaul::Setup {
+        replicas,
+        id,
+        timeout,
+        room,
+        members,
+    }))
+}
+
+impl Replay {
+    fn line(&mut self, words: &[&str]) -> Result<(), String> {
+        match (words[0], words.len()) {
+            ("N", 6) => self.create(&words[1..], None, 0),
+            ("R", 9) => {
+                let back = (number_of(words[6])?, number_of(words[7])?);
+                self.create(&words[1..6], Some(back), number_of(words[8])?)
+            }
+            ("M", 4) => {
+                let frame = bytes_of(words[3])?;
+                self.call("frames", Some(&frame), words)
+            }
+            ("T", 3) => self.call("ticks", None, words),
+            ("C", 5) => self.client(&words[1..]),
+            ("Q", 5) => self.request(&words[1..]),
+            ("P", 3) => self.reply(number_of(words[1])?, number_of(words[2])?),
+            ("I", 2) => self.idle(number_of(words[1])?),
+            ("=", 4) => self.compare(words),
+            (":", 20) => self.state(&words[1..]),
+            (";", 4) => self.record(&words[1..]),
+            _ => Err(String::from("a line that FORMAT.md doesn't have")),
+        }
+    }
+
+    /// A creation, or with view and nonce a recovery with an area of this length.
+    fn create(
+        &mut self,
+        words: &[&str],
+        back: Option<(u32, u64)>,
+        area: usize,
+    ) -> Result<(), String> {
+        self.running = Running::Nothing;
+        let Some(setup) = setup_of(words)? else {
+            return self
+                .leave_out("creations with a number that doesn't fit the C call's argument");
+        };
+        let mut memory = Memory::of(&setup);
+        let before = memory.clone();
+        let mut out = vec![0xa5; area.min(setup.longest_messages() + SLACK)];
+        let (code, count) = match back {
+            None => (raw::create(&setup, &mut memory), 0),
+            Some((view, nonce)) => raw::recover(&setup, view, nonce, &mut memory, &mut out),
+        };
+        kept(code, &memory, &before, &out[count..])?;
+        self.given("creations", code, out[..count].to_vec(), Vec::new());
+        if code == 0 {
+            let view = back.map_or(0, |(view, _)| view);
+            let replica = Replica::new(setup, memory, view);
+            self.running = Running::Replica(Box::new(replica));
+        }
+        Ok(())
+    }
+
+    /// A frame, or a tick.
+    fn call(
+        &mut self,
+        name: &'static str,
+        frame: Option<&[u8]>,
+        words: &[&str],
+    ) -> Result<(), String> {
+        let Running::Replica(replica) = &mut self.running else {
+            return Err(String::from("a call of no replica"));
+        };
+        let most = replica.setup.longest_messages() + SLACK;
+        let mut out = vec![0xa5; number_of::<usize>(words[1])?.min(most)];
+        let mut reps = vec![0xa5; number_of::<usize>(words[2])?.min(most)];
+        let before = replica.memory.clone();
+        let (code, counts) = match frame {
+            Some(frame) => raw::on_message(&mut replica.memory, frame, &mut out, &mut reps),
+            None => raw::on_idle(&mut replica.memory, &mut out, &mut reps),
+        };
+        kept(code, &replica.memory, &before, &out[counts.messages..])?;
+        kept(code, &replica.memory, &before, &reps[counts.replies..])?;
+        replica.facts.hold(&replica.memory)?;
+        out.truncate(counts.messages);
+        reps.truncate(counts.replies);
+        self.given(name, code, out, reps);
+        Ok(())
+    }
+
+    /// A client, with the view and the next number that the line says.
+    fn client(&mut self, words: &[&str]) -> Result<(), String> {
+        self.running = Running::Nothing;
+        let Some(n) = fits(words[0])? else {
+            return self
+                .leave_out("creations with a number that doesn't fit the C call's argument");
+        };
+        let mut record = vec![0; raw::CLIENT];
+        let code = raw::client_create(n, number_of(words[1])?, &mut record);
+        if code == 0 {
+            record[9..13].copy_from_slice(&number_of::<u32>(words[2])?.to_be_bytes());
+            record[13..21].copy_from_slice(&number_of::<u64>(words[3])?.to_be_bytes());
+            self.running = Running::Client(record);
+        }
+        self.given("clients", code, Vec::new(), Vec::new());
+        Ok(())
+    }
+
+    fn request(&mut self, words: &[&str]) -> Result<(), String> {
+        let (Some(operation), Some(member)) = (fits(words[0])?, fits(words[1])?) else {
+            return self.leave_out("requests with a number that doesn't fit the C call's argument");
+        };
+        let mut area = vec![0xa5; number_of::<usize>(words[3])?.min(300)];
+        let record = self.client_record()?;
+        let before = record.clone();
+        let cents = number_of(words[2])?;
+        let (code, _, written) = raw::client_request(record, operation, member, cents, &mut area);
+        if code != 0 && (*record != before || area.iter().any(|byte| *byte != 0xa5)) {
+            return Err(String::from("memory changed though refused"));
+        }
+        area.truncate(written);
+        self.given("requests", code, area, Vec::new());
+        Ok(())
+    }
+
+    /// The answer's code is whether the reply answers the pending request.
+    fn reply(&mut self, request: u64, view: u32) -> Result<(), String> {
+        let (code, answers) = raw::client_reply(self.client_record()?, request, view);
+        if code != 0 {
+            return Err(format!("a reply is refused by {code}"));
+        }
+        *self.compared.entry("replies").or_default() += 1;
+        self.answer = Some(Answer {
+            code: answers.into(),
+            ..Answer::default()
+        });
+        Ok(())
+    }
+
+    fn idle(&mut self, area: usize) -> Result<(), String> {
+        let mut area = vec![0xa5; area.min(300)];
+        let (code, written) = raw::client_idle(self.client_record()?, &mut area);
+        if area[written..].iter().any(|byte| *byte != 0xa5) {
+            return Err(String::from("bytes past the count changed"));
+        }
+        area.truncate(written);
+        self.given("idle calls", code, area, Vec::new());
+        Ok(())
+    }
+
+    fn client_record(&mut self) -> Result<&mut Vec<u8>, String> {
+        match &mut self.running {
+            Running::Client(record) => Ok(record),
+            _ => Err(String::from("a call of no client")),
+        }
+    }
+
+    fn given(&mut self, name: &'static str, code: u8, messages: Vec<u8>, replies: Vec<u8>) {
+        *self.compared.entry(name).or_default() += 1;
+        if code != 0 {
+            *self.refused.entry(code).or_default() += 1;
+        }
+        self.answer = Some(Answer {
+            code,
+            messages,
+            replies,
+        });
+    }
+
+    fn leave_out(&mut self, reason: &'static str) -> Result<(), String> {
+        *self.left_out.entry(reason).or_default() += 1;
+        self.answer = None;
+        Ok(())
+    }
+
+    /// The answer's line.
+    fn compare(&mut self, words: &[&str]) -> Result<(), String> {
+        let Some(answer) = self.answer.take() else {
+            return match words[1] {
+                "0" => Err(String::from("a call was left out that is done")),
+                _ => Ok(()),
+            };
+        };
+        let Answer {
+            code,
+            messages,
+            replies,
+        } = answer;
+        let given = format!("= {code} {} {}", hex(&messages), hex(&replies));
+        let due = words.join(" ");
+        if given != due {
+            return Err(format!("the library gives {given}, due is {due}"));
+        }
+        Ok(())
+    }
+
+    /// The state line.
+    fn state(&mut self, words: &[&str]) -> Result<(), String> {
+        let Running::Replica(replica) = &self.running else {
+            return Err(String::from("the state of no replica"));
+        };
+        let given = replica.line();
+        let names = "status view last_normal op commit heard waiting stable attempts svc dvc_sent \
+                     catching_up dvcs responses log rows totals acks applied";
+        for ((name, due), given) in names.split_whitespace().zip(words).zip(given) {
+            if *due != given {
+                return Err(format!("{name}: the library has {given}, due is {due}"));
+            }
+        }
+        self.states += 1;
+        Ok(())
+    }
+
+    /// The state of a client.
+    fn record(&mut self, words: &[&str]) -> Result<(), String> {
+        let client = whitherhaul::Client::from_record(
+            (*self.client_record()?)[..].try_into().expect("a record"),
+        )
+        .map_err(|refusal| refusal.to_string())?;
+        let pending = client.pending();
+        let given = [
+            client.view().to_string(),
+            client.next_number().to_string(),
+            pending.map_or(String::from("-"), |number| number.to_string()),
+        ];
+        if given != words {
+            return Err(format!("the record says {given:?}, due is {words:?}"));
+        }
+        self.states += 1;
+        Ok(())
+    }
+
+    fn told(&self, file: &str) -> String {
+        let calls: usize = self.compared.values().sum();
+        let by = |counts: &BTreeMap<&str, usize>| {
+            let words = counts.iter().map(|(name, count)| format!("{name} {count}"));
+            words.collect::<Vec<_>>().join(", ")
+        };
+        let refused = self.refused.iter();
+        let refused = refused.map(|(number, count)| format!("{number}: {count}"));
+        let refused = refused.collect::<Vec<_>>().join(", ");
+        let left_out = match self.left_out.is_empty() {
+            true => String::from("nothing"),
+            false => by(&self.left_out),
+        };
+        format!(
+            "{file}: {calls} answers compared ({}), {} states\nrefused by number: {refused}\nleft out: {left_out}\n",
+            by(&self.compared),
+            self.states
+        )
+    }
+}
+
+/// A refused call left memory as it was; bytes past a count are as they were.
+fn kept(code: u8, memory: &Memory, before: &Memory, past: &[u8]) -> Result<(), String> {
+    if code != 0 && memory != before {
+        return Err(format!("memory changed though refused by {code}"));
+    }
+    match past.iter().all(|byte| *byte == 0xa5) {
+        true => Ok(()),
+        false => Err(String::from("bytes past the count changed")),
+    }
+}
+
+impl Replica {
+    fn new(setup: whitherhaul::Setup, memory: Memory, view: u32) -> Replica {
+        let sizes = Setup {
+            n: setup.replicas.into(),
+            id: setup.id.into(),
+            timeout: setup.timeout.into(),
+            room: setup.room as usize,
+            members: setup.members as usize,
+        };
+        Replica {
+            setup,
+            memory,
+            facts: Facts::new(sizes, view),
+        }
+    }
+
+    /// The words of the state line.
+    fn line(&self) -> Vec<String> {
+        let numbers = self.numbers().into_iter().map(|number| number.to_string());
+        numbers.chain(self.digests()).collect()
+    }
+
+    /// Its numbers.
+    fn numbers(&self) -> [u64; 14] {
+        let memory = &self.memory;
+        let byte = |at: usize| u64::from(memory.state[at]);
+        let two = |at: usize| byte(at) << 8 | byte(at + 1);
+        let recovering = byte(state::STATUS) == 3;
+        let reports = deep::reports(memory);
+        let clock = state::CLOCK;
+        [
+            byte(state::STATUS),
+            number(memory, state::VIEW).into(),
+            number(memory, state::LAST_NORMAL_VIEW).into(),
+            number(memory, state::OP_NUMBER).into(),
+            number(memory, state::COMMIT_NUMBER).into(),
+            byte(clock),
+            number(memory, clock + 1).into(),
+            two(clock + 5),
+            byte(clock + 7),
+            byte(state::STARTS),
+            byte(state::SENT),
+            byte(state::CATCHING_UP),
+            if recovering { 0 } else { reports },
+            if recovering { reports } else { 0 },
+        ]
+    }
+
+    /// Its digests: log, rows, totals, acks, applied.
+    fn digests(&self) -> [String; 5] {
+        let memory = &self.memory;
+        let log = 32 * number(memory, state::OP_NUMBER) as usize;
+        let mut rows = memory.table.clone();
+        rows.truncate(25 * rows.chunks_exact(25).filter(|row| row[16] != 0).count());
+        for row in rows.chunks_exact_mut(25).filter(|row| row[16] == 255) {
+            row[16] = 0;
+        }
+        let runs: [&[u8]; 5] = [
+            &memory.log[..log],
+            &rows,
+            &memory.totals,
+            &memory.acks,
+            self.facts.applied(),
+        ];
+        runs.map(|run| format!("{:016x}", schedules::run::fnv(run)))
+    }
+}

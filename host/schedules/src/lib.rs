@@ -1,0 +1,15 @@
+//! Drives the unchanged vsr-rs with document 01's fees, and knows document 01's frames and refusals: what `schedules` writes its
+//! traces with, and what `against` compares the proved library with. How refusals are told, which the Rust hasn't: see `rust`.
+
+pub mod adversary;
+pub mod choose;
+pub mod client;
+pub mod cluster;
+pub mod directed;
+pub mod examples;
+pub mod fees;
+pub mod frames;
+pub mod inside;
+pub mod random;
+pub mod run;
+pub mod rust;

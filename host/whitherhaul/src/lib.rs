@@ -1,0 +1,79 @@
+//! A replicated ledger of club fees, for its owner: the safe side of a library whose every function is proved to do what its
+//! contract says. Three to seven replicas agree on each charge (Viewstamped Replication), and a charge that is sent again isn't
+//! taken again.
+//!
+//! The library does no input or output, keeps no clock and starts no thread. The owner hands a [`Replica`] the frames that
+//! arrive and tells it when time has passed, and delivers what it sends; a [`Client`] likewise. A call that can't be done is
+//! refused by a [`Refusal`] and changes nothing.
+//!
+//! Three replicas and a desk that charges 45.00 to member 3:
+//!
+//! ```
+//! use whitherhaul::{addressee, Client, Operation, Outcome, Replica, Reply, Setup};
+//!
+//! # fn main() -> Result<(), whitherhaul::Refusal> {
+//! let setup = |id| Setup { replicas: 3, id, timeout: 3, room: 8, members: 8 };
+//! let mut replicas = [Replica::new(&setup(0))?, Replica::new(&setup(1))?, Replica::new(&setup(2))?];
+//! let mut desk = Client::new(3, 7)?;
+//!
+//! let (number, request) = desk.on_request(Operation::Fee, 3, 4_500)?;
+//! let mut network = vec![request.to_vec()];
+//! let mut answered = None;
+//! while let Some(frame) = network.pop() {
+//!     let to = addressee(&frame).expect("a whole frame");
+//!     let sent = replicas[usize::from(to)].on_message(&frame)?;
+//!     network.extend(sent.messages().map(<[u8]>::to_vec));
+//!     answered = answered.or(sent.replies().find_map(Reply::read));
+//! }
+//!
+//! let reply = answered.expect("two of three hold the charge");
+//! assert_eq!((reply.client, reply.request), (7, number));
+//! assert_eq!((reply.outcome, reply.total), (Outcome::Fee, 4_500));
+//! assert!(desk.on_reply(reply.request, reply.view)?);
+//! assert_eq!(replicas[0].total(3), 4_500);
+//! # Ok(())
+//! # }
+//! ```
+//!
+//! A refused call says why, and leaves everything as it was:
+//!
+//! ```
+//! use whitherhaul::{Refusal, Replica, Setup};
+//!
+//! let setup = Setup { replicas: 3, id: 0, timeout: 3, room: 8, members: 8 };
+//! let mut replica = Replica::new(&setup).expect("inside the sizes");
+//! let before = replica.parts().clone();
+//! assert_eq!(replica.on_message(&[]).unwrap_err(), Refusal::Malformed);
+//! assert_eq!(*replica.parts(), before);
+//! assert_eq!(Replica::new(&Setup { replicas: 2, ..setup }).unwrap_err().number(), 1);
+//! ```
+//!
+//! After a crash the owner has the view that it kept, and a nonce that was never used:
+//!
+//! ```
+//! use whitherhaul::{Replica, Setup, Status};
+//!
+//! let setup = Setup { replicas: 3, id: 1, timeout: 3, room: 8, members: 8 };
+//! let replica = Replica::recover(&setup, 4, 99).expect("inside the sizes");
+//! assert_eq!((replica.status(), replica.view()), (Status::Recovering, 4));
+//! assert_eq!(replica.sent().messages().count(), 2);
+//! ```
+//!
+//! Wire bytes, fee rules, sizes and refusals are those of document 01; the layouts of lent memory are in `docs/PROMISES.md`.
+//! Who keeps the memory himself uses [`raw`].
+
+#![deny(missing_docs)]
+#![deny(unsafe_code)]
+
+mod client;
+mod frames;
+#[allow(unsafe_code)]
+pub mod raw;
+mod refusal;
+mod replica;
+
+pub use client::Client;
+pub use frames::{addressee, kind, Entry, Frames, Operation, Outcome, Reply, Sent};
+pub use raw::Counts;
+pub use refusal::Refusal;
+pub use replica::{Replica, Setup, Status};

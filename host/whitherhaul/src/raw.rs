@@ -1,0 +1,495 @@
+//! The C calls as they are: numbers and byte runs in, document 01's number out, 0 where it is done. All of this crate's
+//! `unsafe` is here.
+//!
+//! A call asks nothing of its caller but that what it is lent is there: wrong lengths and bytes without meaning are refusal 1.
+//! So every function here is safe. Owners use [`crate::Replica`] and [`crate::Client`]; this is for those who keep the memory
+//! themselves, and for tests.
+
+use crate::Setup;
+
+/// A replica's lent runs. Their lengths follow from n, L (`room`) and M (`members`) alone: see [`Memory::of`].
+#[derive(Debug, Default, PartialEq, Eq)]
+pub struct Memory {
+    /// The state, 146 bytes: see [`state`].
+    pub state: Vec<u8>,
+    /// Entries of 32 bytes, as on the wire.
+    pub log: Vec<u8>,
+    /// Outcome (1) and total (8) of each applied entry.
+    pub results: Vec<u8>,
+    /// A total of 8 bytes a member.
+    pub totals: Vec<u8>,
+    /// A set of replicas, a byte, for each op number.
+    pub acks: Vec<u8>,
+    /// The logs of DoViewChanges, or of recovery responses.
+    pub stored: Vec<u8>,
+    /// Rows of 25 bytes: client, request, mark, total.
+    pub table: Vec<u8>,
+    /// Where a rebuild of the table keeps the rows that it replaces.
+    pub old: Vec<u8>,
+}
+
+impl Memory {
+    /// All zero, of the lengths that the setup asks for. For a setup outside the sizes, those of the nearest inside.
+    pub fn of(setup: &Setup) -> Memory {
+        let room = setup.room.clamp(1, 4096) as usize;
+        let members = setup.members.clamp(1, 4096) as usize;
+        let replicas = usize::from(setup.replicas.clamp(3, 7));
+        Memory {
+            state: vec![0; state::LENGTH],
+            log: vec![0; 32 * room],
+            results: vec![0; 9 * room],
+            totals: vec![0; 8 * members],
+            acks: vec![0; room],
+            stored: vec![0; 32 * room * replicas],
+            table: vec![0; 25 * room],
+            old: vec![0; 25 * room],
+        }
+    }
+}
+
+impl Clone for Memory {
+    fn clone(&self) -> Memory {
+        Memory {
+            state: self.state.clone(),
+            log: self.log.clone(),
+            results: self.results.clone(),
+            totals: self.totals.clone(),
+            acks: self.acks.clone(),
+            stored: self.stored.clone(),
+            table: self.table.clone(),
+            old: self.old.clone(),
+        }
+    }
+
+    /// Run by run, so that a copy that is made again and again takes no new memory.
+    fn clone_from(&mut self, other: &Memory) {
+        self.state.clone_from(&other.state);
+        self.log.clone_from(&other.log);
+        self.results.clone_from(&other.results);
+        self.totals.clone_from(&other.totals);
+        self.acks.clone_from(&other.acks);
+        self.stored.clone_from(&other.stored);
+        self.table.clone_from(&other.table);
+        self.old.clone_from(&other.old);
+    }
+}
+
+/// Where the parts of the state run stand; all numbers are big-endian.
+pub mod state {
+    /// How long the run is.
+    pub const LENGTH: usize = 146;
+    /// n (1), id (1), T (2), L (4), M (4).
+    pub const SETUP: usize = 0;
+    /// 0 Normal, 1 StateTransfer, 2 ViewChange, 3 Recovering (1).
+    pub const STATUS: usize = 12;
+    /// The view (4).
+    pub const VIEW: usize = 13;
+    /// The last view in which the status was Normal (4).
+    pub const LAST_NORMAL_VIEW: usize = 17;
+    /// Whether it catches up with a view that has started (1).
+    pub const CATCHING_UP: usize = 21;
+    /// The op number (4).
+    pub const OP_NUMBER: usize = 22;
+    /// The commit number (4).
+    pub const COMMIT_NUMBER: usize = 26;
+    /// The idle clock: heard (1), waiting (4), stable (2), attempts (1).
+    pub const CLOCK: usize = 30;
+    /// Who sent StartViewChange for this view, a bit a replica (1).
+    pub const STARTS: usize = 38;
+    /// Whether DoViewChange was sent (1).
+    pub const SENT: usize = 39;
+    /// The nonce of the recovery (8).
+    pub const NONCE: usize = 40;
+    /// Seven reports: there (1), with a log (1), view (4), op (4), commit (4).
+    pub const REPORTS: usize = 48;
+    /// How long a report is.
+    pub const REPORT: usize = 14;
+}
+
+/// How long a client's record is: n (1), id (8), view (4), next (8), pending (1), its entry (32).
+pub const CLIENT: usize = 54;
+
+/// What stands in a place before a call, which writes to each, refused or not.
+const UNWRITTEN: usize = usize::MAX;
+
+/// Bytes written to the two areas.
+#[derive(Clone, Copy, Debug, Default, PartialEq, Eq)]
+pub struct Counts {
+    /// Bytes of messages.
+    pub messages: usize,
+    /// Bytes of replies.
+    pub replies: usize,
+}
+
+extern "C" {
+    fn whitherhaul_create(
+        n: u8,
+        id: u8,
+        timeout: u16,
+        room: u32,
+        members: u32,
+        state: *mut u8,
+        state_length: usize,
+        log: *const u8,
+        log_length: usize,
+        results: *const u8,
+        results_length: usize,
+        totals: *mut u8,
+        totals_length: usize,
+        acks: *mut u8,
+        acks_length: usize,
+        stored: *const u8,
+        stored_length: usize,
+        table: *mut u8,
+        table_length: usize,
+        old: *const u8,
+        old_length: usize,
+    ) -> u8;
+    fn whitherhaul_recover(
+        n: u8,
+        id: u8,
+        timeout: u16,
+        room: u32,
+        members: u32,
+        view: u32,
+        nonce: u64,
+        state: *mut u8,
+        state_length: usize,
+        log: *const u8,
+        log_length: usize,
+        results: *const u8,
+        results_length: usize,
+        totals: *mut u8,
+        totals_length: usize,
+        acks: *mut u8,
+        acks_length: usize,
+        stored: *const u8,
+        stored_length: usize,
+        table: *mut u8,
+        table_length: usize,
+        old: *const u8,
+        old_length: usize,
+        out: *mut u8,
+        out_length: usize,
+        messages: *mut usize,
+    ) -> u8;
+    fn whitherhaul_on_message(
+        state: *mut u8,
+        state_length: usize,
+        frame: *const u8,
+        frame_length: usize,
+        log: *mut u8,
+        log_length: usize,
+        results: *mut u8,
+        results_length: usize,
+        totals: *mut u8,
+        totals_length: usize,
+        acks: *mut u8,
+        acks_length: usize,
+        stored: *mut u8,
+        stored_length: usize,
+        table: *mut u8,
+        table_length: usize,
+        old: *mut u8,
+        old_length: usize,
+        out: *mut u8,
+        out_length: usize,
+        reps: *mut u8,
+        reps_length: usize,
+        messages: *mut usize,
+        replies: *mut usize,
+    ) -> u8;
+    fn whitherhaul_on_idle(
+        state: *mut u8,
+        state_length: usize,
+        log: *mut u8,
+        log_length: usize,
+        results: *mut u8,
+        results_length: usize,
+        totals: *mut u8,
+        totals_length: usize,
+        acks: *mut u8,
+        acks_length: usize,
+        stored: *mut u8,
+        stored_length: usize,
+        table: *mut u8,
+        table_length: usize,
+        old: *mut u8,
+        old_length: usize,
+        out: *mut u8,
+        out_length: usize,
+        reps: *mut u8,
+        reps_length: usize,
+        messages: *mut usize,
+        replies: *mut usize,
+    ) -> u8;
+    fn whitherhaul_client_create(n: u8, id: u64, record: *mut u8, record_length: usize) -> u8;
+    fn whitherhaul_client_request(
+        record: *mut u8,
+        record_length: usize,
+        operation: u8,
+        member: u32,
+        cents: u64,
+        area: *mut u8,
+        area_length: usize,
+        number: *mut u64,
+        written: *mut usize,
+    ) -> u8;
+    fn whitherhaul_client_reply(
+        record: *mut u8,
+        record_length: usize,
+        number: u64,
+        view: u32,
+        done: *mut u8,
+    ) -> u8;
+    fn whitherhaul_client_idle(
+        record: *const u8,
+        record_length: usize,
+        area: *mut u8,
+        area_length: usize,
+        written: *mut usize,
+    ) -> u8;
+    fn whitherhaul_read_reply(
+        frame: *const u8,
+        frame_length: usize,
+        view: *mut u32,
+        client: *mut u64,
+        request: *mut u64,
+        outcome: *mut u8,
+        total: *mut u64,
+    ) -> u8;
+}
+
+/// `new`: a replica's memory for the first time. 0 or 1.
+pub fn create(setup: &Setup, memory: &mut Memory) -> u8 {
+    let m = memory;
+    // Safety: each pointer comes with the length of its own slice, and no two slices share a byte.
+    unsafe {
+        whitherhaul_create(
+            setup.replicas,
+            setup.id,
+            setup.timeout,
+            setup.room,
+            setup.members,
+            m.state.as_mut_ptr(),
+            m.state.len(),
+            m.log.as_ptr(),
+            m.log.len(),
+            m.results.as_ptr(),
+            m.results.len(),
+            m.totals.as_mut_ptr(),
+            m.totals.len(),
+            m.acks.as_mut_ptr(),
+            m.acks.len(),
+            m.stored.as_ptr(),
+            m.stored.len(),
+            m.table.as_mut_ptr(),
+            m.table.len(),
+            m.old.as_ptr(),
+            m.old.len(),
+        )
+    }
+}
+
+/// `recover`: a replica's memory after a crash, with the view that was kept and a nonce that was never used. The number (0, 1
+/// or 9), and how many bytes of Recovery frames stand in `out`.
+pub fn recover(
+    setup: &Setup,
+    view: u32,
+    nonce: u64,
+    memory: &mut Memory,
+    out: &mut [u8],
+) -> (u8, usize) {
+    let m = memory;
+    let mut messages = UNWRITTEN;
+    // Safety: as in `create`; `messages` is a place of its own.
+    let number = unsafe {
+        whitherhaul_recover(
+            setup.replicas,
+            setup.id,
+            setup.timeout,
+            setup.room,
+            setup.members,
+            view,
+            nonce,
+            m.state.as_mut_ptr(),
+            m.state.len(),
+            m.log.as_ptr(),
+            m.log.len(),
+            m.results.as_ptr(),
+            m.results.len(),
+            m.totals.as_mut_ptr(),
+            m.totals.len(),
+            m.acks.as_mut_ptr(),
+            m.acks.len(),
+            m.stored.as_ptr(),
+            m.stored.len(),
+            m.table.as_mut_ptr(),
+            m.table.len(),
+            m.old.as_ptr(),
+            m.old.len(),
+            out.as_mut_ptr(),
+            out.len(),
+            &mut messages,
+        )
+    };
+    (number, messages)
+}
+
+/// A frame arrives. The number, and how many bytes stand in the two areas.
+pub fn on_message(
+    memory: &mut Memory,
+    frame: &[u8],
+    out: &mut [u8],
+    reps: &mut [u8],
+) -> (u8, Counts) {
+    let m = memory;
+    let mut counts = Counts {
+        messages: UNWRITTEN,
+        replies: UNWRITTEN,
+    };
+    // Safety: as in `create`; the two counts are places of their own.
+    let number = unsafe {
+        whitherhaul_on_message(
+            m.state.as_mut_ptr(),
+            m.state.len(),
+            frame.as_ptr(),
+            frame.len(),
+            m.log.as_mut_ptr(),
+            m.log.len(),
+            m.results.as_mut_ptr(),
+            m.results.len(),
+            m.totals.as_mut_ptr(),
+            m.totals.len(),
+            m.acks.as_mut_ptr(),
+            m.acks.len(),
+            m.stored.as_mut_ptr(),
+            m.stored.len(),
+            m.table.as_mut_ptr(),
+            m.table.len(),
+            m.old.as_mut_ptr(),
+            m.old.len(),
+            out.as_mut_ptr(),
+            out.len(),
+            reps.as_mut_ptr(),
+            reps.len(),
+            &mut counts.messages,
+            &mut counts.replies,
+        )
+    };
+    (number, counts)
+}
+
+/// Time has passed: a tick. The number, and how many bytes stand in the two areas.
+pub fn on_idle(memory: &mut Memory, out: &mut [u8], reps: &mut [u8]) -> (u8, Counts) {
+    let m = memory;
+    let mut counts = Counts {
+        messages: UNWRITTEN,
+        replies: UNWRITTEN,
+    };
+    // Safety: as in `on_message`.
+    let number = unsafe {
+        whitherhaul_on_idle(
+            m.state.as_mut_ptr(),
+            m.state.len(),
+            m.log.as_mut_ptr(),
+            m.log.len(),
+            m.results.as_mut_ptr(),
+            m.results.len(),
+            m.totals.as_mut_ptr(),
+            m.totals.len(),
+            m.acks.as_mut_ptr(),
+            m.acks.len(),
+            m.stored.as_mut_ptr(),
+            m.stored.len(),
+            m.table.as_mut_ptr(),
+            m.table.len(),
+            m.old.as_mut_ptr(),
+            m.old.len(),
+            out.as_mut_ptr(),
+            out.len(),
+            reps.as_mut_ptr(),
+            reps.len(),
+            &mut counts.messages,
+            &mut counts.replies,
+        )
+    };
+    (number, counts)
+}
+
+/// A client's record for the first time. 0 or 1.
+pub fn client_create(replicas: u8, id: u64, record: &mut [u8]) -> u8 {
+    // Safety: the pointer comes with the length of its slice.
+    unsafe { whitherhaul_client_create(replicas, id, record.as_mut_ptr(), record.len()) }
+}
+
+/// A client's request. The number of document 01 (0, 1, 2, 9 or 11), the request's number, and how many bytes stand in the area.
+pub fn client_request(
+    record: &mut [u8],
+    operation: u8,
+    member: u32,
+    cents: u64,
+    area: &mut [u8],
+) -> (u8, u64, usize) {
+    let (mut request, mut written) = (u64::MAX, UNWRITTEN);
+    // Safety: each pointer comes with the length of its own slice, or is a place of its own.
+    let number = unsafe {
+        whitherhaul_client_request(
+            record.as_mut_ptr(),
+            record.len(),
+            operation,
+            member,
+            cents,
+            area.as_mut_ptr(),
+            area.len(),
+            &mut request,
+            &mut written,
+        )
+    };
+    (number, request, written)
+}
+
+/// A reply came for this request number, of this view. 0 or 1, and whether it answers the pending request.
+pub fn client_reply(record: &mut [u8], request: u64, view: u32) -> (u8, bool) {
+    let mut done = 255;
+    // Safety: as in `client_request`.
+    let number = unsafe {
+        whitherhaul_client_reply(record.as_mut_ptr(), record.len(), request, view, &mut done)
+    };
+    (number, done != 0)
+}
+
+/// No reply came for a while. The number (0, 1 or 9), and how many bytes stand in the area.
+pub fn client_idle(record: &[u8], area: &mut [u8]) -> (u8, usize) {
+    let mut written = UNWRITTEN;
+    // Safety: as in `client_request`.
+    let number = unsafe {
+        whitherhaul_client_idle(
+            record.as_ptr(),
+            record.len(),
+            area.as_mut_ptr(),
+            area.len(),
+            &mut written,
+        )
+    };
+    (number, written)
+}
+
+/// What a Reply says: view, client, request, outcome, total; none where the bytes are malformed.
+pub fn read_reply(frame: &[u8]) -> Option<(u32, u64, u64, u8, u64)> {
+    let (mut view, mut outcome) = (0, 0);
+    let (mut client, mut request, mut total) = (0, 0, 0);
+    // Safety: as in `client_request`.
+    let number = unsafe {
+        whitherhaul_read_reply(
+            frame.as_ptr(),
+            frame.len(),
+            &mut view,
+            &mut client,
+            &mut request,
+            &mut outcome,
+            &mut total,
+        )
+    };
+    (number == 0).then_some((view, client, request, outcome, total))
+}

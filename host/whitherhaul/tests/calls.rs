@@ -1,0 +1,243 @@
+//! Document 01's marked examples through the safe crate, and what the crate adds to the C calls.
+
+use whitherhaul::{
+    addressee, kind, Client, Frames, Operation, Outcome, Refusal, Replica, Reply, Setup, Status,
+};
+
+const SETUP: Setup = Setup {
+    replicas: 3,
+    id: 0,
+    timeout: 3,
+    room: 8,
+    members: 8,
+};
+
+/// A PrepareOk of view 0 for replica 0.
+fn prepare_ok(op: u8, sender: u8) -> [u8; 16] {
+    [0, 0, 0, 12, 1, 3, 0, 0, 0, 0, 0, 0, 0, 0, op, sender]
+}
+
+/// The first request of client 7: Fee, member 3, 4,500 cents.
+fn request() -> Vec<u8> {
+    let mut client = Client::new(3, 7).unwrap();
+    client
+        .on_request(Operation::Fee, 3, 4500)
+        .unwrap()
+        .1
+        .to_vec()
+}
+
+#[test]
+fn first_tick() {
+    let mut replica = Replica::new(&SETUP).unwrap();
+    let first = [0, 0, 0, 0x0b, 1, 4, 1, 0, 0, 0, 0, 0, 0, 0, 0];
+    let mut due = first.to_vec();
+    due.extend(first);
+    due[21] = 2;
+    let sent = replica.on_idle().unwrap();
+    assert_eq!(sent.message_bytes(), due);
+    assert_eq!(sent.replies().count(), 0);
+    let to: Vec<_> = sent.messages().map(|f| (kind(f), addressee(f))).collect();
+    assert_eq!(to, [(Some(4), Some(1)), (Some(4), Some(2))]);
+
+    let mut out = [0xa5; 31];
+    let before = replica.parts().clone();
+    let short = replica.on_idle_into(&mut out[..29], &mut []);
+    assert_eq!(short, Err(Refusal::MessagesDontFit));
+    assert_eq!((out, replica.parts()), ([0xa5; 31], &before));
+    assert_eq!(replica.sent().message_bytes(), []);
+    let counts = replica.on_idle_into(&mut out, &mut []).unwrap();
+    assert_eq!((counts.messages, counts.replies), (30, 0));
+    assert_eq!((&out[..30], out[30]), (&due[..], 0xa5));
+}
+
+#[test]
+fn a_fee_is_charged_once() {
+    let mut replica = Replica::new(&SETUP).unwrap();
+    assert_eq!(
+        replica.on_message(&request()).unwrap().messages().count(),
+        2
+    );
+    assert_eq!((replica.op_number(), replica.commit_number()), (1, 0));
+    assert_eq!(replica.outcome(1), None);
+    let sent = replica.on_message(&prepare_ok(1, 1)).unwrap();
+    let reply = Reply::read(sent.reply_bytes()).unwrap();
+    let due = Reply {
+        view: 0,
+        client: 7,
+        request: 0,
+        outcome: Outcome::Fee,
+        total: 4500,
+    };
+    assert_eq!(reply, due);
+    let before = replica.parts().clone();
+    assert_eq!(
+        replica
+            .on_message(&prepare_ok(1, 2))
+            .unwrap()
+            .replies()
+            .count(),
+        0
+    );
+    let sent = replica.on_message(&request()).unwrap();
+    assert_eq!(
+        sent.replies().filter_map(Reply::read).collect::<Vec<_>>(),
+        [due]
+    );
+    assert_eq!(*replica.parts(), before);
+    assert_eq!((replica.total(3), replica.log().count()), (4500, 1));
+    assert_eq!(replica.outcome(1), Some((Outcome::Fee, 4500)));
+    let entry = replica.entry(1);
+    assert_eq!((entry.client, entry.member, entry.cents), (7, 3, 4500));
+    assert_eq!(entry.operation, Operation::Fee);
+}
+
+#[test]
+fn views_begin_at_ticks() {
+    let mut replica = Replica::new(&Setup { id: 1, ..SETUP }).unwrap();
+    let mut begun = Vec::new();
+    for tick in 1..=25 {
+        let view = replica.view();
+        replica.on_idle().unwrap();
+        if replica.view() != view {
+            begun.push(tick);
+        }
+    }
+    assert_eq!(begun, [4, 7, 13, 25]);
+    assert_eq!((replica.status(), replica.view()), (Status::ViewChange, 4));
+    assert_eq!(
+        (replica.last_normal_view(), replica.is_primary()),
+        (0, true)
+    );
+}
+
+#[test]
+fn a_full_log_refuses_and_still_answers() {
+    let mut replica = Replica::new(&Setup { room: 1, ..SETUP }).unwrap();
+    replica.on_message(&request()).unwrap();
+    let mut other = request();
+    other[14] = 8;
+    assert_eq!(replica.on_message(&other).unwrap_err(), Refusal::PastRoom);
+    replica.on_message(&prepare_ok(1, 2)).unwrap();
+    assert_eq!(replica.on_message(&request()).unwrap().replies().count(), 1);
+}
+
+#[test]
+fn every_call_fits_the_areas() {
+    let setup = Setup {
+        replicas: 7,
+        ..SETUP
+    };
+    let mut replica = Replica::new(&setup).unwrap();
+    for client in 0..8 {
+        let mut frame = request();
+        frame[14] = client;
+        replica.on_message(&frame).unwrap();
+    }
+    let ticked = replica.on_idle().unwrap().message_bytes().len();
+    assert_eq!(ticked, setup.longest_messages());
+}
+
+#[test]
+fn refusals_have_numbers_and_words() {
+    for (place, refusal) in Refusal::ALL.into_iter().enumerate() {
+        assert_eq!(usize::from(refusal.number()), place + 1);
+        assert_eq!(Refusal::from_number(refusal.number()), Some(refusal));
+        let words = refusal.to_string();
+        assert!(words.starts_with(&format!("refusal {}: ", place + 1)));
+    }
+    assert_eq!(Refusal::from_number(0), None);
+    assert_eq!(Refusal::from_number(12), None);
+}
+
+#[test]
+fn setups_outside_the_sizes() {
+    let outside = [
+        Setup {
+            replicas: 2,
+            ..SETUP
+        },
+        Setup {
+            replicas: 8,
+            ..SETUP
+        },
+        Setup { id: 3, ..SETUP },
+        Setup {
+            timeout: 0,
+            ..SETUP
+        },
+        Setup { room: 0, ..SETUP },
+        Setup {
+            room: u32::MAX,
+            ..SETUP
+        },
+        Setup {
+            members: 4097,
+            ..SETUP
+        },
+    ];
+    for setup in outside {
+        assert_eq!(Replica::new(&setup).unwrap_err(), Refusal::OutsideSizes);
+        assert_eq!(
+            Replica::recover(&setup, 1, 1).unwrap_err(),
+            Refusal::OutsideSizes
+        );
+    }
+}
+
+#[test]
+fn a_run_of_another_length() {
+    let mut replica = Replica::new(&SETUP).unwrap();
+    replica.parts_mut().table.pop();
+    assert_eq!(replica.on_idle().unwrap_err(), Refusal::OutsideSizes);
+    replica.parts_mut().table.push(0);
+    assert!(replica.on_idle().is_ok());
+}
+
+#[test]
+fn a_client_and_its_numbers() {
+    let mut client = Client::new(5, 9).unwrap();
+    assert_eq!(client.on_idle().unwrap().count(), 0);
+    assert_eq!(
+        client.on_request(Operation::Fee, 1, 0).unwrap_err(),
+        Refusal::Malformed
+    );
+    let (number, frame) = client.on_request(Operation::Ask, 1, 0).unwrap();
+    assert_eq!((number, frame.len(), addressee(frame)), (0, 39, Some(0)));
+    let to: Vec<_> = client.on_idle().unwrap().filter_map(addressee).collect();
+    assert_eq!(to, [0, 1, 2, 3, 4]);
+    assert!(!client.on_reply(1, 7).unwrap());
+    assert_eq!((client.view(), client.pending()), (7, Some(0)));
+    assert!(client.on_reply(0, 6).unwrap());
+    assert_eq!(
+        (client.view(), client.pending(), client.next_number()),
+        (7, None, 1)
+    );
+    let (_, frame) = client.on_request(Operation::Refund, 1, 5).unwrap();
+    assert_eq!(addressee(frame), Some(2));
+
+    let mut record = *client.record();
+    record[13..21].fill(255);
+    let mut last = Client::from_record(record).unwrap();
+    assert_eq!(
+        last.on_request(Operation::Ask, 1, 0).unwrap_err(),
+        Refusal::NumbersUsedUp
+    );
+    assert_eq!(last.id(), 9);
+    record[21] = 2;
+    assert_eq!(
+        Client::from_record(record).unwrap_err(),
+        Refusal::OutsideSizes
+    );
+    assert_eq!(Client::new(2, 9).unwrap_err(), Refusal::OutsideSizes);
+}
+
+#[test]
+fn a_part_of_a_frame_is_not_handed_out() {
+    let mut bytes = request();
+    bytes.extend(&request()[..20]);
+    assert_eq!(Frames::new(&bytes).collect::<Vec<_>>(), [request()]);
+    assert_eq!(Frames::new(&bytes[..3]).count(), 0);
+    assert_eq!((kind(&bytes[..5]), addressee(&bytes[..6])), (None, None));
+    assert_eq!(Reply::read(&request()), None);
+}
