@@ -186,7 +186,7 @@ uint8_t whitherhaul_client_request(uint8_t *record, size_t record_length,
                                    uint64_t *number, size_t *written);
 
 /*
- * A reply came for this request number, of this view: *done says whether it answers the request that waits. The record
+ * A reply came for this request number, of this view: *done, which holds 0 or 1 before, says whether it answers the request that waits. The record
  * follows the view also where it doesn't. 0 or 1.
  */
 uint8_t whitherhaul_client_reply(uint8_t *record, size_t record_length, uint64_t number, uint32_t view, bool *done);
