@@ -3,11 +3,12 @@
 
 use crate::counts::Counts;
 use crate::play::{Fault, Found};
+use schedules::client::sent;
 use schedules::fees::{Entry, ASK, FEE, MOST_CENTS, REFUND};
-use schedules::frames::{frame, write_reply};
+use schedules::frames::write_reply;
 use schedules::inside::client_inside;
 use schedules::random::Random;
-use vsr_rs::{Client, Config, Message, Reply};
+use vsr_rs::{Client, Config, Reply};
 use whitherhaul::raw;
 
 /// How long a Request frame is.
@@ -248,7 +249,7 @@ impl Both {
             Call::Reply { number, view } => (0, self.replied(number, view)),
             _ => {
                 self.rust.on_idle();
-                let bytes = self.sent();
+                let bytes = sent(&mut self.rust, self.first);
                 let length = length(bytes.len());
                 if length < bytes.len() {
                     return (length, refused(9, length));
@@ -298,38 +299,11 @@ impl Both {
             cents,
         };
         let request = self.rust.on_request(op) as u64 + self.first;
-        let bytes = self.sent();
+        let bytes = sent(&mut self.rust, self.first);
         self.due[13..21].copy_from_slice(&request.wrapping_add(1).to_be_bytes());
         self.due[21] = 1;
         self.due[22..].copy_from_slice(&bytes[7..39]);
         written(request, &bytes, length)
-    }
-
-    /// The frames that the Rust sends, with its request numbers moved.
-    fn sent(&mut self) -> Vec<u8> {
-        let mut bytes = Vec::new();
-        for (to, message) in self.rust.drain() {
-            let Message::Request {
-                client_id,
-                request_number,
-                op,
-            } = message
-            else {
-                panic!("a client sends requests only");
-            };
-            let op = Entry {
-                client: client_id as u64,
-                request: self.first + request_number as u64,
-                ..op
-            };
-            let whole = Message::Request {
-                client_id,
-                request_number,
-                op,
-            };
-            bytes.extend(frame(to, &whole));
-        }
-        bytes
     }
 }
 

@@ -1,24 +1,21 @@
 //! What was met: calls by status and kind, refusals by number, later causes by kind and status.
 
+use schedules::frames::KINDS;
 use std::collections::BTreeMap;
 use std::fmt::Write;
 
 const STATUSES: [&str; 4] = ["Normal", "StateTransfer", "ViewChange", "Recovering"];
-const KINDS: [&str; 13] = [
-    "tick",
-    "Request",
-    "Prepare",
-    "PrepareOk",
-    "Commit",
-    "GetState",
-    "NewState",
-    "StartViewChange",
-    "DoViewChange",
-    "StartView",
-    "Recovery",
-    "RecoveryResponse",
-    "malformed",
-];
+/// Calls are counted in 13 rows: ticks, then each kind, then what is no frame.
+const ROWS: usize = KINDS.len() + 2;
+
+/// The name of a row.
+fn name(row: usize) -> &'static str {
+    match row {
+        0 => "tick",
+        row if row <= KINDS.len() => KINDS[row - 1],
+        _ => "malformed",
+    }
+}
 
 /// The later causes, by number and kind.
 const LATER: [(usize, usize); 8] = [
@@ -52,7 +49,7 @@ pub struct Counts {
     /// Refusals by number; place 0 isn't used.
     pub numbers: [u64; 12],
     /// Done and refused calls by status and kind.
-    pub met: [[(u64, u64); 13]; 4],
+    pub met: [[(u64, u64); ROWS]; 4],
     /// Later causes: number, kind, status.
     pub later: BTreeMap<(usize, usize, usize), u64>,
     /// Outcomes of applied entries; place 0 isn't used.
@@ -132,7 +129,7 @@ impl Counts {
         for (status, cells) in self.met.iter().enumerate() {
             for (kind, (done, refused)) in cells.iter().enumerate() {
                 if done + refused == 0 {
-                    missing.push(format!("{} in {}", KINDS[kind], STATUSES[status]));
+                    missing.push(format!("{} in {}", name(kind), STATUSES[status]));
                 }
             }
         }
@@ -142,7 +139,7 @@ impl Counts {
                 .keys()
                 .any(|key| (key.0, key.1) == (number, kind))
             {
-                missing.push(format!("later {number} on a {}", KINDS[kind]));
+                missing.push(format!("later {number} on a {}", name(kind)));
             }
         }
         missing
@@ -187,7 +184,7 @@ impl Counts {
     fn causes(&self, text: &mut String) {
         line(text, format_args!("later causes:"));
         for ((number, kind, status), count) in &self.later {
-            let (kind, status) = (KINDS[*kind], STATUSES[*status]);
+            let (kind, status) = (name(*kind), STATUSES[*status]);
             line(text, format_args!("  {number} {kind} in {status}: {count}"));
         }
         line(text, format_args!("statuses before and after a call:"));
@@ -207,7 +204,8 @@ impl Counts {
             text,
             format_args!("calls by kind, done/refused, in each status:"),
         );
-        for (kind, name) in KINDS.iter().enumerate() {
+        for kind in 0..ROWS {
+            let name = name(kind);
             let cells = self.met.iter().map(|row| row[kind]);
             let cells = cells.map(|(done, refused)| format!("{done}/{refused}"));
             let cells: Vec<String> = cells.map(|cell| format!("{cell:>20}")).collect();

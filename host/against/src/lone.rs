@@ -6,24 +6,15 @@ use crate::damage::{damaged, spoiled};
 use crate::pair::Pair;
 use crate::play::{clients, end, give, sizes, Fault, Found};
 use crate::plots::Plot;
-use schedules::adversary::Adversary;
+use schedules::adversary::{start, Adversary};
 use schedules::frames::frame;
 use schedules::random::Random;
-use schedules::rust::{Call, Start};
-
-const LAST_VIEW: usize = u32::MAX as usize;
+use schedules::rust::Call;
 
 /// Plays one.
 pub fn play(random: &mut Random, counts: &mut Counts) -> Result<(), Fault> {
     let setup = sizes(random);
-    let start = if random.chance(25) {
-        Start::Back {
-            view: random.pick(&[0, 1, 5, LAST_VIEW - 1, LAST_VIEW]),
-            nonce: 1,
-        }
-    } else {
-        Start::New
-    };
+    let start = start(random);
     let made = Pair::new(setup, start);
     let (mut pair, _) = made.map_err(|text| Fault {
         text: format!("{text} ({setup:?}, {start:?})"),

@@ -12,6 +12,18 @@ const LAST_VIEW: usize = u32::MAX as usize;
 const MEMBERS: usize = 4;
 const CLIENTS: [u64; 3] = [1, 2, 3];
 
+/// A replica is new, or now and then back from a crash, also in the last views.
+pub fn start(random: &mut Random) -> Start {
+    if random.chance(25) {
+        Start::Back {
+            view: random.pick(&[0, 1, 5, LAST_VIEW - 1, LAST_VIEW]),
+            nonce: 1,
+        }
+    } else {
+        Start::New
+    }
+}
+
 /// Plays so many calls on some replica of `n`.
 pub fn adversary(random: &mut Random, n: usize, calls: usize) -> Run {
     let setup = Setup {
@@ -21,14 +33,7 @@ pub fn adversary(random: &mut Random, n: usize, calls: usize) -> Run {
         room: random.pick(&[1, 2, 8, 8]),
         members: MEMBERS,
     };
-    let start = if random.chance(25) {
-        Start::Back {
-            view: random.pick(&[0, 1, 5, LAST_VIEW - 1, LAST_VIEW]),
-            nonce: 1,
-        }
-    } else {
-        Start::New
-    };
+    let start = start(random);
     let mut run = Run::new(setup, start).0;
     for _ in 0..calls {
         let call = Adversary {

@@ -4,7 +4,7 @@
 //! as what the Rust sent.
 
 use crate::fees::{Entry, ASK, FEE, MOST_CENTS, REFUND};
-use crate::frames::{frame, hex, Fees};
+use crate::frames::{frame, hex};
 use crate::inside::{client_inside, ClientInside};
 use crate::random::Random;
 use std::collections::BTreeMap;
@@ -18,6 +18,34 @@ struct Run {
     client: Client<Entry>,
     lines: String,
     kinds: BTreeMap<&'static str, usize>,
+}
+
+/// The frames that the Rust's client has to send, its request numbers counted from `first`. Client and number are those of its
+/// message; the operation given has neither.
+pub fn sent(client: &mut Client<Entry>, first: u64) -> Vec<u8> {
+    let mut bytes = Vec::new();
+    for (to, message) in client.drain() {
+        let Message::Request {
+            client_id,
+            request_number,
+            op,
+        } = message
+        else {
+            panic!("a client sends requests only");
+        };
+        let op = Entry {
+            client: client_id as u64,
+            request: first + request_number as u64,
+            ..op
+        };
+        let whole = Message::Request {
+            client_id,
+            request_number,
+            op,
+        };
+        bytes.extend(frame(to, &whole));
+    }
+    bytes
 }
 
 impl Run {
@@ -39,34 +67,6 @@ impl Run {
     /// What has no getter.
     fn inside(&self) -> ClientInside {
         client_inside(&self.client)
-    }
-
-    /// The frames to send. Client and number are those of the Rust's message; the operation given has neither.
-    fn sent(&mut self) -> Vec<u8> {
-        let messages: Vec<(usize, Fees)> = self.client.drain().collect();
-        let mut bytes = Vec::new();
-        for (to, message) in messages {
-            let Message::Request {
-                client_id,
-                request_number,
-                op,
-            } = message
-            else {
-                panic!("a client sends requests only");
-            };
-            let op = Entry {
-                client: client_id as u64,
-                request: request_number as u64,
-                ..op
-            };
-            let whole = Message::Request {
-                client_id,
-                request_number,
-                op,
-            };
-            bytes.extend(frame(to, &whole));
-        }
-        bytes
     }
 
     /// Writes down a call, its answer and the state after it.
@@ -98,7 +98,7 @@ impl Run {
             cents,
         };
         self.client.on_request(op);
-        let bytes = self.sent();
+        let bytes = sent(&mut self.client, 0);
         let call = format!("Q {operation} {member} {cents} {}", bytes.len());
         self.record(call, 0, &hex(&bytes));
     }
@@ -125,7 +125,7 @@ impl Run {
             None => "idle without one",
         });
         self.client.on_idle();
-        let bytes = self.sent();
+        let bytes = sent(&mut self.client, 0);
         self.record(format!("I {}", bytes.len()), 0, &hex(&bytes));
     }
 

@@ -4,6 +4,21 @@ use crate::fees::{Entry, Outcome};
 use std::collections::HashMap;
 use vsr_rs::{LogEntry, Message, Reply};
 
+/// The names of the kinds that come in, from 1 on.
+pub const KINDS: [&str; 11] = [
+    "Request",
+    "Prepare",
+    "PrepareOk",
+    "Commit",
+    "GetState",
+    "NewState",
+    "StartViewChange",
+    "DoViewChange",
+    "StartView",
+    "Recovery",
+    "RecoveryResponse",
+];
+
 /// A message of the Rust with fees for operations.
 pub type Fees = Message<Entry>;
 

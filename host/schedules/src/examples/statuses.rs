@@ -2,20 +2,7 @@
 //! something in Normal, wherever that can be.
 
 use super::*;
-
-const KINDS: [&str; 11] = [
-    "Request",
-    "Prepare",
-    "PrepareOk",
-    "Commit",
-    "GetState",
-    "NewState",
-    "StartViewChange",
-    "DoViewChange",
-    "StartView",
-    "Recovery",
-    "RecoveryResponse",
-];
+use crate::frames::KINDS;
 
 /// The title of a cell of the table.
 fn cell(status: &str, kind: usize, what: &str) -> String {
