@@ -1,0 +1,295 @@
+//! The cases: what is made ready, what is timed, and on what the sides have to agree afterwards.
+
+use crate::codec;
+use crate::fees::Charge;
+use crate::sides::{Side, Standing};
+use crate::stopwatch::took;
+use std::time::Duration;
+use vsr_rs::{LogEntry, Message};
+
+/// One case.
+#[derive(Clone, Copy)]
+pub enum Case {
+    /// A new request, committed and answered: so many clients. `later`: each has sent one before.
+    Request { clients: usize, later: bool },
+    /// The primary's tick with so many uncommitted entries.
+    Tick { uncommitted: usize },
+    /// A heartbeat: the primary's tick, and both backups take what it sends.
+    Heartbeat,
+    /// A StartView of so many entries of so many clients, installed by a fresh backup, all committed.
+    StartView { entries: usize, clients: usize },
+    /// Two DoViewChanges of so many entries: the new primary's view begins.
+    Quorum { entries: usize },
+    /// A recovery: both others answer, one with a log of so many entries, which is installed.
+    Recovery { entries: usize },
+}
+
+/// All cases, each with its name.
+pub const CASES: [(&str, Case); 15] = [
+    ("request, 1 client", request(1, false)),
+    ("request, 16 clients", request(16, false)),
+    ("request, 256 clients", request(256, false)),
+    ("request, 2,000 clients, a first one", request(2_000, false)),
+    ("request, 2,000 clients, a later one", request(2_000, true)),
+    ("tick, a heartbeat", Case::Tick { uncommitted: 0 }),
+    ("heartbeat, taken by both backups", Case::Heartbeat),
+    ("tick, 100 uncommitted", Case::Tick { uncommitted: 100 }),
+    ("StartView, 64 entries", start_view(64, 16)),
+    ("StartView, 4,096 entries", start_view(4_096, 16)),
+    (
+        "StartView, 4,096 of 4,096 clients",
+        start_view(4_096, 4_096),
+    ),
+    (
+        "DoViewChange quorum, 64 entries",
+        Case::Quorum { entries: 64 },
+    ),
+    (
+        "DoViewChange quorum, 4,096 entries",
+        Case::Quorum { entries: 4_096 },
+    ),
+    ("recovery, 64 entries", Case::Recovery { entries: 64 }),
+    ("recovery, 4,096 entries", Case::Recovery { entries: 4_096 }),
+];
+
+const fn request(clients: usize, later: bool) -> Case {
+    Case::Request { clients, later }
+}
+
+const fn start_view(entries: usize, clients: usize) -> Case {
+    Case::StartView { entries, clients }
+}
+
+/// One round of a case: what each of its pieces took, how many calls of the case a piece has, and how the replicas stand after
+/// it. Pieces are short, so that of the rounds of a busy machine most have a given piece undisturbed.
+pub struct Round {
+    pub pieces: Vec<Duration>,
+    pub calls: u32,
+    pub standings: Vec<Standing>,
+}
+
+/// Three replicas of a side and what is under way.
+pub struct Cluster<S: Side> {
+    replicas: Vec<S::Replica>,
+    wire: S::Wire,
+    next: S::Wire,
+}
+
+impl<S: Side> Cluster<S> {
+    pub fn new() -> Cluster<S> {
+        Cluster {
+            replicas: (0..3).map(S::new).collect(),
+            wire: S::Wire::default(),
+            next: S::Wire::default(),
+        }
+    }
+
+    /// One round of a case.
+    pub fn round(&mut self, case: Case) -> Round {
+        let (calls, pieces) = match case {
+            Case::Request { clients, later } => (20, self.requests(clients, later)),
+            Case::Tick { uncommitted } => self.ticks(uncommitted),
+            Case::Heartbeat => (100, self.heartbeats()),
+            Case::StartView { entries, clients } => (1, self.start_views(entries, clients)),
+            Case::Quorum { entries } => (1, self.quorums(entries)),
+            Case::Recovery { entries } => (1, self.recoveries(entries)),
+        };
+        let standings = self.replicas.iter().map(S::standing).collect();
+        Round {
+            pieces,
+            calls,
+            standings,
+        }
+    }
+
+    fn renew(&mut self) {
+        for (id, replica) in self.replicas.iter_mut().enumerate() {
+            S::renew(replica, id as u8);
+        }
+    }
+
+    /// Delivers what is on the wire, and what comes of it, until nothing is under way.
+    fn settle(&mut self) {
+        while S::count(&self.wire).0 > 0 {
+            self.pass();
+        }
+    }
+
+    /// Delivers what is on the wire, once.
+    fn pass(&mut self) {
+        S::pass(&mut self.replicas, &mut self.wire, &mut self.next);
+        std::mem::swap(&mut self.wire, &mut self.next);
+    }
+
+    /// Fills the replicas with these entries by requests that are committed.
+    fn commit(&mut self, log: &[LogEntry<Charge>]) {
+        for entry in log {
+            S::load(&mut self.wire, &request_frame(entry));
+            self.settle();
+        }
+    }
+
+    /// 2,000 requests, each through all three replicas, in pieces of 20.
+    fn requests(&mut self, clients: usize, later: bool) -> Vec<Duration> {
+        self.renew();
+        let before = match later {
+            true => clients,
+            false => 0,
+        };
+        let log = log(before + 2_000, clients);
+        self.commit(&log[..before]);
+        let load = |entry| {
+            let mut wire = S::Wire::default();
+            S::load(&mut wire, &request_frame(entry));
+            wire
+        };
+        let mut wires: Vec<S::Wire> = log[before..].iter().map(load).collect();
+        let pieces = wires.chunks_mut(20).map(|piece| {
+            took(false, || {
+                for request in piece {
+                    S::pass(&mut self.replicas, request, &mut self.wire);
+                    self.pass();
+                    self.pass();
+                }
+            })
+        });
+        let pieces = pieces.collect();
+        assert_eq!(S::count(&self.wire), (0, 1));
+        pieces
+    }
+
+    /// Ticks of a primary with 16 committed entries and some uncommitted ones.
+    fn ticks(&mut self, uncommitted: usize) -> (u32, Vec<Duration>) {
+        self.renew();
+        let log = log(16 + uncommitted, 16);
+        self.commit(&log[..16]);
+        for entry in &log[16..] {
+            S::load(&mut self.wire, &request_frame(entry));
+            self.pass();
+        }
+        let calls = match uncommitted {
+            0 => 200,
+            _ => 10,
+        };
+        let pieces = timed(20, || {
+            for _ in 0..calls {
+                S::tick(&mut self.replicas[0], &mut self.next);
+            }
+        });
+        assert_eq!(S::count(&self.next), (2 + 2 * uncommitted, 0));
+        (calls, pieces)
+    }
+
+    /// Ticks of the primary, delivered to both backups.
+    fn heartbeats(&mut self) -> Vec<Duration> {
+        self.renew();
+        self.commit(&log(16, 16));
+        let pieces = timed(20, || {
+            for _ in 0..100 {
+                S::tick(&mut self.replicas[0], &mut self.wire);
+                self.pass();
+            }
+        });
+        assert_eq!(S::count(&self.wire), (0, 0));
+        pieces
+    }
+
+    /// Starts each time with fresh replicas and these frames on the wire; only the delivery is timed.
+    fn deliveries(&mut self, frames: &[u8], times: usize) -> Vec<Duration> {
+        let deliver = |_| {
+            self.renew();
+            S::load(&mut self.wire, frames);
+            let pass = || S::pass(&mut self.replicas, &mut self.wire, &mut self.next);
+            took(times == 1, pass)
+        };
+        (0..times).map(deliver).collect()
+    }
+
+    fn start_views(&mut self, entries: usize, clients: usize) -> Vec<Duration> {
+        let message = Message::StartView {
+            view_number: 1,
+            log: log(entries, clients),
+            op_number: entries,
+            commit_number: entries,
+        };
+        let pieces = self.deliveries(&frame(2, &message), times(entries));
+        assert_eq!(S::count(&self.next), (1, 0));
+        pieces
+    }
+
+    fn quorums(&mut self, entries: usize) -> Vec<Duration> {
+        let mut frames = Vec::new();
+        for replica_id in [0, 2] {
+            let message = Message::DoViewChange {
+                view_number: 1,
+                replica_id,
+                last_normal_view: 0,
+                log: log(entries, 16),
+                op_number: entries,
+                commit_number: entries,
+            };
+            codec::write(&mut frames, 1, &message);
+        }
+        let pieces = self.deliveries(&frames, times(entries));
+        // A StartViewChange and a StartView to each of the others, and a Reply for each entry.
+        assert_eq!(S::count(&self.next), (4, entries));
+        pieces
+    }
+
+    fn recoveries(&mut self, entries: usize) -> Vec<Duration> {
+        let times = times(entries);
+        self.renew();
+        self.commit(&log(entries, 16));
+        let recover = |nonce| {
+            S::recover(&mut self.replicas[1], 1, nonce, &mut self.wire);
+            took(times == 1, || {
+                S::pass(&mut self.replicas, &mut self.wire, &mut self.next);
+                S::pass(&mut self.replicas, &mut self.next, &mut self.wire);
+            })
+        };
+        (1..=times as u64).map(recover).collect()
+    }
+}
+
+/// How often a round repeats a case with a log.
+fn times(entries: usize) -> usize {
+    match entries {
+        0..=64 => 20,
+        _ => 1,
+    }
+}
+
+/// What each of so many pieces takes.
+fn timed(pieces: usize, mut piece: impl FnMut()) -> Vec<Duration> {
+    (0..pieces).map(|_| took(false, &mut piece)).collect()
+}
+
+/// So many entries of so many clients, in turn. Ids are spread, as names of desks are.
+fn log(entries: usize, clients: usize) -> Vec<LogEntry<Charge>> {
+    (0..entries)
+        .map(|place| LogEntry {
+            client_id: (place % clients + 1).wrapping_mul(0x9e37_79b9_7f4a_7c15),
+            request_number: place / clients,
+            op: Charge {
+                operation: 1,
+                member: (place * 7 % 4_096) as u32,
+                cents: 4_500,
+            },
+        })
+        .collect()
+}
+
+fn frame(to: usize, message: &Message<Charge>) -> Vec<u8> {
+    let mut frame = Vec::new();
+    codec::write(&mut frame, to, message);
+    frame
+}
+
+fn request_frame(entry: &LogEntry<Charge>) -> Vec<u8> {
+    let message = Message::Request {
+        client_id: entry.client_id,
+        request_number: entry.request_number,
+        op: entry.op,
+    };
+    frame(0, &message)
+}

@@ -1,0 +1,177 @@
+//! A renewal day, for people: three replicas, some desks, a bad network, crashes, and every charge taken exactly once.
+
+mod clubs;
+mod day;
+mod ledgers;
+mod library;
+mod machines;
+mod network;
+mod options;
+mod ours;
+mod random;
+mod teller;
+#[cfg(feature = "vsr-rs")]
+mod theirs;
+
+use clubs::{money, List, CLUBS};
+use day::{Counts, Evening};
+use ledgers::Ledgers;
+use library::Library;
+use network::REPEATED;
+use options::{Asked, Options};
+use random::Random;
+use std::process::ExitCode;
+use teller::Teller;
+use whitherhaul::Operation;
+
+/// The most lines that are printed of what isn't as it has to be.
+const MOST_WRONG: usize = 12;
+
+fn main() -> ExitCode {
+    match options::read(std::env::args().skip(1)) {
+        Ok(Asked::Help) => {
+            println!("{}", options::HELP);
+            ExitCode::SUCCESS
+        }
+        Ok(Asked::Day(options)) => day(&options),
+        Err(why) => {
+            eprintln!("demo: {why}");
+            ExitCode::from(2)
+        }
+    }
+}
+
+/// One day through both libraries.
+fn day(options: &Options) -> ExitCode {
+    let list = List::new(options.requests, &mut Random::new(options.seed));
+    opening(options, &list);
+    let (ours, counts) = played::<ours::Whitherhaul>(options, &list, true);
+    println!();
+    let theirs = beside(options, &list);
+    table(&list, &ours, theirs.as_ref().map(|(ledgers, _)| ledgers));
+    println!();
+    counted(&counts);
+    let mut good = verdict(options, "Whitherhaul", &ours);
+    match &theirs {
+        Some((theirs, their_counts)) => {
+            good &= verdict(options, "vsr-rs", theirs);
+            good &= compared(&ours, theirs, counts == *their_counts);
+        }
+        None => {
+            println!("vsr-rs: not played beside it, since this demo was built without ../shared")
+        }
+    }
+    match good {
+        true => ExitCode::SUCCESS,
+        false => ExitCode::FAILURE,
+    }
+}
+
+/// Plays the day through a library and looks at its ledgers.
+fn played<L: Library>(options: &Options, list: &List, speaks: bool) -> (Ledgers, Counts) {
+    let evening: Evening<L> = day::play(options, list, Teller::new(speaks));
+    (ledgers::look(list, &evening), evening.counts)
+}
+
+#[cfg(feature = "vsr-rs")]
+fn beside(options: &Options, list: &List) -> Option<(Ledgers, Counts)> {
+    Some(played::<theirs::VsrRs>(options, list, false))
+}
+
+#[cfg(not(feature = "vsr-rs"))]
+fn beside(_: &Options, _: &List) -> Option<(Ledgers, Counts)> {
+    None
+}
+
+fn opening(options: &Options, list: &List) {
+    let refunds = list.charges.iter();
+    let refunds = refunds.filter(|c| c.operation == Operation::Refund).count();
+    println!(
+        "A renewal day: {} charges ({refunds} of them refunds) of {} members in {} clubs, {} desks, 3 replicas.",
+        options.requests,
+        list.members,
+        CLUBS.len(),
+        options.desks
+    );
+    println!(
+        "The network loses {} %, repeats {REPEATED} % and reorders; machines crash and come back. Seed {}.\n",
+        options.loss, options.seed
+    );
+}
+
+/// Each club's takings: by the list, by our ledgers and by those of vsr-rs.
+fn table(list: &List, ours: &Ledgers, theirs: Option<&Ledgers>) {
+    let row = |name: &str, list: &str, ours: &str, theirs: Option<String>| {
+        let theirs = theirs.map_or(String::new(), |theirs| format!("{theirs:>14}"));
+        println!("{name:<28}{list:>14}{ours:>14}{theirs}");
+    };
+    let of_list = ledgers::takings(&list.totals);
+    row(
+        "Takings",
+        "the list",
+        "Whitherhaul",
+        theirs.map(|_| String::from("vsr-rs")),
+    );
+    for (place, club) in CLUBS.iter().enumerate() {
+        row(
+            club.name,
+            &money(of_list[place]),
+            &money(ours.takings[place]),
+            theirs.map(|theirs| money(theirs.takings[place])),
+        );
+    }
+    let sum = |takings: &[u64]| money(takings.iter().sum());
+    row(
+        "together",
+        &sum(&of_list),
+        &sum(&ours.takings),
+        theirs.map(|theirs| sum(&theirs.takings)),
+    );
+}
+
+fn counted(counts: &Counts) {
+    println!(
+        "{} steps: {} sent, of these {} lost and {} repeated; {} charges sent again by desks, {} new views, {} crashes, {} recoveries, {} calls refused.",
+        counts.steps,
+        counts.traffic.sent,
+        counts.traffic.lost,
+        counts.traffic.repeated,
+        counts.resent,
+        counts.views,
+        counts.crashes,
+        counts.recoveries,
+        counts.refused
+    );
+}
+
+/// Says whether a library's three ledgers are as they have to be.
+fn verdict(options: &Options, name: &str, ledgers: &Ledgers) -> bool {
+    if ledgers.wrong.is_empty() {
+        println!(
+            "{name}: {} charges, each applied exactly once on all three ledgers, in one order; totals as the list adds up.",
+            options.requests
+        );
+        return true;
+    }
+    println!("{name}: NOT as it has to be:");
+    for line in ledgers.wrong.iter().take(MOST_WRONG) {
+        println!("  {line}");
+    }
+    if ledgers.wrong.len() > MOST_WRONG {
+        println!("  and {} more", ledgers.wrong.len() - MOST_WRONG);
+    }
+    false
+}
+
+/// Says whether the two libraries have the same ledger.
+fn compared(ours: &Ledgers, theirs: &Ledgers, same_day: bool) -> bool {
+    let agree = ours.totals == theirs.totals && ours.applied == theirs.applied;
+    match (agree, same_day) {
+        (true, true) => {
+            println!("Both ledgers agree, entry by entry, and both days had the same steps.")
+        }
+        (true, false) => println!("Both ledgers agree, entry by entry."),
+        (false, _) => println!("The ledgers of Whitherhaul and vsr-rs DIFFER."),
+    }
+    agree
+}

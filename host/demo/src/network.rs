@@ -1,0 +1,64 @@
+//! A bad network: what is sent arrives one to six steps later, or twice, or never, and so it also overtakes.
+
+use crate::random::Random;
+use std::collections::BTreeMap;
+
+/// The most steps that something is under way.
+const SLOWEST: u64 = 6;
+/// How much of what arrives arrives once more, in percent.
+pub const REPEATED: u64 = 5;
+
+/// How much was sent, and what became of it.
+#[derive(Clone, Default, PartialEq, Eq)]
+pub struct Traffic {
+    pub sent: u64,
+    pub lost: u64,
+    pub repeated: u64,
+}
+
+/// What is under way, by the step at which it arrives.
+pub struct Network<P> {
+    pub random: Random,
+    pub traffic: Traffic,
+    loss: u64,
+    under_way: BTreeMap<(u64, u64), P>,
+}
+
+impl<P: Clone> Network<P> {
+    /// A network that loses `loss` percent.
+    pub fn new(random: Random, loss: u64) -> Network<P> {
+        Network {
+            random,
+            traffic: Traffic::default(),
+            loss,
+            under_way: BTreeMap::new(),
+        }
+    }
+
+    /// Sends something at step `now`.
+    pub fn send(&mut self, now: u64, parcel: P) {
+        self.traffic.sent += 1;
+        if self.random.chance(self.loss) {
+            self.traffic.lost += 1;
+            return;
+        }
+        if self.random.chance(REPEATED) {
+            self.traffic.repeated += 1;
+            self.put(now, 0, parcel.clone());
+        }
+        self.put(now, 1, parcel);
+    }
+
+    /// `copy` parts the two of a parcel that arrives twice.
+    fn put(&mut self, now: u64, copy: u64, parcel: P) {
+        let due = now + 1 + self.random.below(SLOWEST);
+        let place = 2 * self.traffic.sent + copy;
+        self.under_way.insert((due, place), parcel);
+    }
+
+    /// Something that has arrived by step `now`.
+    pub fn arrived(&mut self, now: u64) -> Option<P> {
+        let first = self.under_way.first_entry()?;
+        (first.key().0 <= now).then(|| first.remove())
+    }
+}

@@ -1,0 +1,76 @@
+//! Says what happens, a line each, and no more of them than people read.
+
+use crate::clubs::{club_of, money, name_of, Charge, CLUBS};
+use crate::day::Counts;
+use whitherhaul::Operation;
+
+/// How many lines of views, crashes and recoveries are shown, and how many of charges that are sent again.
+const LINES: u64 = 60;
+const RESENT: u64 = 6;
+
+/// A teller, or one that says nothing.
+pub struct Teller {
+    lines: u64,
+    resent: u64,
+    speaks: bool,
+}
+
+impl Teller {
+    pub fn new(speaks: bool) -> Teller {
+        Teller {
+            lines: LINES,
+            resent: RESENT,
+            speaks,
+        }
+    }
+
+    /// Something that happened.
+    pub fn say(&mut self, counts: &Counts, line: &str) {
+        match self.lines {
+            0 => return,
+            1 => self.line(counts, "what else happens is counted, and no longer shown"),
+            _ => self.line(counts, line),
+        }
+        self.lines -= 1;
+    }
+
+    /// A desk hears nothing and sends its charge again.
+    pub fn resent(&mut self, counts: &Counts, desk: usize, number: u64, charge: &Charge) {
+        if self.resent == 0 {
+            return;
+        }
+        self.resent -= 1;
+        let what = match charge.operation {
+            Operation::Fee => "fee",
+            Operation::Refund => "refund",
+            Operation::Ask => "question",
+        };
+        let line = format!(
+            "desk {} hears nothing and sends its charge {number} again: a {what} of {} for {} ({}){}",
+            desk + 1,
+            money(charge.cents),
+            name_of(charge.member),
+            CLUBS[club_of(charge.member)].name,
+            match self.resent {
+                0 => "; later ones are counted only",
+                _ => "",
+            }
+        );
+        self.line(counts, &line);
+    }
+
+    /// How far the day is.
+    pub fn progress(&self, counts: &Counts, committed: u64, requests: u64) {
+        let line = format!(
+            "{committed} of {requests} charges committed; {} sent again so far",
+            counts.resent
+        );
+        self.line(counts, &line);
+    }
+
+    fn line(&self, counts: &Counts, line: &str) {
+        if self.speaks {
+            println!("step {:>6}  {line}", counts.steps);
+        }
+    }
+}

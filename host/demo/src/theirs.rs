@@ -1,0 +1,161 @@
+//! vsr-rs, unchanged, with document 01's fee rules: messages are structs.
+
+use crate::clubs::Charge;
+use crate::library::{Answer, Library, Standing};
+use schedules::fees::{self, Ledger};
+use vsr_rs::{Client, Config, Message, Replica};
+use whitherhaul::{Entry, Operation, Outcome, Reply, Setup, Status};
+
+pub struct VsrRs;
+
+/// A desk: the client, and the number that its next charge gets, which is part of the entry.
+pub struct Desk {
+    client: Client<fees::Entry>,
+    next: u64,
+}
+
+type Letters = Vec<(u8, Message<fees::Entry>)>;
+
+fn config(replicas: u8, timeout: u16) -> Config {
+    let mut config = Config::new();
+    for _ in 0..replicas {
+        config.add_replica();
+    }
+    config.set_primary_timeout(usize::from(timeout));
+    config
+}
+
+fn letters(drained: impl Iterator<Item = (usize, Message<fees::Entry>)>) -> Letters {
+    drained.map(|(to, message)| (to as u8, message)).collect()
+}
+
+fn reply(reply: vsr_rs::Reply<fees::Outcome>) -> Reply {
+    Reply {
+        view: reply.view_number as u32,
+        client: reply.client_id as u64,
+        request: reply.request_number as u64,
+        outcome: match reply.result.code {
+            1 => Outcome::Fee,
+            2 => Outcome::Refund,
+            3 => Outcome::Ask,
+            4 => Outcome::NoMember,
+            5 => Outcome::PastLimit,
+            _ => Outcome::PastTotal,
+        },
+        total: reply.result.total,
+    }
+}
+
+fn answer(replica: &mut Replica<Ledger>) -> Answer<Message<fees::Entry>> {
+    Answer {
+        messages: letters(replica.drain_messages()),
+        replies: replica.drain_replies().map(reply).collect(),
+        refused: None,
+    }
+}
+
+impl Library for VsrRs {
+    type Message = Message<fees::Entry>;
+    type Replica = Replica<Ledger>;
+    type Desk = Desk;
+
+    fn replica(setup: &Setup) -> Replica<Ledger> {
+        let config = config(setup.replicas, setup.timeout);
+        let ledger = Ledger::new(setup.members as usize);
+        Replica::new(usize::from(setup.id), config, ledger)
+    }
+
+    fn recovered(setup: &Setup, view: u32, nonce: u64) -> (Replica<Ledger>, Letters) {
+        let config = config(setup.replicas, setup.timeout);
+        let ledger = Ledger::new(setup.members as usize);
+        let mut replica =
+            Replica::recover(usize::from(setup.id), config, ledger, view as usize, nonce);
+        let asked = letters(replica.drain_messages());
+        (replica, asked)
+    }
+
+    fn on_message(
+        replica: &mut Replica<Ledger>,
+        message: &Message<fees::Entry>,
+    ) -> Answer<Message<fees::Entry>> {
+        replica.on_message(message.clone());
+        answer(replica)
+    }
+
+    fn on_idle(replica: &mut Replica<Ledger>) -> Answer<Message<fees::Entry>> {
+        replica.on_idle();
+        answer(replica)
+    }
+
+    fn standing(replica: &Replica<Ledger>) -> Standing {
+        Standing {
+            status: match replica.status() {
+                vsr_rs::Status::Normal => Status::Normal,
+                vsr_rs::Status::StateTransfer => Status::StateTransfer,
+                vsr_rs::Status::ViewChange => Status::ViewChange,
+                vsr_rs::Status::Recovering => Status::Recovering,
+            },
+            view: replica.view_number() as u32,
+            leads: replica.is_primary(),
+            op_number: replica.op_number() as u64,
+            commit_number: replica.commit_number() as u64,
+        }
+    }
+
+    fn applied(replica: &Replica<Ledger>) -> Vec<Entry> {
+        let applied = &replica.state_machine().applied;
+        applied.iter().map(entry).collect()
+    }
+
+    fn total(replica: &Replica<Ledger>, member: u32) -> u64 {
+        replica.state_machine().totals[member as usize]
+    }
+
+    fn desk(replicas: u8, id: u64) -> Desk {
+        Desk {
+            client: Client::new(id as usize, config(replicas, 1)),
+            next: 0,
+        }
+    }
+
+    fn request(desk: &mut Desk, charge: &Charge) -> (u64, (u8, Message<fees::Entry>)) {
+        let number = desk.client.on_request(fees::Entry {
+            client: desk.client.client_id() as u64,
+            request: desk.next,
+            operation: match charge.operation {
+                Operation::Fee => fees::FEE,
+                Operation::Refund => fees::REFUND,
+                Operation::Ask => fees::ASK,
+            },
+            member: charge.member,
+            cents: charge.cents,
+        }) as u64;
+        desk.next = number + 1;
+        let mut sent = letters(desk.client.drain());
+        (number, sent.remove(0))
+    }
+
+    fn on_reply(desk: &mut Desk, reply: &Reply) -> bool {
+        desk.client
+            .on_reply(reply.request as usize, reply.view as usize)
+    }
+
+    fn again(desk: &mut Desk) -> Letters {
+        desk.client.on_idle();
+        letters(desk.client.drain())
+    }
+}
+
+fn entry(op: &fees::Entry) -> Entry {
+    Entry {
+        client: op.client,
+        request: op.request,
+        operation: match op.operation {
+            fees::FEE => Operation::Fee,
+            fees::REFUND => Operation::Refund,
+            _ => Operation::Ask,
+        },
+        member: op.member,
+        cents: op.cents,
+    }
+}
