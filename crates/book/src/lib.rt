@@ -55,7 +55,7 @@ fn none_breaks(log: &[u8], n: usize, part: &[u8], k: usize) -> bool
         let e = entry(log, i);
         let mut j = 0;
         while j < k {
-            if entries::breaks(e, entries::entry_at(part, 32 * j)) {
+            if entries::breaks(e, part, 32 * j) {
                 ok = false;
                 break 'pairs;
             }

@@ -109,14 +109,15 @@ pub fn entries_ok(s: &[u8], at: usize, k: usize) -> bool
     true
 }
 
-// Whether f, which stands after e, is of the same client and its request number does not rise.
-pub fn breaks(e: Entry, f: Entry) -> bool
-    ensures { λ r. ⌜ r ≡ breaksAt e f ⌝ }
+// Whether the entry at `at`, which stands after e, is of the same client and its request number does not rise. Of another client's entry nothing else is read.
+pub fn breaks(e: Entry, s: &[u8], at: usize) -> bool
+    requires { ⌜ at + 32 ≤ length (now s) ⌝ }
+    ensures { λ r. ⌜ r ≡ breaksAt e (entryOf (drop at (now (s .entry)))) ⌝ }
 {
-    if e.client != f.client {
+    if numbers::read_u64(s, at) != e.client {
         return false;
     }
-    f.request <= e.request
+    numbers::read_u64(s, at + 8) <= e.request
 }
 
 // Whether the first k entries of the run are rising. The look over pairs stops at the first pair that breaks this.
@@ -130,7 +131,7 @@ pub fn is_rising(s: &[u8], k: usize) -> bool
         let e = entry_at(s, 32 * i);
         let mut j = i + 1;
         while j < k {
-            if breaks(e, entry_at(s, 32 * j)) {
+            if breaks(e, s, 32 * j) {
                 ok = false;
                 break 'pairs;
             }

@@ -59,7 +59,7 @@ pub fn read_u64(s: &[u8], at: usize) -> u64
     requires { ⌜ at + 8 ≤ length (now s) ⌝ }
     ensures { λ r. ⌜ r ≡ num 8 at (now (s .entry)) ⌝ }
 {
-    read_be(s, at, 8)
+    read_be(s, at, 4) * 4294967296 + read_be(s, at + 4, 4)
 }
 
 pub fn read_view(s: &[u8], at: usize) -> View

@@ -4,7 +4,6 @@ use mathlib.Core.Bool.{true, false}
 use Prim.Native.Nat.{_+_, _-_, _*_, _≤_}
 use native.Mathlib.Omega.{arith}
 use native.Mathlib.Nat.{sub-zero}
-use borrow.Author.Needs.{needs}
 use lib.ListN.{drop}
 use Rattle.numbers.specs.Words.{_and_}
 use Rattle.entries.specs.Entries.{entryOf, entries}
@@ -49,12 +48,12 @@ loop-holds c =
 
 loop-again : tie.Need-loop-again Inv-loop μ-loop Inv-pairs μ-pairs
 loop-again c =
-    let l = c .before .before .before .before .loop in
-    let e = c .before .before .before .before .before .entry .result in
-    let a = c .before .before .before .before .before .before .before .before .before .before .args in
+    let l = c .before .before .before .loop in
+    let e = c .before .before .before .before .entry .result in
+    let a = c .before .before .before .before .before .before .before .before .before .args in
     let f : breaksAt e (entryOf (drop (32 * l .j) (a .part .now))) ≡ false =
-    rw (← c .before .before .entry-at .ensures) (sym (c .before .breaks .ensures) ∙ c .if1 .left) in
-    (omega arith, l .inv .1, rw (← follows-next e (a .k) (a .part .now) (l .j) (c .before .before .before .loop-test .taken) f) (l .inv .2))
+    sym (c .before .breaks .ensures) ∙ c .if1 .left in
+    (omega arith, l .inv .1, rw (← follows-next e (a .k) (a .part .now) (l .j) (c .before .before .loop-test .taken) f) (l .inv .2))
 
 pairs-again : tie.Need-pairs-again Inv-loop μ-loop Inv-pairs μ-pairs
 unfolding follows _and_
@@ -75,12 +74,12 @@ returns c =
 returns-2 : tie.Need-returns-2 Inv-loop μ-loop Inv-pairs μ-pairs
 unfolding _and_
 returns-2 c =
-    let l = c .before .before .before .before .loop in
-    let e = c .before .before .before .before .before .entry .result in
-    let a = c .before .before .before .before .before .before .before .before .before .before .args in
+    let l = c .before .before .before .loop in
+    let e = c .before .before .before .before .entry .result in
+    let a = c .before .before .before .before .before .before .before .before .before .args in
     let f : breaksAt e (entryOf (drop (32 * l .j) (a .part .now))) ≡ true =
-    rw (← c .before .before .entry-at .ensures) (sym (c .before .breaks .ensures) ∙ c .if1 .taken) in
-    sym (rw (follows-stop e (a .k) (a .part .now) (l .j) (c .before .before .before .loop-test .taken) f) at (l .inv .2))
+    sym (c .before .breaks .ensures) ∙ c .if1 .taken in
+    sym (rw (follows-stop e (a .k) (a .part .now) (l .j) (c .before .before .loop-test .taken) f) at (l .inv .2))
 
 pub none-breaks-spec : {M : Type 1} → statement M
 none-breaks-spec =
@@ -95,7 +94,6 @@ none-breaks-spec =
     loop-holds
     (λ c. omega arith)
     (λ c κs. omega arith)
-    (λ c κs. search needs)
     (λ c. omega arith)
     (λ c. omega arith)
     loop-again

@@ -9,7 +9,6 @@ use Rattle.numbers.specs.Words.{_and_}
 use Rattle.entries.specs.Entries.{entryOf, entries}
 use Rattle.entries.specs.Rising.{rising, follows, breaksAt}
 use Rattle.entries.proofs.RisingLaws.{fromAt, rising-next, follows-next, follows-stop, from-end}
-use borrow.Author.Needs.{needs}
 use Rattle.entries.proofs.is_rising.Statement.{statement}
 use Rattle.entries.proofs.is_rising.Tie as tie
 
@@ -37,12 +36,12 @@ loop-holds c =
 
 loop-again : tie.Need-loop-again Inv-loop μ-loop Inv-pairs μ-pairs
 loop-again c =
-    let l = c .before .before .before .before .loop in
-    let e = c .before .before .before .before .before .entry-at .result in
-    let a = c .before .before .before .before .before .before .before .before .before .args in
+    let l = c .before .before .before .loop in
+    let e = c .before .before .before .before .entry-at .result in
+    let a = c .before .before .before .before .before .before .before .before .args in
     let f : breaksAt e (entryOf (drop (32 * l .j) (a .s .now))) ≡ false =
-    rw (← c .before .before .entry-at2 .ensures) (sym (c .before .breaks .ensures) ∙ c .if1 .left) in
-    (omega arith, l .inv .1, l .inv .2 ∙ rw (follows-next e (a .k) (a .s .now) (l .j) (c .before .before .before .loop-test .taken) f))
+    sym (c .before .breaks .ensures) ∙ c .if1 .left in
+    (omega arith, l .inv .1, l .inv .2 ∙ rw (follows-next e (a .k) (a .s .now) (l .j) (c .before .before .loop-test .taken) f))
 
 pairs-again : tie.Need-pairs-again Inv-loop μ-loop Inv-pairs μ-pairs
 unfolding follows _and_
@@ -63,12 +62,12 @@ returns c =
 returns-2 : tie.Need-returns-2 Inv-loop μ-loop Inv-pairs μ-pairs
 unfolding _and_
 returns-2 c =
-    let l = c .before .before .before .before .loop in
-    let e = c .before .before .before .before .before .entry-at .result in
-    let a = c .before .before .before .before .before .before .before .before .before .args in
+    let l = c .before .before .before .loop in
+    let e = c .before .before .before .before .entry-at .result in
+    let a = c .before .before .before .before .before .before .before .before .args in
     let f : breaksAt e (entryOf (drop (32 * l .j) (a .s .now))) ≡ true =
-    rw (← c .before .before .entry-at2 .ensures) (sym (c .before .breaks .ensures) ∙ c .if1 .taken) in
-    sym (l .inv .2 ∙ rw (follows-stop e (a .k) (a .s .now) (l .j) (c .before .before .before .loop-test .taken) f))
+    sym (c .before .breaks .ensures) ∙ c .if1 .taken in
+    sym (l .inv .2 ∙ rw (follows-stop e (a .k) (a .s .now) (l .j) (c .before .before .loop-test .taken) f))
 
 pub is-rising-spec : {M : Type 1} → statement M
 is-rising-spec =
@@ -85,7 +84,6 @@ is-rising-spec =
     loop-holds
     (λ c. omega arith)
     (λ c κs. omega arith)
-    (λ c κs. search needs)
     (λ c. omega arith)
     (λ c. omega arith)
     loop-again
