@@ -22,7 +22,7 @@ use state::Answer;
 use state::Replica;
 
 // A client of whom nothing is known.
-fn nobody() -> Latest
+pub fn nobody() -> Latest
     ensures { λ r. ⌜ r ≡ nobody ⌝ }
 {
     Latest {

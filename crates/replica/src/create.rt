@@ -18,7 +18,7 @@ use state::Answer;
 use state::Replica;
 
 // The all-zero state, which refusal 1 then catches.
-fn no_replica() -> Replica
+pub fn no_replica() -> Replica
     ensures { λ r. ⌜ r ≡ noReplica ⌝ }
 {
     let setup = Setup {

@@ -2,7 +2,7 @@
 // The state goes in and comes out by value; all else lies in lent runs, whose lengths follow from the setup.
 pub mod create; // new, recover
 pub mod call; // on_message, on_idle
-mod sound; // refusal 1
+pub mod sound; // refusal 1
 
 // The lengths of the lent state buffers.
 pub struct Lengths {

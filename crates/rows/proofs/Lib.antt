@@ -1,3 +1,4 @@
+pub mod AlikeLaws
 pub mod SearchLaws
 pub mod SeekLaws
 pub mod StoreLaws

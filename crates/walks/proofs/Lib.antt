@@ -1,4 +1,5 @@
 pub mod Calling
 pub mod Handing
+pub mod Mixed
 pub mod Open
 pub mod Walk

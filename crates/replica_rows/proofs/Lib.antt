@@ -1,0 +1,10 @@
+pub mod CoreLaws
+pub mod LatestLaws
+pub mod CodedLaws
+pub mod ByteLaws
+pub mod StepLaws
+pub mod SameLaws
+pub mod PromiseLaws
+pub mod CarryLaws
+pub mod Carried
+pub mod Tabling

@@ -1,0 +1,19 @@
+-- `replica_rows::core::client_in` meets its contract. Assumes nothing.
+use Rattle.replica_rows.specs.Core.{clientIn}
+use borrow.Author.Needs.{needs}
+use Rattle.replica_rows.proofs.core.client_in.Statement.{statement}
+use Rattle.replica_rows.proofs.core.client_in.Tie as tie
+
+enum-told : tie.Need-enum-told
+enum-told c = search needs
+
+returns : tie.Need-returns
+unfolding clientIn
+returns c = rw (c .enum-told .given .1)
+
+returns-2 : tie.Need-returns-2
+unfolding clientIn
+returns-2 c = rw (c .before .before .c .given .1) (c .client-of .ensures)
+
+pub client-in-spec : {M : Type 1} → statement M
+client-in-spec = tie.close (tie.spec enum-told (λ c. search needs) (λ c κs. search needs) returns returns-2)

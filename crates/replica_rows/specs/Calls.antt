@@ -1,0 +1,81 @@
+-- The outside calls with the client table as a slice of row structs. Assumes nothing.
+use mathlib.Core.List.{List}
+use lib.Dec.{eqb}
+use Prim.Native.Nat.{ℕ}
+use lib.ListN.{length, replicate}
+use Rattle.numbers.specs.Words.{if_then_else_}
+use Rattle.numbers.specs.declared.View.{View}
+use Rattle.entries.specs.Entries.{entries}
+use Rattle.config.specs.declared.Setup.{Setup}
+use Rattle.fees.specs.Results.{outcomes}
+use Rattle.frames.specs.Refusals.{checkFrame}
+use Rattle.rows.specs.Rows.{followed}
+use Rattle.rows.specs.declared.Change.{Change}
+use Rattle.table_rows.specs.Shape.{noRow, structRow, latestIn, oldAfter}
+use Rattle.table_rows.specs.declared.Row.{Row}
+use Rattle.state.specs.declared.Answer.{Answer}
+use Rattle.state.specs.declared.Replica.{Replica}
+use Rattle.book.specs.Memory.{Memory, memory}
+use Rattle.do_view_change.specs.Record.{Recorded}
+use Rattle.replica_rows.specs.Core.{clientIn, messageCore, idleCore, createCore, recoverCore, changeAfter}
+
+-- everything that a call is lent
+pub record LentRows : Type 0 where
+  pub core : Memory
+  pub table : List Row
+  pub old : List Row
+
+abbrev pub lentRows : (log results totals acks stored : List ℕ) (table old : List Row) (out reps : List ℕ) → LentRows
+lentRows log results totals acks stored table old out reps =
+    record { core = memory log results totals acks stored out reps; table = table; old = old }
+
+-- what a call leaves
+pub record CalledRows : Type 0 where
+  pub answer : Answer
+  pub lent : LentRows
+
+abbrev pub calledRows : Answer → LentRows → CalledRows
+calledRows a x = record { answer = a; lent = x }
+
+-- the rows after a change, by the log and the results that the call left
+unfoldable pub rowsAfter : Change → List Row → Memory → List Row
+rowsAfter k rows m =
+    followed structRow k rows (entries (k .to .0) (m .runs .log)) (outcomes (k .done .0) (m .runs .money .results))
+
+-- the table follows what the core did, s being the state before it
+unfoldable pub followingRows : Replica → (table old : List Row) → Recorded → CalledRows
+followingRows s table old d =
+    calledRows (d .answer)
+    (record {
+      core = d .memory;
+      table = rowsAfter (changeAfter s (d .answer)) table (d .memory);
+      old = oldAfter (changeAfter s (d .answer)) table old;
+    })
+
+-- on_message
+unfoldable pub messageRows : Replica → (frame : List ℕ) → LentRows → CalledRows
+messageRows s frame x =
+    followingRows s (x .table) (x .old)
+    (messageCore (checkFrame (s .setup) frame) s (latestIn (x .table) (clientIn (checkFrame (s .setup) frame)))
+    (length (x .table)) (length (x .old)) frame (x .core))
+
+-- on_idle
+unfoldable pub idleRows : Replica → LentRows → CalledRows
+idleRows s x = followingRows s (x .table) (x .old) (idleCore s (length (x .table)) (length (x .old)) (x .core))
+
+-- after a creation all rows are unused; a refused one leaves them
+unfoldable pub clearedRows : (table old : List Row) → Recorded → CalledRows
+clearedRows table old d =
+    calledRows (d .answer)
+    (record {
+      core = d .memory;
+      table = if eqb (d .answer .code) 0 then replicate (length table) noRow else table;
+      old = old;
+    })
+
+-- new, recover
+unfoldable pub createRows : Setup → LentRows → CalledRows
+createRows u x = clearedRows (x .table) (x .old) (createCore u (length (x .table)) (length (x .old)) (x .core))
+
+unfoldable pub recoverRows : Setup → View → (nonce : ℕ) → LentRows → CalledRows
+recoverRows u v k x = clearedRows (x .table) (x .old) (recoverCore u v k (length (x .table)) (length (x .old)) (x .core))

@@ -1,0 +1,3 @@
+pub mod Core
+pub mod Calls
+pub mod Promise

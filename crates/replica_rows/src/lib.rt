@@ -1,0 +1,147 @@
+// The replica for callers in Rattle, with the client table as a slice of row structs: creation, recovery, a frame, a tick. None asks anything of its caller. Each is thin:
+// the row that the core asks for, the core, and the table brought up to what it did.
+ghost use mathlib.Core.Path.{_≡_};
+ghost use mathlib.Core.List.{[]};
+ghost use Rattle.replica_rows.specs.Calls.{lentRows, calledRows};
+ghost use Rattle.replica_rows.specs.Promise.{MessageRowsPromise, IdleRowsPromise, CreateRowsPromise, RecoverRowsPromise};
+use config::Setup;
+use numbers::View;
+use state::Answer;
+use state::Replica;
+use table_rows::Row;
+
+pub mod core; // the calls but for the table
+
+// new
+pub fn create(
+    u: Setup,
+    log: &[u8],
+    results: &[u8],
+    totals: &mut [u8],
+    acks: &mut [u8],
+    stored: &[u8],
+    table: &mut [Row],
+    old: &[Row],
+) -> Answer
+    ensures { λ a. ⌜ CreateRowsPromise u (lentRows (now (log .entry)) (now (results .entry)) (now (totals .entry)) (now (acks .entry)) (now (stored .entry)) (now (table .entry)) (now (old .entry)) [] []) (calledRows a (lentRows (now (log .entry)) (now (results .entry)) (now (totals .exit)) (now (acks .exit)) (now (stored .entry)) (now (table .exit)) (now (old .entry)) [] [])) ⌝ }
+{
+    let a = core::create(
+        u,
+        table.len(),
+        old.len(),
+        log,
+        results,
+        totals,
+        acks,
+        stored,
+    );
+    if a.code != 0 {
+        return a;
+    }
+    table_rows::clear(table);
+    a
+}
+
+// recover
+pub fn recover(
+    u: Setup,
+    v: View,
+    nonce: u64,
+    log: &[u8],
+    results: &[u8],
+    totals: &mut [u8],
+    acks: &mut [u8],
+    stored: &[u8],
+    table: &mut [Row],
+    old: &[Row],
+    out: &mut [u8],
+) -> Answer
+    ensures { λ a. ⌜ RecoverRowsPromise u v nonce (lentRows (now (log .entry)) (now (results .entry)) (now (totals .entry)) (now (acks .entry)) (now (stored .entry)) (now (table .entry)) (now (old .entry)) (now (out .entry)) []) (calledRows a (lentRows (now (log .entry)) (now (results .entry)) (now (totals .exit)) (now (acks .exit)) (now (stored .entry)) (now (table .exit)) (now (old .entry)) (now (out .exit)) [])) ⌝ }
+{
+    let a = core::recover(
+        u,
+        v,
+        nonce,
+        table.len(),
+        old.len(),
+        log,
+        results,
+        totals,
+        acks,
+        stored,
+        out,
+    );
+    if a.code != 0 {
+        return a;
+    }
+    table_rows::clear(table);
+    a
+}
+
+// on_message
+pub fn on_message(
+    s: Replica,
+    frame: &[u8],
+    log: &mut [u8],
+    results: &mut [u8],
+    totals: &mut [u8],
+    acks: &mut [u8],
+    stored: &mut [u8],
+    table: &mut [Row],
+    old: &mut [Row],
+    out: &mut [u8],
+    reps: &mut [u8],
+) -> Answer
+    ensures { λ a. ⌜ MessageRowsPromise s (now (frame .entry)) (lentRows (now (log .entry)) (now (results .entry)) (now (totals .entry)) (now (acks .entry)) (now (stored .entry)) (now (table .entry)) (now (old .entry)) (now (out .entry)) (now (reps .entry))) (calledRows a (lentRows (now (log .exit)) (now (results .exit)) (now (totals .exit)) (now (acks .exit)) (now (stored .exit)) (now (table .exit)) (now (old .exit)) (now (out .exit)) (now (reps .exit)))) ⌝ }
+{
+    let c = core::checked(s, frame);
+    let latest = table_rows::latest(table, core::client_in(c));
+    let a = core::on_message(
+        s,
+        c,
+        latest,
+        table.len(),
+        old.len(),
+        frame,
+        log,
+        results,
+        totals,
+        acks,
+        stored,
+        out,
+        reps,
+    );
+    table_rows::follow(table, old, log, results, core::change_after(s, a));
+    a
+}
+
+// on_idle
+pub fn on_idle(
+    s: Replica,
+    log: &mut [u8],
+    results: &mut [u8],
+    totals: &mut [u8],
+    acks: &mut [u8],
+    stored: &mut [u8],
+    table: &mut [Row],
+    old: &mut [Row],
+    out: &mut [u8],
+    reps: &mut [u8],
+) -> Answer
+    ensures { λ a. ⌜ IdleRowsPromise s (lentRows (now (log .entry)) (now (results .entry)) (now (totals .entry)) (now (acks .entry)) (now (stored .entry)) (now (table .entry)) (now (old .entry)) (now (out .entry)) (now (reps .entry))) (calledRows a (lentRows (now (log .exit)) (now (results .exit)) (now (totals .exit)) (now (acks .exit)) (now (stored .exit)) (now (table .exit)) (now (old .exit)) (now (out .exit)) (now (reps .exit)))) ⌝ }
+{
+    let a = core::on_idle(
+        s,
+        table.len(),
+        old.len(),
+        log,
+        results,
+        totals,
+        acks,
+        stored,
+        out,
+        reps,
+    );
+    table_rows::follow(table, old, log, results, core::change_after(s, a));
+    a
+}
