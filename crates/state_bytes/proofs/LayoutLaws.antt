@@ -28,7 +28,8 @@ use Rattle.state.specs.Statuses.{noReport}
 use Rattle.state.specs.declared.Replica.{Replica}
 use Rattle.state.specs.declared.Report.{Report}
 use Rattle.state.specs.declared.Reports.{Reports}
-use Rattle.state_bytes.specs.Layout.{flagOk, flagOf, flagNumber, statusOf, statusNumber, setupOf, encodeSetup, clockOf, encodeClock}
+use Rattle.frames.specs.Looks.{statusNumber}
+use Rattle.state_bytes.specs.Layout.{flagOk, flagOf, flagNumber, statusOf, setupOf, encodeSetup, clockOf, encodeClock}
 use Rattle.state_bytes.specs.Layout.{reportOf, encodeReport, ReportFits, reportsOf, encodeReports, allReportsOk}
 use Rattle.state_bytes.specs.Layout.{stateOf, encodePlace, encodeVotes, encodeState, StateFits, stateOk, Holds}
 
@@ -126,14 +127,14 @@ flag-passes true = refl
 flag-passes false = refl
 
 status-passes : (x : Status) → leb (num 1 0 (big 1 (statusNumber x))) 3 ≡ true
-unfolding statusNumber num big
+unfolding num big
 status-passes Normal = refl
 status-passes StateTransfer = refl
 status-passes ViewChange = refl
 status-passes Recovering = refl
 
 status-back : (x : Status) → statusOf (num 1 0 (big 1 (statusNumber x))) ≡ x
-unfolding statusOf statusNumber num big if_then_else_
+unfolding statusOf num big if_then_else_
 status-back Normal = refl
 status-back StateTransfer = refl
 status-back ViewChange = refl

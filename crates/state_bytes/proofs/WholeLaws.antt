@@ -15,7 +15,8 @@ use Rattle.numbers.specs.Numbers.{num, Bytes}
 use Rattle.numbers.specs.Cells.{cells, packed}
 use Rattle.numbers.proofs.WordLaws.{if-false, and-both}
 use Rattle.numbers.proofs.NumberLaws.{big-num, num-drop, drop-bytes}
-use Rattle.state_bytes.specs.Layout.{flagOk, flagOf, flagNumber, statusOf, statusNumber, setupOf, encodeSetup, clockOf, encodeClock}
+use Rattle.frames.specs.Looks.{statusNumber}
+use Rattle.state_bytes.specs.Layout.{flagOk, flagOf, flagNumber, statusOf, setupOf, encodeSetup, clockOf, encodeClock}
 use Rattle.state_bytes.specs.Layout.{reportOf, encodeReport, reportsOf, encodeReports, allReportsOk}
 use Rattle.state_bytes.specs.Layout.{stateOf, encodePlace, encodeVotes, encodeState, stateOk}
 use Rattle.state_bytes.proofs.ReadLaws.{state-long}
@@ -29,7 +30,7 @@ flag-kept (suc zero) h = refl
 flag-kept (suc (suc k)) h = absurd (omega (arith, leb-true (suc (suc k)) 1 h))
 
 status-kept : (k : ℕ) → leb k 3 ≡ true → statusNumber (statusOf k) ≡ k
-unfolding statusOf statusNumber if_then_else_
+unfolding statusOf if_then_else_
 status-kept zero h = refl
 status-kept (suc zero) h = refl
 status-kept (suc (suc zero)) h = refl

@@ -13,6 +13,7 @@ use Rattle.numbers.specs.Numbers.{big, num, viewAt, opAt}
 use Rattle.numbers.specs.Cells.{cells, packed}
 use Rattle.config.specs.declared.Setup.{Setup}
 use Rattle.clock.specs.declared.Clock.{Clock}
+use Rattle.frames.specs.Looks.{statusNumber}
 use Rattle.frames.specs.declared.Status.{Status}
 use Rattle.frames.specs.declared.Status.the-variants.{Normal, StateTransfer, ViewChange, Recovering}
 use Rattle.state.specs.Statuses.{noReport}
@@ -31,19 +32,13 @@ unfoldable pub flagNumber : Bool → ℕ
 flagNumber true = 1
 flagNumber false = 0
 
--- the status
+-- the status of a number; its number is `statusNumber`
 unfoldable pub statusOf : ℕ → Status
 statusOf k =
     if eqb k 0 then Normal else
     if eqb k 1 then StateTransfer else
     if eqb k 2 then ViewChange else
     Recovering
-
-unfoldable pub statusNumber : Status → ℕ
-statusNumber Normal = 0
-statusNumber StateTransfer = 1
-statusNumber ViewChange = 2
-statusNumber Recovering = 3
 
 -- the setup
 unfoldable pub setupOf : List ℕ → Setup

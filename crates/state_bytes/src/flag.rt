@@ -3,7 +3,8 @@ ghost use mathlib.Core.Path.{_≡_};
 ghost use Prim.Native.Nat.{_+_, _≤_};
 ghost use lib.ListN.{length};
 ghost use Rattle.numbers.specs.Numbers.{over, big, num};
-ghost use Rattle.state_bytes.specs.Layout.{flagOk, flagOf, flagNumber, statusOf, statusNumber};
+ghost use Rattle.frames.specs.Looks.{statusNumber};
+ghost use Rattle.state_bytes.specs.Layout.{flagOk, flagOf, flagNumber, statusOf};
 use frames::Status;
 
 // 0 is no, 1 yes; any other number is a byte without meaning.

@@ -1,5 +1,4 @@
 -- `state_bytes::flag::status_number` meets its contract. Assumes nothing.
-use Rattle.state_bytes.specs.Layout.{statusNumber}
 use borrow.Author.Needs.{needs}
 use Rattle.state_bytes.proofs.flag.status_number.Statement.{statement}
 use Rattle.state_bytes.proofs.flag.status_number.Tie as tie
@@ -8,19 +7,15 @@ enum-told : tie.Need-enum-told
 enum-told c = search needs
 
 returns : tie.Need-returns
-unfolding statusNumber
 returns c = rw (c .enum-told .given .1)
 
 returns-2 : tie.Need-returns-2
-unfolding statusNumber
 returns-2 c = rw (c .enum-told2 .given .1)
 
 returns-3 : tie.Need-returns-3
-unfolding statusNumber
 returns-3 c = rw (c .enum-told3 .given .1)
 
 returns-4 : tie.Need-returns-4
-unfolding statusNumber
 returns-4 c = rw (c .enum-told4 .given .1)
 
 pub status-number-spec : {M : Type 1} → statement M
