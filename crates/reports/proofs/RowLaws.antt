@@ -1,25 +1,27 @@
 -- Laws of the rows of reports.
 --     rows-end, filled-turn, greatest-turn, latest-turn, chosen-turn    loops from the last row down
---     ok-next, ok-stop, ok-end, rows-ok-is                              the look for refusal 1, and what it gives
+--     ok-next, ok-stop, ok-end, row-next, row-stop, row-last, rows-ok-is    the look for refusal 1, and what it gives
 --     filled-le                                                         no more are there than there are rows
 --     chosen-holds, chosen-there                                        what holds of each report holds of the chosen one, which is there
 -- Assumes nothing.
 use mathlib.Core.Path.{_≡_, refl, ap, sym, _∙_, subst}
 use mathlib.Core.Bool.{Bool, true, false, not, false≢true}
 use mathlib.Core.List.{List, [], _∷_}
+use mathlib.Core.Logic.{⊎-elim}
 use Prim.Native.Nat.{ℕ, zero, suc, _+_, _-_, _≤_, _<_}
 use native.Mathlib.Numerals.{add-one}
 use native.Mathlib.Omega.{arith}
 use lib.Dec.{leb}
 use lib.ListN.{length, getD, take, drop, length-take, drop-of-length-le}
 use lib.Seq.{drop-cons, getD-take}
-use borrow.Author.Tests.{leb-true, not-true, not-false}
+use borrow.Author.Tests.{leb-true, le-leb, lt-leb, not-true, not-false}
 use Rattle.numbers.specs.Words.{if_then_else_}
-use Rattle.numbers.proofs.WordLaws.{if-false, split}
+use Rattle.numbers.proofs.WordLaws.{if-true, if-false, split}
+use Rattle.numbers.proofs.NumberLaws.{le-or-lt}
 use Rattle.state.specs.Statuses.{noReport}
 use Rattle.state.specs.declared.Report.{Report}
 use Rattle.reports.specs.Rows.{countOne, greaterCommit, laterView, betterOf, filledIn, greatestIn, latestIn, chosenFrom}
-use Rattle.reports.specs.Sound.{reportOk, reportsOk}
+use Rattle.reports.specs.Sound.{reportOk, rowOk, reportsOk}
 use Rattle.reports.specs.declared.Best.{Best}
 
 -- ---- loops
@@ -75,6 +77,28 @@ module _ (room : ℕ) (l : List Report) (n i : ℕ) (lt : i < n) (few : n ≤ 7)
 pub ok-end : (room : ℕ) (l : List Report) (n i : ℕ) → n ≤ i → reportsOk room (drop i (take n l)) ≡ true
 unfolding reportsOk
 ok-end room l n i h = rw (drop-of-length-le (take n l) {i = i} (omega (arith, length-take n l)))
+
+-- the same where row i may be past the first n
+module _ (room : ℕ) (l : List Report) (n i : ℕ) (few : n ≤ 7) (seven : length l ≡ 7) (b : Bool) (e : b ≡ rowOk room n i l) where
+  pub row-next : b ≡ true → reportsOk room (drop i (take n l)) ≡ reportsOk room (drop (i + 1) (take n l))
+  unfolding rowOk
+  row-next t =
+      ⊎-elim (λ h. ok-end room l n i h ∙ sym (ok-end room l n (i + 1) (omega arith)))
+      (λ h. ok-next room l n i h few seven (getD l i noReport) refl b (e ∙ if-false _ _ _ (lt-leb n i h)) t)
+      (le-or-lt n i)
+
+  pub row-stop : b ≡ false → reportsOk room (drop i (take n l)) ≡ false
+  unfolding rowOk
+  row-stop t =
+      ⊎-elim (λ h. absurd (false≢true (sym t ∙ e ∙ if-true _ _ _ (le-leb n i h))))
+      (λ h. ok-stop room l n i h few seven (getD l i noReport) refl b (e ∙ if-false _ _ _ (lt-leb n i h)) t)
+      (le-or-lt n i)
+
+-- the seventh row is the last
+pub row-last : (room : ℕ) (l : List Report) (n : ℕ) → n ≤ 7 → length l ≡ 7 → (b : Bool) → b ≡ rowOk room n 6 l
+    → reportsOk room (drop 6 (take n l)) ≡ b
+row-last room l n few seven true e = row-next room l n 6 few seven true e refl ∙ ok-end room l n 7 few
+row-last room l n few seven false e = row-stop room l n 6 few seven false e refl
 
 pub both : (a b : Bool) → (if a then b else false) ≡ true → (a ≡ true) × (b ≡ true)
 unfolding if_then_else_

@@ -3,7 +3,9 @@ use mathlib.Core.Bool.{Bool, true, false, not}
 use mathlib.Core.List.{List, [], _∷_}
 use Prim.Native.Nat.{ℕ}
 use lib.Dec.{leb}
+use lib.ListN.{getD}
 use Rattle.numbers.specs.Words.{if_then_else_}
+use Rattle.state.specs.Statuses.{noReport}
 use Rattle.state.specs.declared.Report.{Report}
 
 -- refusal 1 on a row: of a report that is there the log fits its place, and no more is committed than it has
@@ -17,3 +19,7 @@ reportOk room d =
 unfoldable pub reportsOk : (room : ℕ) → List Report → Bool
 reportsOk room [] = true
 reportsOk room (d ∷ ds) = if reportOk room d then reportsOk room ds else false
+
+-- the same on row i, where it is one of the first n
+unfoldable pub rowOk : (room n i : ℕ) → List Report → Bool
+rowOk room n i ds = if leb n i then true else reportOk room (getD ds i noReport)

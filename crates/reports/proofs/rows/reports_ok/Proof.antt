@@ -1,64 +1,125 @@
 -- `reports::rows::reports_ok` meets its contract. Assumes nothing.
-use mathlib.Core.Path.{_≡_, refl, sym, _∙_}
+use mathlib.Core.Path.{_≡_, sym, _∙_}
 use native.Mathlib.Omega.{arith}
-use lib.ListN.{take, drop}
-use Prim.Native.Nat.{_-_, _≤_}
 use borrow.Author.Needs.{needs}
 use borrow.Author.Tests.{not-true, not-false}
-use Rattle.reports.specs.Sound.{reportsOk}
-use Rattle.reports.proofs.RowLaws.{ok-next, ok-stop, ok-end}
+use Rattle.reports.proofs.RowLaws.{row-next, row-stop, row-last}
 use Rattle.reports.proofs.rows.reports_ok.Statement.{statement}
 use Rattle.reports.proofs.rows.reports_ok.Tie as tie
 
-abbrev Inv-loop : tie.InvT-loop
-Inv-loop t n room i₀ i = (i ≤ n) × (reportsOk room (take n (t .rows)) ≡ reportsOk room (drop i (take n (t .rows))))
-
-abbrev μ-loop : tie.MeasureT-loop
-μ-loop t n room i₀ i = n - i
-
-loop-holds : tie.Need-loop-holds Inv-loop μ-loop
-loop-holds c = (omega arith, refl)
-
-returns : tie.Need-returns Inv-loop μ-loop
+returns : tie.Need-returns
 returns c =
-    let a = c .before .before .before .before .before .args in
-    let l = c .before .before .before .before .loop in
-    let d = c .before .before .report-at in
-    let o = c .before .report-ok in
-    let e = not-true (o .result) (c .if1 .taken) in
-    sym
-    (l .inv .1
-    ∙ ok-stop (a .room) (a .t .rows) (a .n) (l .i) (omega arith) (omega arith) (d .ensures .1) (d .result) (d .ensures .0) (o .result)
-    (o .ensures) e)
-
-loop-again : tie.Need-loop-again Inv-loop μ-loop
-loop-again c =
-    let a = c .before .before .before .before .before .args in
-    let l = c .before .before .before .before .loop in
-    let d = c .before .before .report-at in
-    let o = c .before .report-ok in (
-      omega arith,
-      l .inv .1 ∙ ok-next (a .room) (a .t .rows) (a .n) (l .i) (omega arith) (omega arith) (d .ensures .1) (d .result) (d .ensures .0)
-          (o .result) (o .ensures) (not-false (o .result) (c .if1 .left)),
-    )
-
-returns-2 : tie.Need-returns-2 Inv-loop μ-loop
-returns-2 c =
     let a = c .before .before .args in
-    let l = c .before .loop in
-    sym (l .inv .1 ∙ ok-end (a .room) (a .t .rows) (a .n) (l .i) (omega arith))
+    let l = a .t .rows in
+    let r = c .before .row-ok in
+    sym
+    (row-stop (a .room) l (a .n) 0 (c .before .before .pre) (r .ensures .1) (r .result) (r .ensures .0) (not-true (r .result) (c .if1 .taken)))
+
+returns-2 : tie.Need-returns-2
+returns-2 c =
+    let a = c .before .before .before .before .args in
+    let l = a .t .rows in
+    let r = c .before .row-ok2 in
+    let r0 = c .before .before .before .row-ok in
+    sym
+    (row-next (a .room) l (a .n) 0 (c .before .before .before .before .pre) (r0 .ensures .1) (r0 .result) (r0 .ensures .0) (not-false (r0 .result) (c .before .before .if1 .left))
+    ∙ row-stop (a .room) l (a .n) 1 (c .before .before .before .before .pre) (r .ensures .1) (r .result) (r .ensures .0) (not-true (r .result) (c .if2 .taken)))
+
+returns-3 : tie.Need-returns-3
+returns-3 c =
+    let a = c .before .before .before .before .before .before .args in
+    let l = a .t .rows in
+    let r = c .before .row-ok3 in
+    let r0 = c .before .before .before .before .before .row-ok in
+    let r1 = c .before .before .before .row-ok2 in
+    sym
+    (row-next (a .room) l (a .n) 0 (c .before .before .before .before .before .before .pre) (r0 .ensures .1) (r0 .result) (r0 .ensures .0) (not-false (r0 .result) (c .before .before .before .before .if1 .left))
+    ∙ row-next (a .room) l (a .n) 1 (c .before .before .before .before .before .before .pre) (r1 .ensures .1) (r1 .result) (r1 .ensures .0) (not-false (r1 .result) (c .before .before .if2 .left))
+    ∙ row-stop (a .room) l (a .n) 2 (c .before .before .before .before .before .before .pre) (r .ensures .1) (r .result) (r .ensures .0) (not-true (r .result) (c .if3 .taken)))
+
+returns-4 : tie.Need-returns-4
+returns-4 c =
+    let a = c .before .before .before .before .before .before .before .before .args in
+    let l = a .t .rows in
+    let r = c .before .row-ok4 in
+    let r0 = c .before .before .before .before .before .before .before .row-ok in
+    let r1 = c .before .before .before .before .before .row-ok2 in
+    let r2 = c .before .before .before .row-ok3 in
+    sym
+    (row-next (a .room) l (a .n) 0 (c .before .before .before .before .before .before .before .before .pre) (r0 .ensures .1) (r0 .result) (r0 .ensures .0) (not-false (r0 .result) (c .before .before .before .before .before .before .if1 .left))
+    ∙ row-next (a .room) l (a .n) 1 (c .before .before .before .before .before .before .before .before .pre) (r1 .ensures .1) (r1 .result) (r1 .ensures .0) (not-false (r1 .result) (c .before .before .before .before .if2 .left))
+    ∙ row-next (a .room) l (a .n) 2 (c .before .before .before .before .before .before .before .before .pre) (r2 .ensures .1) (r2 .result) (r2 .ensures .0) (not-false (r2 .result) (c .before .before .if3 .left))
+    ∙ row-stop (a .room) l (a .n) 3 (c .before .before .before .before .before .before .before .before .pre) (r .ensures .1) (r .result) (r .ensures .0) (not-true (r .result) (c .if4 .taken)))
+
+returns-5 : tie.Need-returns-5
+returns-5 c =
+    let a = c .before .before .before .before .before .before .before .before .before .before .args in
+    let l = a .t .rows in
+    let r = c .before .row-ok5 in
+    let r0 = c .before .before .before .before .before .before .before .before .before .row-ok in
+    let r1 = c .before .before .before .before .before .before .before .row-ok2 in
+    let r2 = c .before .before .before .before .before .row-ok3 in
+    let r3 = c .before .before .before .row-ok4 in
+    sym
+    (row-next (a .room) l (a .n) 0 (c .before .before .before .before .before .before .before .before .before .before .pre) (r0 .ensures .1) (r0 .result) (r0 .ensures .0) (not-false (r0 .result) (c .before .before .before .before .before .before .before .before .if1 .left))
+    ∙ row-next (a .room) l (a .n) 1 (c .before .before .before .before .before .before .before .before .before .before .pre) (r1 .ensures .1) (r1 .result) (r1 .ensures .0) (not-false (r1 .result) (c .before .before .before .before .before .before .if2 .left))
+    ∙ row-next (a .room) l (a .n) 2 (c .before .before .before .before .before .before .before .before .before .before .pre) (r2 .ensures .1) (r2 .result) (r2 .ensures .0) (not-false (r2 .result) (c .before .before .before .before .if3 .left))
+    ∙ row-next (a .room) l (a .n) 3 (c .before .before .before .before .before .before .before .before .before .before .pre) (r3 .ensures .1) (r3 .result) (r3 .ensures .0) (not-false (r3 .result) (c .before .before .if4 .left))
+    ∙ row-stop (a .room) l (a .n) 4 (c .before .before .before .before .before .before .before .before .before .before .pre) (r .ensures .1) (r .result) (r .ensures .0) (not-true (r .result) (c .if5 .taken)))
+
+returns-6 : tie.Need-returns-6
+returns-6 c =
+    let a = c .before .before .before .before .before .before .before .before .before .before .before .before .args in
+    let l = a .t .rows in
+    let r = c .before .row-ok6 in
+    let r0 = c .before .before .before .before .before .before .before .before .before .before .before .row-ok in
+    let r1 = c .before .before .before .before .before .before .before .before .before .row-ok2 in
+    let r2 = c .before .before .before .before .before .before .before .row-ok3 in
+    let r3 = c .before .before .before .before .before .row-ok4 in
+    let r4 = c .before .before .before .row-ok5 in
+    sym
+    (row-next (a .room) l (a .n) 0 (c .before .before .before .before .before .before .before .before .before .before .before .before .pre) (r0 .ensures .1) (r0 .result) (r0 .ensures .0) (not-false (r0 .result) (c .before .before .before .before .before .before .before .before .before .before .if1 .left))
+    ∙ row-next (a .room) l (a .n) 1 (c .before .before .before .before .before .before .before .before .before .before .before .before .pre) (r1 .ensures .1) (r1 .result) (r1 .ensures .0) (not-false (r1 .result) (c .before .before .before .before .before .before .before .before .if2 .left))
+    ∙ row-next (a .room) l (a .n) 2 (c .before .before .before .before .before .before .before .before .before .before .before .before .pre) (r2 .ensures .1) (r2 .result) (r2 .ensures .0) (not-false (r2 .result) (c .before .before .before .before .before .before .if3 .left))
+    ∙ row-next (a .room) l (a .n) 3 (c .before .before .before .before .before .before .before .before .before .before .before .before .pre) (r3 .ensures .1) (r3 .result) (r3 .ensures .0) (not-false (r3 .result) (c .before .before .before .before .if4 .left))
+    ∙ row-next (a .room) l (a .n) 4 (c .before .before .before .before .before .before .before .before .before .before .before .before .pre) (r4 .ensures .1) (r4 .result) (r4 .ensures .0) (not-false (r4 .result) (c .before .before .if5 .left))
+    ∙ row-stop (a .room) l (a .n) 5 (c .before .before .before .before .before .before .before .before .before .before .before .before .pre) (r .ensures .1) (r .result) (r .ensures .0) (not-true (r .result) (c .if6 .taken)))
+
+returns-7 : tie.Need-returns-7
+returns-7 c =
+    let a = c .before .before .before .before .before .before .before .before .before .before .before .before .before .args in
+    let l = a .t .rows in
+    let r = c .row-ok7 in
+    let r0 = c .before .before .before .before .before .before .before .before .before .before .before .before .row-ok in
+    let r1 = c .before .before .before .before .before .before .before .before .before .before .row-ok2 in
+    let r2 = c .before .before .before .before .before .before .before .before .row-ok3 in
+    let r3 = c .before .before .before .before .before .before .row-ok4 in
+    let r4 = c .before .before .before .before .row-ok5 in
+    let r5 = c .before .before .row-ok6 in
+    sym
+    (row-next (a .room) l (a .n) 0 (c .before .before .before .before .before .before .before .before .before .before .before .before .before .pre) (r0 .ensures .1) (r0 .result) (r0 .ensures .0) (not-false (r0 .result) (c .before .before .before .before .before .before .before .before .before .before .before .if1 .left))
+    ∙ row-next (a .room) l (a .n) 1 (c .before .before .before .before .before .before .before .before .before .before .before .before .before .pre) (r1 .ensures .1) (r1 .result) (r1 .ensures .0) (not-false (r1 .result) (c .before .before .before .before .before .before .before .before .before .if2 .left))
+    ∙ row-next (a .room) l (a .n) 2 (c .before .before .before .before .before .before .before .before .before .before .before .before .before .pre) (r2 .ensures .1) (r2 .result) (r2 .ensures .0) (not-false (r2 .result) (c .before .before .before .before .before .before .before .if3 .left))
+    ∙ row-next (a .room) l (a .n) 3 (c .before .before .before .before .before .before .before .before .before .before .before .before .before .pre) (r3 .ensures .1) (r3 .result) (r3 .ensures .0) (not-false (r3 .result) (c .before .before .before .before .before .if4 .left))
+    ∙ row-next (a .room) l (a .n) 4 (c .before .before .before .before .before .before .before .before .before .before .before .before .before .pre) (r4 .ensures .1) (r4 .result) (r4 .ensures .0) (not-false (r4 .result) (c .before .before .before .if5 .left))
+    ∙ row-next (a .room) l (a .n) 5 (c .before .before .before .before .before .before .before .before .before .before .before .before .before .pre) (r5 .ensures .1) (r5 .result) (r5 .ensures .0) (not-false (r5 .result) (c .before .if6 .left))
+    ∙ row-last (a .room) l (a .n) (c .before .before .before .before .before .before .before .before .before .before .before .before .before .pre) (r .ensures .1) (r .result) (r .ensures .0))
 
 pub reports-ok-spec : {M : Type 1} → statement M
 reports-ok-spec =
     tie.close
     (tie.spec
-    Inv-loop
-    μ-loop
-    loop-holds
-    (λ c κs. omega arith)
     (λ c κs. search needs)
     returns
-    (λ c. omega arith)
-    (λ c. omega arith)
-    loop-again
-    returns-2)
+    (λ c κs. search needs)
+    returns-2
+    (λ c κs. search needs)
+    returns-3
+    (λ c κs. search needs)
+    returns-4
+    (λ c κs. search needs)
+    returns-5
+    (λ c κs. search needs)
+    returns-6
+    (λ c κs. search needs)
+    returns-7)
