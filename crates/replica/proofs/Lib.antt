@@ -6,4 +6,5 @@ pub mod CreateLaws
 pub mod StartLaws
 pub mod PromiseLaws
 pub mod CallLaws
+mod KnownLaws
 pub mod DemandLaws

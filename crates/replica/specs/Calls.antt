@@ -2,7 +2,7 @@
 -- everything that is lent. Refusals in document 01's order: 1; 2 to 6 on the frame alone; the Rust's early returns and the later causes in the
 -- handlers; 9, 10. Assumes nothing.
 use mathlib.Core.Path.{_≡_}
-use mathlib.Core.Bool.{true, false, not}
+use mathlib.Core.Bool.{Bool, true, false, not}
 use mathlib.Core.List.{List, _++_}
 use Prim.Native.Nat.{ℕ, _*_, _≤_}
 use lib.Dec.{ltb, eqb}
@@ -36,6 +36,7 @@ use Rattle.book.specs.Memory.{Memory, memory}
 use Rattle.do_view_change.specs.Record.{Recorded}
 use Rattle.recovery.specs.Recovery.{recoveriesLength, recoveriesOf}
 use Rattle.handlers.specs.Handlers.{messageStep, idleStep}
+use Rattle.replica.specs.declared.call.Known.{Known}
 use Rattle.replica.specs.Lent.{Lent, lent, Called, called, lengthsOf, creatable, sound, noReplica}
 
 -- a client of whom nothing is known
@@ -59,6 +60,39 @@ latestFor (DoViewChange v r l o c) n table = nobody
 latestFor (StartView v o c) n table = nobody
 latestFor (Recovery r x v) n table = nobody
 latestFor (RecoveryResponse v x r t) n table = nobody
+
+-- whether a message carries an entry, and whose
+unfoldable pub carriesEntry : Message → Bool
+carriesEntry (Request e) = true
+carriesEntry (Prepare v o c e) = true
+carriesEntry (PrepareOk v o r) = false
+carriesEntry (Commit v c) = false
+carriesEntry (GetState r v o) = false
+carriesEntry (NewState v a z c) = false
+carriesEntry (StartViewChange v r) = false
+carriesEntry (DoViewChange v r l o c) = false
+carriesEntry (StartView v o c) = false
+carriesEntry (Recovery r x v) = false
+carriesEntry (RecoveryResponse v x r t) = false
+
+unfoldable pub clientOf : Message → ℕ
+clientOf (Request e) = e .client
+clientOf (Prepare v o c e) = e .client
+clientOf (PrepareOk v o r) = 0
+clientOf (Commit v c) = 0
+clientOf (GetState r v o) = 0
+clientOf (NewState v a z c) = 0
+clientOf (StartViewChange v r) = 0
+clientOf (DoViewChange v r l o c) = 0
+clientOf (StartView v o c) = 0
+clientOf (Recovery r x v) = 0
+clientOf (RecoveryResponse v x r t) = 0
+
+-- what is known of him
+pub record KnownFor (m : Message) (n : ℕ) (table : List ℕ) (k : Known) : Type 0 where
+  pub carries : k .carries ≡ carriesEntry m
+  pub found : carriesEntry m ≡ true → k .found ≡ foundIn (rowsOf n table) (clientOf m)
+  pub latest : k .latest ≡ latestFor m n table
 
 -- what a call did to the log, s being the state before it
 abbrev pub changeBy : Replica → Answer → Change

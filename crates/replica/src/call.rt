@@ -1,13 +1,16 @@
 // on_message and on_idle: refusal 1, the frame, the core, and the client table brought up to what the core did.
 ghost use mathlib.Core.Path.{_≡_};
+ghost use mathlib.Core.Bool.{true, false};
 ghost use lib.ListN.{length};
 ghost use Rattle.frames.specs.Refusals.{checkFrame};
 ghost use Rattle.frames.specs.declared.Checked.the-variants.{Passed};
 ghost use Prim.Native.Nat.{_*_, _≤_};
+ghost use Rattle.table.specs.Layout.{rowsOf};
+ghost use Rattle.table.specs.Steps.{foundIn, AppendsFor};
 ghost use Rattle.state.specs.Lengths.{tableLength};
 ghost use Rattle.do_view_change.specs.Record.{Gathering};
 ghost use Rattle.book.specs.Memory.{memory};
-ghost use Rattle.replica.specs.Calls.{nobody, latestIn, latestFor, Following, tabled, followedBy, checkedCall};
+ghost use Rattle.replica.specs.Calls.{nobody, latestIn, KnownFor, changeBy, Following, tabled, followedBy, checkedCall};
 ghost use Rattle.replica.specs.Lent.{lent, called};
 ghost use Rattle.replica.specs.Promise.{MessagePromise, IdlePromise};
 use crate::Lengths;
@@ -20,6 +23,8 @@ use rows::Change;
 use rows::Latest;
 use state::Answer;
 use state::Replica;
+use table::Found;
+use table::Row;
 
 // A client of whom nothing is known.
 pub fn nobody() -> Latest
@@ -33,31 +38,64 @@ pub fn nobody() -> Latest
     }
 }
 
-// The row of the client whose entry a message carries, among the first n.
-fn latest_for(m: Message, n: u32, table: &[u8]) -> Latest
-    requires { ⌜ 25 * n ≤ length (now table) ⌝ }
-    ensures { λ r. ⌜ r ≡ latestFor m n (now (table .entry)) ⌝ }
+// What is known of the client whose entry a message carries: what was found of him, and that as the core is told it.
+pub struct Known {
+    pub carries: bool,
+    pub found: Found,
+    pub latest: Latest,
+}
+
+// Of a message that carries no entry.
+fn nothing() -> Known
+    ensures { λ r. ⌜ (r .carries ≡ false) × (r .latest ≡ nobody) ⌝ }
 {
-    match m {
-        Message::Request { entry } => latest_of(entry, n, table),
-        Message::Prepare { entry, .. } => latest_of(entry, n, table),
-        Message::PrepareOk { .. } => nobody(),
-        Message::Commit { .. } => nobody(),
-        Message::GetState { .. } => nobody(),
-        Message::NewState { .. } => nobody(),
-        Message::StartViewChange { .. } => nobody(),
-        Message::DoViewChange { .. } => nobody(),
-        Message::StartView { .. } => nobody(),
-        Message::Recovery { .. } => nobody(),
-        Message::RecoveryResponse { .. } => nobody(),
+    let row = Row {
+        client: 0,
+        request: 0,
+        mark: 0,
+        total: 0,
+    };
+    Known {
+        carries: false,
+        found: Found {
+            at: 0,
+            there: false,
+            row,
+        },
+        latest: nobody(),
     }
 }
 
-fn latest_of(e: Entry, n: u32, table: &[u8]) -> Latest
+// Of the client of an entry, among the first n rows.
+fn known_of(e: Entry, n: u32, table: &[u8]) -> Known
     requires { ⌜ 25 * n ≤ length (now table) ⌝ }
-    ensures { λ r. ⌜ r ≡ latestIn n (now (table .entry)) e ⌝ }
+    ensures { λ r. ⌜ (r .carries ≡ true) × ((r .found ≡ foundIn (rowsOf n (now (table .entry))) (e .client)) × (r .latest ≡ latestIn n (now (table .entry)) e)) ⌝ }
 {
-    table::latest(table::find(table, n as usize, e.client))
+    let f = table::find(table, n as usize, e.client);
+    Known {
+        carries: true,
+        found: f,
+        latest: table::latest(f),
+    }
+}
+
+fn known_for(m: Message, n: u32, table: &[u8]) -> Known
+    requires { ⌜ 25 * n ≤ length (now table) ⌝ }
+    ensures { λ r. ⌜ KnownFor m n (now (table .entry)) r ⌝ }
+{
+    match m {
+        Message::Request { entry } => known_of(entry, n, table),
+        Message::Prepare { entry, .. } => known_of(entry, n, table),
+        Message::PrepareOk { .. } => nothing(),
+        Message::Commit { .. } => nothing(),
+        Message::GetState { .. } => nothing(),
+        Message::NewState { .. } => nothing(),
+        Message::StartViewChange { .. } => nothing(),
+        Message::DoViewChange { .. } => nothing(),
+        Message::StartView { .. } => nothing(),
+        Message::Recovery { .. } => nothing(),
+        Message::RecoveryResponse { .. } => nothing(),
+    }
 }
 
 // The table follows what the core did, `s` being the state before it; a refused call leaves it.
@@ -90,6 +128,37 @@ fn follow(
     a
 }
 
+// The same after a message that carries an entry; f is what was found of its client. A log is never installed then.
+fn follow_found(
+    s: Replica,
+    a: Answer,
+    f: Found,
+    log: &[u8],
+    results: &[u8],
+    table: &mut [u8],
+    old: &[u8],
+) -> Answer
+    requires { ⌜ Following s a (length (now log)) (length (now results)) (length (now table)) (length (now old)) × (a .code ≡ 0 → AppendsFor (s .setup .room) (changeBy s a) f (now table) (now log)) ⌝ }
+    ensures { λ r. ⌜ tabled r (now (table .exit)) (now (old .entry)) ≡ followedBy s a (now (log .entry)) (now (results .entry)) (now (table .entry)) (now (old .entry)) ⌝ }
+{
+    if a.code != 0 {
+        return a;
+    }
+    let op = s.op;
+    let commit = s.commit;
+    let to = a.state.op;
+    let done = a.state.commit;
+    let k = Change {
+        installed: a.installed,
+        op,
+        commit,
+        to,
+        done,
+    };
+    table::follow_found(table, s.setup.room as usize, f, log, results, k);
+    a
+}
+
 // A frame that passed refusals 2 to 6.
 fn take(
     s: Replica,
@@ -108,7 +177,8 @@ fn take(
     requires { ⌜ Gathering s (memory (now log) (now results) (now totals) (now acks) (now stored) (now out) (now reps)) × ((checkFrame (s .setup) (now frame) ≡ Passed m) × ((length (now table) ≡ tableLength (s .setup)) × (length (now old) ≡ tableLength (s .setup)))) ⌝ }
     ensures { λ a. ⌜ called a (lent (now (log .exit)) (now (results .exit)) (now (totals .exit)) (now (acks .exit)) (now (stored .exit)) (now (table .exit)) (now (old .exit)) (now (out .exit)) (now (reps .exit))) ≡ checkedCall (Passed m) s (now (frame .entry)) (lent (now (log .entry)) (now (results .entry)) (now (totals .entry)) (now (acks .entry)) (now (stored .entry)) (now (table .entry)) (now (old .entry)) (now (out .entry)) (now (reps .entry))) ⌝ }
 {
-    let latest = latest_for(m, s.setup.room, table);
+    let k = known_for(m, s.setup.room, table);
+    let latest = k.latest;
     let a = handlers::message::on_message(
         s,
         m,
@@ -122,6 +192,9 @@ fn take(
         out,
         reps,
     );
+    if k.carries {
+        return follow_found(s, a, k.found, log, results, table, old);
+    }
     follow(s, a, log, results, table, old)
 }
 

@@ -1,1 +1,2 @@
 pub mod LayoutLaws
+mod FoundLaws

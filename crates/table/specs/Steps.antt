@@ -1,13 +1,14 @@
 -- What the functions of the byte table promise: rows written over a run, a client found, the rows that a rebuild replaced. Assumes nothing.
 use mathlib.Core.Path.{_≡_}
-use mathlib.Core.Bool.{not}
+use mathlib.Core.Bool.{false, not}
 use mathlib.Core.List.{List, _++_}
-use Prim.Native.Nat.{ℕ, _*_, _^_, _<_}
+use Prim.Native.Nat.{ℕ, _+_, _*_, _^_, _≤_, _<_}
 use lib.Dec.{eqb}
 use lib.ListN.{take, drop}
 use Rattle.numbers.specs.Words.{if_then_else_}
 use Rattle.numbers.specs.Numbers.{over}
 use Rattle.numbers.specs.Cells.{packed}
+use Rattle.entries.specs.Entries.{entryOf}
 use Rattle.fees.specs.Fees.{gives}
 use Rattle.rows.specs.Rows.{spotOf, isThere}
 use Rattle.rows.specs.Shape.{rowAt}
@@ -32,6 +33,12 @@ pub record Left (n : ℕ) (before after : List ℕ) (now : List Row) : Type 0 wh
 -- what is found of a client
 unfoldable pub foundIn : List Row → ℕ → Found
 foundIn xs c = record { at = spotOf byteRow xs c; there = isThere byteRow xs c; row = rowAt byteRow xs (spotOf byteRow xs c) }
+
+-- a call that appended no more than one entry, and f is what was found of its client
+pub record AppendsFor (n : ℕ) (k : Change) (f : Found) (table log : List ℕ) : Type 0 where
+  pub kept : k .installed ≡ false
+  pub one : k .to .0 ≤ k .op .0 + 1
+  pub found : k .op .0 < k .to .0 → f ≡ foundIn (rowsOf n table) (entryOf (drop (32 * k .op .0) log) .client)
 
 -- what was found, as the core is told it: the reply is there where one is kept
 abbrev pub latestOf : Found → Latest

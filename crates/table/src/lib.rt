@@ -7,7 +7,7 @@ ghost use Rattle.entries.specs.Entries.{entries};
 ghost use Rattle.fees.specs.Results.{outcomes};
 ghost use Rattle.rows.specs.Rows.{spotOf, inserted, putRow, appended, replied, committed, keptRow, rebuilt, renewed, followed};
 ghost use Rattle.table.specs.Layout.{noRow, byteRow, rowsOf};
-ghost use Rattle.table.specs.Steps.{foundIn, latestOf, oldAfter, Left};
+ghost use Rattle.table.specs.Steps.{foundIn, latestOf, oldAfter, Left, AppendsFor};
 use entries::Entry;
 use fees::Outcome;
 use rows::Change;
@@ -73,17 +73,25 @@ fn insert(table: &mut [u8], n: usize, at: usize, row: Row)
     place::store(table, n, at, to, row);
 }
 
+// `row` becomes its client's row; f is what was found of him.
+fn put_found(table: &mut [u8], n: usize, f: Found, row: Row)
+    requires { ⌜ (25 * n ≤ length (now table)) × (f ≡ foundIn (rowsOf n (now table)) (row .client)) ⌝ }
+    ensures { λ r. ⌜ Left n (now (table .entry)) (now (table .exit)) (putRow byteRow (rowsOf n (now (table .entry))) row) ⌝ }
+{
+    if f.there {
+        place::store(table, n, f.at, f.at, row);
+        return;
+    }
+    insert(table, n, f.at, row);
+}
+
 // `row` becomes its client's row.
 fn put(table: &mut [u8], n: usize, row: Row)
     requires { ⌜ 25 * n ≤ length (now table) ⌝ }
     ensures { λ r. ⌜ Left n (now (table .entry)) (now (table .exit)) (putRow byteRow (rowsOf n (now (table .entry))) row) ⌝ }
 {
     let f = find(table, n, row.client);
-    if f.there {
-        place::store(table, n, f.at, f.at, row);
-        return;
-    }
-    insert(table, n, f.at, row);
+    put_found(table, n, f, row);
 }
 
 // The entries from .. to of the log, in order, become their clients' rows.
@@ -216,6 +224,35 @@ pub fn follow(
     ensures { λ r. ⌜ Left n (now (table .entry)) (now (table .exit)) (followed byteRow change (rowsOf n (now (table .entry))) (entries (change .to .0) (now (log .entry))) (outcomes (change .done .0) (now (results .entry)))) × (now (old .exit) ≡ oldAfter n change (now (table .entry)) (now (old .entry))) ⌝ }
 {
     renew(table, n, old, log, change);
+    if change.done.0 <= change.commit.0 {
+        return;
+    }
+    follow_commit(
+        table,
+        n,
+        log,
+        results,
+        change.commit.0 as usize,
+        change.done.0 as usize,
+    );
+}
+
+// The same where no more than one entry was appended, and f is what was found of its client before the call.
+pub fn follow_found(
+    table: &mut [u8],
+    n: usize,
+    f: Found,
+    log: &[u8],
+    results: &[u8],
+    change: Change,
+)
+    requires { ⌜ (25 * n ≤ length (now table)) × ((32 * change .to .0 ≤ length (now log)) × ((9 * change .done .0 ≤ length (now results)) × ((change .done .0 ≤ change .to .0) × AppendsFor n change f (now table) (now log)))) ⌝ }
+    ensures { λ r. ⌜ Left n (now (table .entry)) (now (table .exit)) (followed byteRow change (rowsOf n (now (table .entry))) (entries (change .to .0) (now (log .entry))) (outcomes (change .done .0) (now (results .entry)))) ⌝ }
+{
+    if change.op.0 < change.to.0 {
+        let e = entries::entry_at(log, 32 * (change.op.0 as usize));
+        put_found(table, n, f, cell::fresh(e));
+    }
     if change.done.0 <= change.commit.0 {
         return;
     }

@@ -1,0 +1,169 @@
+-- What is known of the client whose entry a message carries. A Request or Prepare appends no more than this entry, and installs no log.
+--     none-known               of a message that carries none
+--     still-one, entry-back    nothing appended; an entry that was appended, read back
+--     appends                  what was found of its client is what the append asks for
+-- Assumes nothing.
+use mathlib.Core.Path.{_≡_, refl, sym, ap, _∙_, subst}
+use mathlib.Core.Bool.{true, false, false≢true}
+use mathlib.Core.List.{List, _++_}
+use Prim.Native.Nat.{ℕ, _+_, _*_, _≤_, _<_}
+use native.Mathlib.Omega.{arith}
+use lib.ListN.{length, take, drop}
+use lib.Seq.{drop-at, length-take-le}
+use Rattle.numbers.specs.Numbers.{over, putAt, Bytes}
+use Rattle.numbers.specs.declared.View.{View}
+use Rattle.numbers.specs.declared.Op.{Op}
+use Rattle.numbers.proofs.WordLaws.{split}
+use Rattle.entries.specs.Entries.{entryOf, encodeEntry, EntryFits}
+use Rattle.entries.specs.declared.Entry.{Entry}
+use Rattle.entries.proofs.EntryLaws.{entryOf-encode}
+use Rattle.frames.specs.Refusals.{checkFrame}
+use Rattle.frames.specs.declared.Message.{Message}
+use Rattle.frames.specs.declared.Message.the-variants.{Request, Prepare, PrepareOk, Commit, GetState, NewState, StartViewChange, DoViewChange, StartView, Recovery, RecoveryResponse}
+use Rattle.frames.specs.declared.Checked.the-variants.{Passed}
+use Rattle.rows.specs.declared.Latest.{Latest}
+use Rattle.table.specs.declared.Found.{Found}
+use Rattle.table.specs.Layout.{rowsOf}
+use Rattle.table.specs.Steps.{foundIn, AppendsFor}
+use Rattle.book.specs.Log.{withEntries}
+use Rattle.book.specs.Memory.{Memory}
+use Rattle.book.proofs.LogLaws.{place-is}
+use Rattle.state.specs.declared.Answer.{Answer}
+use Rattle.state.specs.declared.Replica.{Replica}
+use Rattle.steps.specs.Steps.{Left, Spoke, acceptOf, settled, asked, transferred, deferred, acked}
+use Rattle.steps.specs.declared.Accept.{Accept}
+use Rattle.steps.specs.declared.Accept.the-variants.{Ignore, Hear, Join, Rejoin, Take}
+use Rattle.normal.specs.Request as Requests
+use Rattle.normal.specs.Request.{requestStep}
+use Rattle.normal.specs.Prepare as Prepares
+use Rattle.normal.specs.Prepare.{appendedBy, prepareStep}
+use Rattle.normal.specs.declared.prepare.Prepared.{Prepared}
+use Rattle.normal.specs.declared.prepare.Verdict.{Verdict}
+use Rattle.normal.specs.declared.prepare.Verdict.the-variants.{Transfer, Again, Refuse, Append}
+use Rattle.normal.specs.declared.request.Call.{Call}
+use Rattle.normal.specs.declared.request.Call.the-variants as Calls
+use Rattle.do_view_change.specs.Record.{Recorded, recorded, Gathering}
+use Rattle.handlers.specs.Handlers.{preparedBy, handled, messageStep}
+use Rattle.handlers.proofs.FrameLaws.{request-ok, prepare-ok}
+use Rattle.replica.specs.declared.call.Known.{Known}
+use Rattle.replica.specs.Calls.{nobody, latestFor, carriesEntry, clientOf, KnownFor, changeBy}
+
+pub none-known : {m : Message} {n : ℕ} {table : List ℕ} {k : Known} → carriesEntry m ≡ false → latestFor m n table ≡ nobody
+    → (k .carries ≡ false) × (k .latest ≡ nobody) → KnownFor m n table k
+none-known e l h =
+    record { carries = h .0 ∙ sym e; found = λ t. absurd (false≢true (sym e ∙ t)); latest = h .1 ∙ sym l }
+
+-- no more than one entry behind those of s, and it is of client c
+record One (s : Replica) (c : ℕ) (a : Answer) (log : List ℕ) : Type 0 where
+  kept : a .installed ≡ false
+  one : a .state .op .0 ≤ s .op .0 + 1
+  client : s .op .0 < a .state .op .0 → entryOf (drop (32 * s .op .0) log) .client ≡ c
+
+still-one : {s : Replica} {c : ℕ} {a : Answer} {log : List ℕ} → a .installed ≡ false → a .state .op .0 ≡ s .op .0 → One s c a log
+still-one i e = record { kept = i; one = omega (arith, e); client = λ l. absurd (omega (arith, e, l)) }
+
+entry-back : (n : ℕ) (log : List ℕ) (e : Entry) → EntryFits e → 32 * n ≤ length log
+    → entryOf (drop (32 * n) (withEntries n (encodeEntry e) log)) ≡ e
+unfolding withEntries putAt over
+entry-back n log e f l =
+    let rest = drop (length (encodeEntry e)) (drop (32 * n) log) in
+    rw (← place-is n, drop-at (take (32 * n) log) (encodeEntry e ++ rest) (32 * n) (length-take-le (32 * n) log l)) (entryOf-encode e rest f)
+
+module _ (s : Replica) (m : Memory) (h : Gathering s m) where
+  room : 32 * s .op .0 ≤ length (m .runs .log)
+  room = omega (arith, h .sound .op-le, h .sound .log-long)
+
+  next : (e : Entry) → EntryFits e → entryOf (drop (32 * s .op .0) (withEntries (s .op .0) (encodeEntry e) (m .runs .log))) .client ≡ e .client
+  next e f = ap (λ (x : Entry). x .client) (entry-back (s .op .0) (m .runs .log) e f room)
+
+  -- ---- Request
+
+  call-one : (e : Entry) (latest : Latest) → EntryFits e → (k : Call)
+      → let d = Requests.byCall k s e latest (m .runs .log) (m .acks) (m .out) (m .reps) in One s (e .client) (d .answer) (d .log)
+  unfolding Requests.byCall Requests.resent Requests.accepted
+  call-one e latest f Calls.Nothing = still-one refl refl
+  call-one e latest f Calls.Resend = still-one refl refl
+  call-one e latest f (Calls.Refuse k) = still-one refl refl
+  call-one e latest f Calls.Append = record { kept = refl; one = omega arith; client = λ l. next e f }
+
+  request-one : (e : Entry) (latest : Latest) → EntryFits e
+      → let d = requestStep s e latest (m .runs .log) (m .acks) (m .out) (m .reps) in One s (e .client) (d .answer) (d .log)
+  unfolding requestStep
+  request-one e latest f = call-one e latest f (Requests.verdictOf s e latest (length (m .out)) (length (m .reps)))
+
+  -- ---- Prepare
+
+  module _ (c : ℕ) where
+    abbrev LeftOne : Left → Type 0
+    LeftOne d = One s c (d .answer) (d .runs .log)
+
+    abbrev SpokeOne : Spoke → Type 0
+    SpokeOne d = One s c (d .answer) (m .runs .log)
+
+    asked-one : (t : Replica) (at : Op) → t .op .0 ≡ s .op .0 → SpokeOne (asked s t at (m .out))
+    unfolding asked
+    asked-one t at e = split SpokeOne _ _ _ (λ _. still-one refl refl) (λ _. still-one refl e)
+
+    deferred-one : (k : Accept) (v : View) → SpokeOne (deferred k s v (m .out))
+    unfolding deferred
+    deferred-one Ignore v = still-one refl refl
+    deferred-one Hear v = still-one refl refl
+    deferred-one Join v = asked-one _ (s .commit) refl
+    deferred-one Rejoin v = asked-one _ (s .commit) refl
+    deferred-one Take v = still-one refl refl
+
+  verdict-one : (p : Prepared) → EntryFits (p .entry) → (d : Verdict) → LeftOne (p .entry .client) (Prepares.byVerdict d s p (m .runs) (m .out))
+  unfolding Prepares.byVerdict appendedBy transferred acked settled
+  verdict-one p f Transfer = asked-one (p .entry .client) _ (s .op) refl
+  verdict-one p f Again = split (LeftOne (p .entry .client)) _ _ _ (λ _. still-one refl refl) (λ _. still-one refl refl)
+  verdict-one p f (Refuse k) = still-one refl refl
+  verdict-one p f Append =
+      split (LeftOne (p .entry .client)) _ _ _ (λ _. still-one refl refl) λ _.
+      split (LeftOne (p .entry .client)) _ _ _ (λ _. still-one refl refl)
+      (λ _. record { kept = refl; one = omega arith; client = λ l. next (p .entry) f })
+
+  prepare-one : (v : View) (p : Prepared) → EntryFits (p .entry) → LeftOne (p .entry .client) (prepareStep s v p (m .runs) (m .out))
+  unfolding prepareStep Prepares.takenPrepare
+  prepare-one v p f =
+      split (LeftOne (p .entry .client)) _ _ _ (λ _. verdict-one p f (Prepares.verdictOf s p))
+      (λ _. deferred-one (p .entry .client) (acceptOf s v) v)
+
+-- ---- any message that carries an entry
+
+abbrev OneBy : Replica → ℕ → Recorded → Type 0
+OneBy s c d = One s c (d .answer) (d .memory .runs .log)
+
+handled-one : (x : Message) (s : Replica) (latest : Latest) (frame : List ℕ) (m : Memory) → Gathering s m → Bytes frame
+    → checkFrame (s .setup) frame ≡ Passed x → carriesEntry x ≡ true → OneBy s (clientOf x) (handled x s latest frame m)
+unfolding handled carriesEntry clientOf
+handled-one (Request e) s latest frame m g b ok h = request-one s m g e latest (request-ok (s .setup) frame e ok b .0)
+handled-one (Prepare v o c e) s latest frame m g b ok h =
+    prepare-one s m g v (preparedBy o c e latest) (prepare-ok (s .setup) frame v o c e ok b .0)
+handled-one (PrepareOk v o r) s latest frame m g b ok h = absurd (false≢true h)
+handled-one (Commit v c) s latest frame m g b ok h = absurd (false≢true h)
+handled-one (GetState r v o) s latest frame m g b ok h = absurd (false≢true h)
+handled-one (NewState v a z c) s latest frame m g b ok h = absurd (false≢true h)
+handled-one (StartViewChange v r) s latest frame m g b ok h = absurd (false≢true h)
+handled-one (DoViewChange v r l o c) s latest frame m g b ok h = absurd (false≢true h)
+handled-one (StartView v o c) s latest frame m g b ok h = absurd (false≢true h)
+handled-one (Recovery r x v) s latest frame m g b ok h = absurd (false≢true h)
+handled-one (RecoveryResponse v x r t) s latest frame m g b ok h = absurd (false≢true h)
+
+message-one : (x : Message) (s : Replica) (latest : Latest) (frame : List ℕ) (m : Memory) → Gathering s m → Bytes frame
+    → checkFrame (s .setup) frame ≡ Passed x → carriesEntry x ≡ true → OneBy s (clientOf x) (messageStep x s latest frame m)
+unfolding messageStep
+message-one x s latest frame m g b ok h =
+    split (OneBy s (clientOf x)) _ _ _ (λ _. handled-one x s latest frame m g b ok h) (λ _. still-one refl refl)
+
+pub appends : (x : Message) (s : Replica) (latest : Latest) (frame : List ℕ) (m : Memory) → Gathering s m → Bytes frame
+    → checkFrame (s .setup) frame ≡ Passed x → carriesEntry x ≡ true
+    → (a : Answer) (m′ : Memory) → recorded a m′ ≡ messageStep x s latest frame m
+    → (f : Found) (table : List ℕ) → f ≡ foundIn (rowsOf (s .setup .room) table) (clientOf x)
+    → AppendsFor (s .setup .room) (changeBy s a) f table (m′ .runs .log)
+appends x s latest frame m g b ok h a m′ e f table p =
+    let o = subst (OneBy s (clientOf x)) (sym e) (message-one x s latest frame m g b ok h) in
+    record {
+      kept = o .kept;
+      one = o .one;
+      found = λ l. p ∙ ap (foundIn (rowsOf (s .setup .room) table)) (sym (o .client l));
+    }
