@@ -2,8 +2,9 @@
 --     keep-refused, keep-done                                      the state run after a call
 --     no-message, no-tick, no-creation, no-recovery                a run that holds no state, or has another length
 --     message-ran, idle-ran, create-ran, recover-ran               a call of the replica
+--     usual-kept, leading-kept                                     what a usual call leaves of the state
 -- Assumes nothing.
-use mathlib.Core.Path.{_≡_, refl, sym, ap, _∙_}
+use mathlib.Core.Path.{_≡_, refl, sym, ap, _∙_, subst}
 use mathlib.Core.Bool.{true, false, not, false≢true}
 use mathlib.Core.List.{List}
 use mathlib.Core.Logic.{⊎-elim}
@@ -17,7 +18,9 @@ use Rattle.numbers.proofs.NumberLaws.{eq-or-not}
 use Rattle.config.specs.declared.Setup.{Setup}
 use Rattle.state.specs.declared.Answer.{Answer}
 use Rattle.state.specs.declared.Replica.{Replica}
-use Rattle.state_bytes.specs.Layout.{stateOf, stateOk, Holds}
+use Rattle.state_bytes.specs.Layout.{stateOf, Onward, Clocked, stateOk, Holds}
+use Rattle.usual.specs.Usual.{isUsual, isLeading}
+use Rattle.usual.proofs.UsualLaws.{usual-onward, leading-clocked}
 use Rattle.replica.specs.Calls.{messageCall, idleCall, createCall, recoverCall}
 use Rattle.replica.specs.Lent.{Lent, Called, called}
 use Rattle.replica.specs.Promise.{MessagePromise, IdlePromise, CreatePromise, RecoverPromise}
@@ -113,6 +116,19 @@ module _ (state : List ℕ) (x : Lent) where
         next = held a y k d e (stateOf state) x refl (tick-untouched (stateOf state) x d call);
         call = call;
       }
+
+-- ---- the usual calls
+
+module _ (state : List ℕ) (x : Lent) (s : Replica) (r : s ≡ stateOf state) (a : Answer) (y : Lent) where
+  pub usual-kept : (frame : List ℕ) → isUsual s frame ≡ true → MessagePromise s frame x (called a y) → Onward (stateOf state) (a .state)
+  usual-kept frame u p =
+      subst (λ (t : Replica). Onward t (a .state)) r
+      (subst (λ (d : Called). Onward s (d .answer .state)) (sym (p .exact)) (usual-onward s frame x u))
+
+  pub leading-kept : isLeading s ≡ true → IdlePromise s x (called a y) → Clocked (stateOf state) (a .state)
+  leading-kept u p =
+      subst (λ (t : Replica). Clocked t (a .state)) r
+      (subst (λ (d : Called). Clocked s (d .answer .state)) (sym (p .exact)) (leading-clocked s x u))
 
 -- ---- new, recover
 

@@ -1,8 +1,10 @@
 // A replica, whose state lies in a lent run of 146 bytes. A refused call leaves that run, like all else, as it was.
 ghost use mathlib.Core.Path.{_≡_};
+ghost use mathlib.Core.Bool.{true};
 ghost use mathlib.Core.List.{[]};
 ghost use lib.ListN.{length};
 ghost use Rattle.replica.specs.Lent.{lent};
+ghost use Rattle.state_bytes.specs.Layout.{stateOf, Onward, Clocked, stateOk};
 ghost use Rattle.ffi.specs.Replicas.{KeptIn, ran, CreateRan, RecoverRan, MessageRan, IdleRan};
 use config::Setup;
 use numbers::View;
@@ -18,6 +20,32 @@ fn keep(a: Answer, state: &mut [u8]) -> u8
     }
     let s = a.state;
     state_bytes::write_state(state, s);
+    0
+}
+
+// The same of an answer that is further on in the view of the state that the run holds.
+fn keep_onward(a: Answer, state: &mut [u8]) -> u8
+    requires { ⌜ (stateOk (now state) ≡ true) × Onward (stateOf (now state)) (a .state) ⌝ }
+    ensures { λ r. ⌜ KeptIn a (now (state .entry)) (now (state .exit)) r ⌝ }
+{
+    if a.code != 0 {
+        return a.code;
+    }
+    let s = a.state;
+    state_bytes::write_onward(state, s);
+    0
+}
+
+// And of one that has another clock only.
+fn keep_clocked(a: Answer, state: &mut [u8]) -> u8
+    requires { ⌜ (stateOk (now state) ≡ true) × Clocked (stateOf (now state)) (a .state) ⌝ }
+    ensures { λ r. ⌜ KeptIn a (now (state .entry)) (now (state .exit)) r ⌝ }
+{
+    if a.code != 0 {
+        return a.code;
+    }
+    let s = a.state;
+    state_bytes::write_clocked(state, s);
     0
 }
 
@@ -107,7 +135,99 @@ pub extern "C" fn whitherhaul_recover(
     keep(a, state)
 }
 
-// on_message
+// A frame, whatever it is: all of the next state is written.
+fn message_whole(
+    state: &mut [u8],
+    frame: &[u8],
+    log: &mut [u8],
+    results: &mut [u8],
+    totals: &mut [u8],
+    acks: &mut [u8],
+    stored: &mut [u8],
+    table: &mut [u8],
+    old: &mut [u8],
+    out: &mut [u8],
+    reps: &mut [u8],
+    messages: &mut usize,
+    replies: &mut usize,
+) -> u8
+    requires { ⌜ stateOk (now state) ≡ true ⌝ }
+    ensures { λ r. ⌜ MessageRan (now (state .entry)) (now (frame .entry)) (lent (now (log .entry)) (now (results .entry)) (now (totals .entry)) (now (acks .entry)) (now (stored .entry)) (now (table .entry)) (now (old .entry)) (now (out .entry)) (now (reps .entry))) (ran r (now (messages .exit)) (now (replies .exit)) (now (state .exit)) (lent (now (log .exit)) (now (results .exit)) (now (totals .exit)) (now (acks .exit)) (now (stored .exit)) (now (table .exit)) (now (old .exit)) (now (out .exit)) (now (reps .exit)))) ⌝ }
+{
+    let a = replica::call::on_message(
+        state_bytes::read_state(state),
+        frame,
+        log,
+        results,
+        totals,
+        acks,
+        stored,
+        table,
+        old,
+        out,
+        reps,
+    );
+    *messages = a.messages;
+    *replies = a.replies;
+    keep(a, state)
+}
+
+// A frame that may be a usual one: of the next state only that part is written which a usual call changes.
+fn message_usual(
+    state: &mut [u8],
+    frame: &[u8],
+    log: &mut [u8],
+    results: &mut [u8],
+    totals: &mut [u8],
+    acks: &mut [u8],
+    stored: &mut [u8],
+    table: &mut [u8],
+    old: &mut [u8],
+    out: &mut [u8],
+    reps: &mut [u8],
+    messages: &mut usize,
+    replies: &mut usize,
+) -> u8
+    requires { ⌜ stateOk (now state) ≡ true ⌝ }
+    ensures { λ r. ⌜ MessageRan (now (state .entry)) (now (frame .entry)) (lent (now (log .entry)) (now (results .entry)) (now (totals .entry)) (now (acks .entry)) (now (stored .entry)) (now (table .entry)) (now (old .entry)) (now (out .entry)) (now (reps .entry))) (ran r (now (messages .exit)) (now (replies .exit)) (now (state .exit)) (lent (now (log .exit)) (now (results .exit)) (now (totals .exit)) (now (acks .exit)) (now (stored .exit)) (now (table .exit)) (now (old .exit)) (now (out .exit)) (now (reps .exit)))) ⌝ }
+{
+    let s = state_bytes::read_state(state);
+    if !usual::is_usual(s, frame) {
+        return message_whole(
+            state,
+            frame,
+            log,
+            results,
+            totals,
+            acks,
+            stored,
+            table,
+            old,
+            out,
+            reps,
+            messages,
+            replies,
+        );
+    }
+    let a = replica::call::on_message(
+        s,
+        frame,
+        log,
+        results,
+        totals,
+        acks,
+        stored,
+        table,
+        old,
+        out,
+        reps,
+    );
+    *messages = a.messages;
+    *replies = a.replies;
+    keep_onward(a, state)
+}
+
+// on_message. The same call stands once for each kind of a usual frame, and nothing is written before it: so the compiler makes of each the code of that kind alone.
 #[no_mangle]
 pub extern "C" fn whitherhaul_on_message(
     state: &mut [u8],
@@ -131,9 +251,122 @@ pub extern "C" fn whitherhaul_on_message(
     if !state_bytes::state_ok(state) {
         return 1;
     }
-    let a = replica::call::on_message(
+    if frame.len() < 7 {
+        return message_whole(
+            state,
+            frame,
+            log,
+            results,
+            totals,
+            acks,
+            stored,
+            table,
+            old,
+            out,
+            reps,
+            messages,
+            replies,
+        );
+    }
+    match numbers::read_u8(frame, 5) {
+        1 => message_usual(
+            state,
+            frame,
+            log,
+            results,
+            totals,
+            acks,
+            stored,
+            table,
+            old,
+            out,
+            reps,
+            messages,
+            replies,
+        ),
+        2 => message_usual(
+            state,
+            frame,
+            log,
+            results,
+            totals,
+            acks,
+            stored,
+            table,
+            old,
+            out,
+            reps,
+            messages,
+            replies,
+        ),
+        3 => message_usual(
+            state,
+            frame,
+            log,
+            results,
+            totals,
+            acks,
+            stored,
+            table,
+            old,
+            out,
+            reps,
+            messages,
+            replies,
+        ),
+        4 => message_usual(
+            state,
+            frame,
+            log,
+            results,
+            totals,
+            acks,
+            stored,
+            table,
+            old,
+            out,
+            reps,
+            messages,
+            replies,
+        ),
+        _ => message_whole(
+            state,
+            frame,
+            log,
+            results,
+            totals,
+            acks,
+            stored,
+            table,
+            old,
+            out,
+            reps,
+            messages,
+            replies,
+        ),
+    }
+}
+
+// A tick, whatever it does: all of the next state is written.
+fn tick_whole(
+    state: &mut [u8],
+    log: &mut [u8],
+    results: &mut [u8],
+    totals: &mut [u8],
+    acks: &mut [u8],
+    stored: &mut [u8],
+    table: &mut [u8],
+    old: &mut [u8],
+    out: &mut [u8],
+    reps: &mut [u8],
+    messages: &mut usize,
+    replies: &mut usize,
+) -> u8
+    requires { ⌜ stateOk (now state) ≡ true ⌝ }
+    ensures { λ r. ⌜ IdleRan (now (state .entry)) (lent (now (log .entry)) (now (results .entry)) (now (totals .entry)) (now (acks .entry)) (now (stored .entry)) (now (table .entry)) (now (old .entry)) (now (out .entry)) (now (reps .entry))) (ran r (now (messages .exit)) (now (replies .exit)) (now (state .exit)) (lent (now (log .exit)) (now (results .exit)) (now (totals .exit)) (now (acks .exit)) (now (stored .exit)) (now (table .exit)) (now (old .exit)) (now (out .exit)) (now (reps .exit)))) ⌝ }
+{
+    let a = replica::call::on_idle(
         state_bytes::read_state(state),
-        frame,
         log,
         results,
         totals,
@@ -149,7 +382,7 @@ pub extern "C" fn whitherhaul_on_message(
     keep(a, state)
 }
 
-// on_idle
+// on_idle. Of a Normal primary's next state only the clock is written.
 #[no_mangle]
 pub extern "C" fn whitherhaul_on_idle(
     state: &mut [u8],
@@ -172,19 +405,25 @@ pub extern "C" fn whitherhaul_on_idle(
     if !state_bytes::state_ok(state) {
         return 1;
     }
-    let a = replica::call::on_idle(
-        state_bytes::read_state(state),
-        log,
-        results,
-        totals,
-        acks,
-        stored,
-        table,
-        old,
-        out,
-        reps,
-    );
+    let s = state_bytes::read_state(state);
+    if !usual::is_leading(s) {
+        return tick_whole(
+            state,
+            log,
+            results,
+            totals,
+            acks,
+            stored,
+            table,
+            old,
+            out,
+            reps,
+            messages,
+            replies,
+        );
+    }
+    let a = replica::call::on_idle(s, log, results, totals, acks, stored, table, old, out, reps);
     *messages = a.messages;
     *replies = a.replies;
-    keep(a, state)
+    keep_clocked(a, state)
 }

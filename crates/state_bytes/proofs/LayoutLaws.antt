@@ -1,7 +1,7 @@
 -- Laws of the state's bytes.
 --     flag-byte, report-codec                         a flag as a byte, a report as a cell of 14
 --     put-report, kept-length, fits-more, all-put     the reports, written one behind the other
---     state-held                                      a state that was written passes and is read back
+--     bytes-held, state-held                          a state that was written passes and is read back
 -- Assumes nothing.
 use mathlib.Core.Path.{_≡_, refl, sym, ap, _∙_, subst}
 use mathlib.Core.Logic.{⊎-elim}
@@ -206,9 +206,10 @@ module _ (s : Replica) (f : StateFits s) where
         reports = record { rows = rows-back 7 (s .reports .rows) (f .reports .seven) (f .reports .each) i };
       }
 
+  pub bytes-held : {run : List ℕ} → run ≡ encodeState s → Holds s run
+  bytes-held e = record { bytes = e; ok = rw e state-passes; back = rw e state-back }
+
   pub state-held : {run : List ℕ} (before : List ℕ) → length before ≡ 146 → run ≡ over (encodeState s) before → Holds s run
   unfolding over
-  state-held {run} before l p =
-      let e : run ≡ encodeState s =
-      p ∙ rw (drop-of-length-le before {i = length (encodeState s)} (omega (arith, state-length)), append-nil (encodeState s)) in
-      record { bytes = e; ok = rw e state-passes; back = rw e state-back }
+  state-held before l p =
+      bytes-held (p ∙ rw (drop-of-length-le before {i = length (encodeState s)} (omega (arith, state-length)), append-nil (encodeState s)))

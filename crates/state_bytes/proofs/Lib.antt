@@ -1,3 +1,4 @@
 pub mod ReadLaws
 pub mod LayoutLaws
 pub mod WholeLaws
+mod OnwardLaws

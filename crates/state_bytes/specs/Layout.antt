@@ -11,11 +11,13 @@ use lib.ListN.{length, getD, drop}
 use Rattle.numbers.specs.Words.{if_then_else_, _and_}
 use Rattle.numbers.specs.Numbers.{big, num, viewAt, opAt}
 use Rattle.numbers.specs.Cells.{cells, packed}
+use Rattle.numbers.specs.declared.Op.{Op}
 use Rattle.config.specs.declared.Setup.{Setup}
 use Rattle.clock.specs.declared.Clock.{Clock}
 use Rattle.frames.specs.Looks.{statusNumber}
 use Rattle.frames.specs.declared.Status.{Status}
 use Rattle.frames.specs.declared.Status.the-variants.{Normal, StateTransfer, ViewChange, Recovering}
+use Rattle.state.specs.State.{withClock}
 use Rattle.state.specs.Statuses.{noReport}
 use Rattle.state.specs.declared.Replica.{Replica}
 use Rattle.state.specs.declared.Report.{Report}
@@ -134,6 +136,32 @@ pub record StateFits (s : Replica) : Type 0 where
   pub starts : s .starts < 2 ^ 8
   pub nonce : s .nonce < 2 ^ 64
   pub reports : ReportsFit (s .reports)
+
+-- a state that goes on in its view: status, op and commit number, and whether the primary was heard, are others
+abbrev pub onward : Replica → Status → (op commit : Op) → (heard : Bool) → Replica
+onward s status op commit heard =
+    record {
+      setup = s .setup;
+      status = status;
+      view = s .view;
+      normal = s .normal;
+      catching = s .catching;
+      op = op;
+      commit = commit;
+      clock = record { heard = heard; waiting = s .clock .waiting; stable = s .clock .stable; attempts = s .clock .attempts };
+      starts = s .starts;
+      sent = s .sent;
+      nonce = s .nonce;
+      reports = s .reports;
+    }
+
+-- t is s but for these
+abbrev pub Onward : (s t : Replica) → Type 0
+Onward s t = t ≡ onward s (t .status) (t .op) (t .commit) (t .clock .heard)
+
+-- t is s but for its clock
+abbrev pub Clocked : (s t : Replica) → Type 0
+Clocked s t = t ≡ withClock s (t .clock)
 
 -- a run holds a state: it is 146 bytes long, and no byte of it is without meaning
 unfoldable pub stateOk : List ℕ → Bool

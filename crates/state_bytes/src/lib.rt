@@ -1,9 +1,10 @@
 // The state in a lent byte run of 146 bytes, for callers that aren't Rattle: read, written, and tested for bytes without meaning.
 ghost use mathlib.Core.Path.{_≡_};
+ghost use mathlib.Core.Bool.{true};
 ghost use Prim.Native.Nat.{_≤_};
 ghost use lib.ListN.{length};
 ghost use Rattle.numbers.specs.Numbers.{over};
-ghost use Rattle.state_bytes.specs.Layout.{stateOf, encodePlace, encodeVotes, stateOk, Holds};
+ghost use Rattle.state_bytes.specs.Layout.{stateOf, encodePlace, encodeVotes, Onward, Clocked, stateOk, Holds};
 use state::Replica;
 
 mod part; // setup, clock, reports
@@ -67,6 +68,25 @@ pub fn write_state(run: &mut [u8], s: Replica)
     write_votes(&mut run[38..], s);
     let reports = s.reports;
     part::write_reports(&mut run[48..], reports);
+}
+
+// The run goes from the state that it holds to one that is further on in the same view: 19 bytes.
+pub fn write_onward(run: &mut [u8], s: Replica)
+    requires { ⌜ (stateOk (now run) ≡ true) × Onward (stateOf (now run)) s ⌝ }
+    ensures { λ r. ⌜ Holds s (now (run .exit)) ⌝ }
+{
+    write_place(&mut run[12..], s);
+    let clock = s.clock;
+    flag::write_flag(&mut run[30..], clock.heard);
+}
+
+// The same where only the clock is another: 8 bytes.
+pub fn write_clocked(run: &mut [u8], s: Replica)
+    requires { ⌜ (stateOk (now run) ≡ true) × Clocked (stateOf (now run)) s ⌝ }
+    ensures { λ r. ⌜ Holds s (now (run .exit)) ⌝ }
+{
+    let clock = s.clock;
+    part::write_clock(&mut run[30..], clock);
 }
 
 // Whether the run is one that holds a state: its length, and no byte without meaning.

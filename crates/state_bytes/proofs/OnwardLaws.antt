@@ -1,0 +1,113 @@
+-- A run that passes, written anew in part.
+--     setup-front, place-front     the parts that stay
+--     onward-held, clocked-held    the run holds the state that is further on, and that with another clock
+-- Assumes nothing.
+use mathlib.Core.Path.{_≡_, refl, sym, ap, _∙_, subst}
+use mathlib.Core.Bool.{Bool, true}
+use mathlib.Core.List.{List, _++_}
+use Prim.Native.Nat.{ℕ, _*_, _^_, _≤_, _<_}
+use native.Mathlib.Omega.{arith}
+use lib.ListN.{length, drop, length-drop}
+use Rattle.numbers.specs.Numbers.{big, Bytes, over}
+use Rattle.numbers.proofs.NumberLaws.{num-lt, drop-bytes}
+use Rattle.numbers.proofs.CellLaws.{cells-length, cells-get}
+use Rattle.numbers.specs.declared.Op.{Op}
+use Rattle.clock.specs.declared.Clock.{Clock}
+use Rattle.frames.specs.declared.Status.{Status}
+use Rattle.state.specs.State.{withClock}
+use Rattle.state.specs.Statuses.{noReport}
+use Rattle.state.specs.declared.Replica.{Replica}
+use Rattle.state_bytes.specs.Layout.{flagNumber, setupOf, encodeSetup, clockOf, encodeClock, reportOf, ReportFits, reportsOf, ReportsFit}
+use Rattle.state_bytes.specs.Layout.{stateOf, encodePlace, encodeVotes, encodeState, StateFits, onward, Onward, Clocked, stateOk, Holds}
+use Rattle.state_bytes.proofs.LayoutLaws.{bytes-held}
+use Rattle.state_bytes.proofs.ReadLaws.{state-long}
+use Rattle.state_bytes.proofs.WholeLaws.{state-whole}
+
+-- ---- what is read from bytes fits
+
+report-fits : (s : List ℕ) → Bytes s → 14 ≤ length s → ReportFits (reportOf s)
+unfolding reportOf
+report-fits s b h = record { view = num-lt 4 2 s b (omega arith); op = num-lt 4 6 s b (omega arith); commit = num-lt 4 10 s b (omega arith) }
+
+reports-fit : (s : List ℕ) → Bytes s → length s ≡ 98 → ReportsFit (reportsOf s)
+unfolding reportsOf
+reports-fit s b h =
+    record {
+      seven = cells-length 14 reportOf 7 s;
+      each = λ i l. subst ReportFits (sym (cells-get 14 reportOf 7 s i noReport l))
+          (report-fits (drop (14 * i) s) (drop-bytes (14 * i) s b) (rw length-drop (omega arith)));
+    }
+
+-- the state of a run, but for its status, op and commit number, and clock
+state-fits : (s : List ℕ) → Bytes s → length s ≡ 146 → (x : Status) (o k : Op) (h : Bool) (c : Clock) → o .0 < 2 ^ 32 → k .0 < 2 ^ 32
+    → c .waiting < 2 ^ 32 → c .stable < 2 ^ 16 → c .attempts < 2 ^ 8 → StateFits (withClock (onward (stateOf s) x o k h) c)
+unfolding stateOf setupOf
+state-fits s b l x o k h c op commit waiting stable attempts =
+    record {
+      n = num-lt 1 0 s b (omega arith);
+      id = num-lt 1 1 s b (omega arith);
+      timeout = num-lt 2 2 s b (omega arith);
+      room = num-lt 4 4 s b (omega arith);
+      members = num-lt 4 8 s b (omega arith);
+      view = num-lt 4 13 s b (omega arith);
+      normal = num-lt 4 17 s b (omega arith);
+      op = op;
+      commit = commit;
+      waiting = waiting;
+      stable = stable;
+      attempts = attempts;
+      starts = num-lt 1 38 s b (omega arith);
+      nonce = num-lt 8 40 s b (omega arith);
+      reports = reports-fit (drop 48 s) (drop-bytes 48 s b) (rw length-drop (omega arith));
+    }
+
+-- ---- bytes written over those of a state
+
+module _ (a : Replica) where
+  onward-bytes : (x : Status) (o k : Op) (h : Bool)
+      → over ((encodeSetup (a .setup) ++ encodePlace (onward a x o k h)) ++ big 1 (flagNumber h)) (encodeState a) ≡ encodeState (onward a x o k h)
+  unfolding over encodeState encodeSetup encodePlace encodeClock encodeVotes big
+  onward-bytes x o k h = refl
+
+  clocked-bytes : (c : Clock)
+      → over ((encodeSetup (a .setup) ++ encodePlace a) ++ encodeClock c) (encodeState a) ≡ encodeState (withClock a c)
+  unfolding over encodeState encodeSetup encodePlace encodeClock encodeVotes big
+  clocked-bytes c = refl
+
+-- ---- the same of a run that passes
+
+module _ (run : List ℕ) (b : Bytes run) (ok : stateOk run ≡ true) where
+  over-whole : (w : List ℕ) {r : List ℕ} → over w (encodeState (stateOf run)) ≡ r → over w run ≡ r
+  over-whole w e = ap (over w) (sym (state-whole run b ok)) ∙ e
+
+  pub setup-front : run ≡ over (encodeSetup (stateOf run .setup)) run
+  unfolding over encodeState encodeSetup big
+  setup-front = sym (over-whole (encodeSetup (stateOf run .setup)) (state-whole run b ok))
+
+  pub place-front : run ≡ over (encodeSetup (stateOf run .setup) ++ encodePlace (stateOf run)) run
+  unfolding over encodeState encodeSetup encodePlace big
+  place-front = sym (over-whole (encodeSetup (stateOf run .setup) ++ encodePlace (stateOf run)) (state-whole run b ok))
+
+  pub onward-held : {t : Replica} → Onward (stateOf run) t → t .op .0 < 2 ^ 32 → t .commit .0 < 2 ^ 32 → {after : List ℕ}
+      → after ≡ over ((encodeSetup (stateOf run .setup) ++ encodePlace t) ++ big 1 (flagNumber (t .clock .heard))) run → Holds t after
+  unfolding stateOf clockOf
+  onward-held {t} w p q {after} e =
+      let flag = big 1 (flagNumber (t .clock .heard)) in
+      let r = drop 30 run in
+      let c = drop-bytes 30 run b in
+      let l = state-long run ok in
+      let m : length r ≡ 116 = rw length-drop (omega arith) in
+      let fits = state-fits run b l (t .status) (t .op) (t .commit) true (onward (stateOf run) (t .status) (t .op) (t .commit) (t .clock .heard) .clock) p q
+      (num-lt 4 1 r c (omega arith)) (num-lt 2 5 r c (omega arith)) (num-lt 1 7 r c (omega arith)) in
+      let same = ap (λ (x : Replica). over ((encodeSetup (stateOf run .setup) ++ encodePlace x) ++ flag) run) w in
+      subst (λ (x : Replica). Holds x after) (sym w) (bytes-held _ fits (e ∙ same ∙ over-whole _ (onward-bytes (stateOf run) _ _ _ _)))
+
+  pub clocked-held : {t : Replica} → Clocked (stateOf run) t → t .clock .waiting < 2 ^ 32 → t .clock .stable < 2 ^ 16 → t .clock .attempts < 2 ^ 8
+      → {after : List ℕ} → after ≡ over ((encodeSetup (stateOf run .setup) ++ encodePlace (stateOf run)) ++ encodeClock (t .clock)) run
+      → Holds t after
+  unfolding stateOf
+  clocked-held {t} w p q r {after} e =
+      let s = stateOf run in
+      let l = state-long run ok in
+      let fits = state-fits run b l (s .status) (s .op) (s .commit) true (t .clock) (num-lt 4 22 run b (omega arith)) (num-lt 4 26 run b (omega arith)) p q r in
+      subst (λ (x : Replica). Holds x after) (sym w) (bytes-held _ fits (e ∙ over-whole _ (clocked-bytes s (t .clock))))
