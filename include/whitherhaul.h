@@ -20,7 +20,6 @@
 #ifndef WHITHERHAUL_H
 #define WHITHERHAUL_H
 
-#include <stdbool.h>
 #include <stddef.h>
 #include <stdint.h>
 
@@ -186,10 +185,10 @@ uint8_t whitherhaul_client_request(uint8_t *record, size_t record_length,
                                    uint64_t *number, size_t *written);
 
 /*
- * A reply came for this request number, of this view: *done, which holds 0 or 1 before, says whether it answers the request that waits. The record
+ * A reply came for this request number, of this view: *done becomes 1 where it answers the request that waits, else 0. The record
  * follows the view also where it doesn't. 0 or 1.
  */
-uint8_t whitherhaul_client_reply(uint8_t *record, size_t record_length, uint64_t number, uint32_t view, bool *done);
+uint8_t whitherhaul_client_reply(uint8_t *record, size_t record_length, uint64_t number, uint32_t view, uint8_t *done);
 
 /* No reply came for a while: the request that waits, for every replica (39 n bytes); none where nothing waits. 0, 1 or 9. */
 uint8_t whitherhaul_client_idle(const uint8_t *record, size_t record_length,

@@ -172,7 +172,7 @@ static void client(void)
     uint32_t view;
     uint8_t outcome;
     size_t written;
-    bool done = true;
+    uint8_t done = 0x5A;
 
     memset(record, 0x5A, sizeof record);
     expect(whitherhaul_client_create(8, 7, record, sizeof record) == WHITHERHAUL_REFUSED_SIZES, "a client of 8 replicas");
@@ -202,9 +202,9 @@ static void client(void)
     expect(whitherhaul_read_reply(request, sizeof request, &view, &of, &asked, &outcome, &total) ==
                WHITHERHAUL_REFUSED_MALFORMED && of == 0 && total == 0,
            "a Request is no Reply");
-    expect(whitherhaul_client_reply(record, sizeof record, 1, 4, &done) == WHITHERHAUL_DONE && !done, "another number");
+    expect(whitherhaul_client_reply(record, sizeof record, 1, 4, &done) == WHITHERHAUL_DONE && done == 0, "another number");
     expect(number_at(record, WHITHERHAUL_CLIENT_VIEW_AT) == 4, "the view is followed");
-    expect(whitherhaul_client_reply(record, sizeof record, 0, 2, &done) == WHITHERHAUL_DONE && done, "the pending number");
+    expect(whitherhaul_client_reply(record, sizeof record, 0, 2, &done) == WHITHERHAUL_DONE && done == 1, "the pending number");
     expect(record[WHITHERHAUL_CLIENT_PENDING_AT] == 0, "nothing waits");
 
     memset(record + WHITHERHAUL_CLIENT_NEXT_AT, 0xFF, 8);

@@ -24,6 +24,7 @@ use Rattle.client.specs.declared.Read.{Read}
 use Rattle.client.specs.declared.Read.the-variants.{Reply, Malformed}
 use Rattle.client.specs.Client.{createOf, requestedOf, requestedArea, repliedOf, idledOf, idledArea}
 use Rattle.client.specs.Replies.{readReply, outcomeNumber}
+use Rattle.state_bytes.specs.Layout.{flagNumber}
 use Rattle.client_bytes.specs.Layout.{recordOf, recordOk, Holds}
 use Rattle.ffi.specs.Clients.{keptRecord, Created, createRun, Requested, requestRun, Replied, replyRun, Idled, idleRun, Read′, readRun, afterRead}
 use Rattle.ffi.specs.Clients.{Holding, CreateRan, RequestRan, ReplyRan}
@@ -161,7 +162,7 @@ reply-quiet c number v =
     (λ _ h. absurd (h refl)) (λ _ h. (refl, refl))
 
 module _ (run : List ℕ) (number : ℕ) (v : View) where
-  pub no-reply : recordOk run ≡ false → ReplyRan run number v (record { code = 1; done = false; run = run })
+  pub no-reply : recordOk run ≡ false → ReplyRan run number v (record { code = 1; done = 0; run = run })
   unfolding replyRun
   no-reply h = record { exact = sym (if-true _ _ _ (ap not h)); next = λ ok. absurd (false≢true (sym h ∙ ok)) }
 
@@ -170,31 +171,32 @@ module _ (run : List ℕ) (number : ℕ) (v : View) where
     heard = e ∙ ap (λ (x : Client). repliedOf x number v) r
 
     replied : (after : List ℕ) → after ≡ keptRecord (a .answer .refusal) (a .client) run
-        → _≡_ {A = Replied} (record { code = a .answer .refusal; done = a .answer .done; run = after }) (replyRun run number v)
+        → _≡_ {A = Replied} (record { code = a .answer .refusal; done = flagNumber (a .answer .done); run = after }) (replyRun run number v)
     unfolding replyRun
     replied after p =
         (λ i. record {
           code = heard i .answer .refusal;
-          done = heard i .answer .done;
+          done = flagNumber (heard i .answer .done);
           run = (p ∙ λ j. keptRecord (heard j .answer .refusal) (heard j .client) run) i;
         })
         ∙ sym (if-false _ _ _ (ap not ok))
 
-    pub reply-refused : (a .answer .refusal ≡ 0 → ⊥) → ReplyRan run number v (record { code = a .answer .refusal; done = false; run = run })
+    pub reply-refused : (a .answer .refusal ≡ 0 → ⊥) → ReplyRan run number v (record { code = a .answer .refusal; done = 0; run = run })
+    unfolding flagNumber
     reply-refused h =
         let q = reply-quiet (recordOf run) number v (λ z. h (ap (λ (x : AfterReply). x .answer .refusal) heard ∙ z)) in
         record {
           exact =
-              (λ i. record { code = a .answer .refusal; done = sym (ap (λ (x : AfterReply). x .answer .done) heard ∙ q .0) i; run = run })
+              (λ i. record { code = a .answer .refusal; done = sym (ap (λ (x : AfterReply). flagNumber (x .answer .done)) heard ∙ ap flagNumber (q .0)) i; run = run })
               ∙ replied run (kept (a .client) run h);
           next = λ _. record { ok = ok; back = sym (q .1) };
         }
 
-    pub reply-done : {after : List ℕ} → a .answer .refusal ≡ 0 → Holds (a .client) after
-        → ReplyRan run number v (record { code = 0; done = a .answer .done; run = after })
-    reply-done {after} z h =
+    pub reply-done : {after : List ℕ} {k : ℕ} → a .answer .refusal ≡ 0 → k ≡ flagNumber (a .answer .done) → Holds (a .client) after
+        → ReplyRan run number v (record { code = 0; done = k; run = after })
+    reply-done {after} z f h =
         record {
-          exact = (λ i. record { code = sym z i; done = a .answer .done; run = after }) ∙ replied after (stored (a .client) run z h);
+          exact = (λ i. record { code = sym z i; done = f i; run = after }) ∙ replied after (stored (a .client) run z h);
           next = λ _. holding h (ap (λ (x : AfterReply). x .client) heard);
         }
 

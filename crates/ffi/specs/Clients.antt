@@ -1,7 +1,7 @@
 -- The client's calls at the C boundary: the record lies in a lent run. A run that holds no record is refused by 1; a refused call leaves record and area as they were,
 -- and its other answers are 0. Assumes nothing.
 use mathlib.Core.Path.{_≡_}
-use mathlib.Core.Bool.{Bool, true, false, not}
+use mathlib.Core.Bool.{true, not}
 use mathlib.Core.List.{List}
 use Prim.Native.Nat.{ℕ}
 use lib.Dec.{eqb}
@@ -17,6 +17,7 @@ use Rattle.client.specs.declared.Read.{Read}
 use Rattle.client.specs.declared.Read.the-variants.{Reply, Malformed}
 use Rattle.client.specs.Client.{createOf, requestedOf, requestedArea, repliedOf, idledOf, idledArea}
 use Rattle.client.specs.Replies.{readReply, outcomeNumber}
+use Rattle.state_bytes.specs.Layout.{flagNumber}
 use Rattle.client_bytes.specs.Layout.{recordOf, encodeRecord, recordOk}
 
 -- the record's run after a call with this refusal number
@@ -57,19 +58,19 @@ requestRun run operation member cents area =
     afterRequest (requestedOf (recordOf run) operation member cents (length area)) run
     (requestedArea (recordOf run) operation member cents area)
 
--- on_reply
+-- on_reply; done is 1 or 0
 pub record Replied : Type 0 where
   pub code : ℕ
-  pub done : Bool
+  pub done : ℕ
   pub run : List ℕ
 
 abbrev pub afterReply : AfterReply → (run : List ℕ) → Replied
 afterReply a run =
-    record { code = a .answer .refusal; done = a .answer .done; run = keptRecord (a .answer .refusal) (a .client) run }
+    record { code = a .answer .refusal; done = flagNumber (a .answer .done); run = keptRecord (a .answer .refusal) (a .client) run }
 
 unfoldable pub replyRun : (run : List ℕ) (number : ℕ) → View → Replied
 replyRun run number v =
-    if not (recordOk run) then record { code = 1; done = false; run = run } else
+    if not (recordOk run) then record { code = 1; done = 0; run = run } else
     afterReply (repliedOf (recordOf run) number v) run
 
 -- on_idle: the record is only read

@@ -64,11 +64,11 @@ pub extern "C" fn whitherhaul_client_reply(
     held: &mut [u8],
     number: u64,
     view: u32,
-    done: &mut bool,
+    done: &mut u8,
 ) -> u8
     ensures { λ r. ⌜ ReplyRan (now (held .entry)) number (record { 0 = view }) (record { code = r; done = now (done .exit); run = now (held .exit) }) ⌝ }
 {
-    *done = false;
+    *done = 0;
     if !client_bytes::client_ok(held) {
         return 1;
     }
@@ -76,7 +76,7 @@ pub extern "C" fn whitherhaul_client_reply(
     if a.answer.refusal != 0 {
         return a.answer.refusal;
     }
-    *done = a.answer.done;
+    *done = a.answer.done as u8;
     let c = a.client;
     client_bytes::write_client(held, c);
     0
