@@ -227,7 +227,7 @@ fn message_usual(
     keep_onward(a, state)
 }
 
-// on_message. The same call stands once for each kind of a usual frame, and nothing is written before it: so the compiler makes of each the code of that kind alone.
+// on_message. The same call stands once for each kind of a usual frame, and nothing is written between the look at the kind and the call: so the compiler makes of each the code of that kind alone.
 #[no_mangle]
 pub extern "C" fn whitherhaul_on_message(
     state: &mut [u8],
