@@ -4,11 +4,11 @@ use crate::case::{Area, Lends, Step};
 use crate::counts::Counts;
 use crate::pair::Pair;
 use crate::play::{end, fault, give, Fault, Found};
-use schedules::fees::{Entry, ASK, FEE, MOST_CENTS, REFUND};
-use schedules::frames::{frame, Fees};
-use schedules::random::Random;
 use schedules::rust::{Setup, Start};
 use vsr_rs::{LogEntry, Message, RecoveryState};
+use wire::fees::{Entry, ASK, FEE, MOST_CENTS, REFUND};
+use wire::frames::{frame, prepare, request, Fees};
+use wire::random::Random;
 
 const ROOM: usize = 4096;
 
@@ -79,11 +79,7 @@ fn grow(random: &mut Random, log: &mut Vec<LogEntry<Entry>>, length: usize, memb
                 _ => 1 + random.below(1000) as u64,
             },
         };
-        log.push(LogEntry {
-            client_id: op.client as usize,
-            request_number: op.request as usize,
-            op,
-        });
+        log.push(op.logged());
     }
 }
 
@@ -173,21 +169,10 @@ fn next(random: &mut Random, pair: &Pair, latest: Entry) -> Fees {
         request: latest.request + 1 + random.below(2) as u64,
         ..latest
     };
-    let (client_id, request_number) = (op.client as usize, op.request as usize);
     if random.chance(50) {
-        return Message::Request {
-            client_id,
-            request_number,
-            op,
-        };
+        return request(op.logged());
     }
-    let op_number = pair.rust.replica.op_number();
-    Message::Prepare {
-        view_number: pair.rust.replica.view_number(),
-        op_number: op_number + 1,
-        client_id,
-        request_number,
-        op,
-        commit_number: op_number,
-    }
+    let replica = &pair.rust.replica;
+    let op_number = replica.op_number();
+    prepare(replica.view_number(), op_number + 1, op_number, op.logged())
 }

@@ -4,12 +4,12 @@
 use crate::counts::Counts;
 use crate::play::{Fault, Found};
 use schedules::client::sent;
-use schedules::fees::{Entry, ASK, FEE, MOST_CENTS, REFUND};
-use schedules::frames::write_reply;
 use schedules::inside::client_inside;
-use schedules::random::Random;
-use vsr_rs::{Client, Config, Reply};
+use vsr_rs::{Client, Reply};
 use whitherhaul::raw;
+use wire::fees::{Charge, Outcome, ASK, FEE, MOST_CENTS, REFUND};
+use wire::frames::write_reply;
+use wire::random::Random;
 
 /// How long a Request frame is.
 const REQUEST: usize = 39;
@@ -57,7 +57,7 @@ pub enum Wrong {
 
 /// Both sides.
 struct Both {
-    rust: Client<Entry>,
+    rust: Client<Charge>,
     record: Vec<u8>,
     due: Vec<u8>,
     first: u64,
@@ -116,10 +116,6 @@ pub fn again(case: &Case) -> Result<(), String> {
 
 impl Both {
     fn new(case: &Case) -> Result<Both, String> {
-        let mut config = Config::new();
-        for _ in 0..case.n {
-            config.add_replica();
-        }
         let mut record = vec![0x5a; raw::CLIENT];
         let number = raw::client_create(case.n, case.id, &mut record);
         let mut due = vec![0; raw::CLIENT];
@@ -132,7 +128,7 @@ impl Both {
             record[13..21].copy_from_slice(&case.first.to_be_bytes());
         }
         Ok(Both {
-            rust: Client::new(case.id as usize, config),
+            rust: Client::new(case.id as usize, wire::config(usize::from(case.n))),
             record,
             due,
             first: case.first,
@@ -291,14 +287,12 @@ impl Both {
 
     /// The Rust is given a request; the due record follows.
     fn requested(&mut self, operation: u8, member: u32, cents: u64, length: usize) -> Answer {
-        let op = Entry {
-            client: 0,
-            request: 0,
+        let charge = Charge {
             operation,
             member,
             cents,
         };
-        let request = self.rust.on_request(op) as u64 + self.first;
+        let request = self.rust.on_request(charge) as u64 + self.first;
         let bytes = sent(&mut self.rust, self.first);
         self.due[13..21].copy_from_slice(&request.wrapping_add(1).to_be_bytes());
         self.due[21] = 1;
@@ -357,7 +351,7 @@ fn any_reply(random: &mut Random) -> Vec<u8> {
         view_number: random.number() as u32 as usize,
         client_id: random.number() as usize,
         request_number: random.number() as usize,
-        result: schedules::fees::Outcome {
+        result: Outcome {
             code: random.below(8) as u8,
             total: random.number(),
         },

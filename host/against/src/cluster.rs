@@ -5,12 +5,12 @@ use crate::counts::Counts;
 use crate::damage::damaged;
 use crate::pair::Pair;
 use crate::play::{clients, end, give, sizes, Fault, Found};
-use schedules::fees::{Entry, ASK, FEE, MOST_CENTS, REFUND};
-use schedules::frames::frame;
-use schedules::random::Random;
+use schedules::adversary::cents;
 use schedules::rust::{Setup, Start};
-use vsr_rs::Message;
 use whitherhaul::Frames;
+use wire::fees::{Entry, ASK, FEE, REFUND};
+use wire::frames::{frame, request};
+use wire::random::Random;
 
 /// The cluster and what is under way in it.
 struct Cluster<'a> {
@@ -105,11 +105,7 @@ impl Cluster<'_> {
             latest => self.request(client, latest),
         };
         self.requests[client] = Some(entry);
-        let request = Message::Request {
-            client_id: entry.client as usize,
-            request_number: entry.request as usize,
-            op: entry,
-        };
+        let request = request(entry.logged());
         for id in 0..self.replicas.len() {
             self.network.push(frame(id, &request));
         }
@@ -124,10 +120,7 @@ impl Cluster<'_> {
             request: latest.map_or(0, |entry| entry.request + 1),
             operation,
             member: self.random.below(members + 1) as u32,
-            cents: match operation {
-                ASK => 0,
-                _ => self.random.pick(&[1, 4_500, MOST_CENTS]),
-            },
+            cents: cents(self.random, operation),
         }
     }
 

@@ -1,8 +1,8 @@
 //! What was met: calls by status and kind, refusals by number, later causes by kind and status.
 
-use schedules::frames::KINDS;
 use std::collections::BTreeMap;
 use std::fmt::Write;
+use wire::frames::KINDS;
 
 const STATUSES: [&str; 4] = ["Normal", "StateTransfer", "ViewChange", "Recovering"];
 /// Calls are counted in 13 rows: ticks, then each kind, then what is no frame.

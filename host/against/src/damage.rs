@@ -1,6 +1,6 @@
 //! Frames, damaged: bits, lengths, counts, entries; and frames that more than one refusal looks at.
 
-use schedules::random::Random;
+use wire::random::Random;
 
 /// Where a kind's count of entries stands: o, or end of a NewState.
 fn count_place(kind: u8) -> Option<usize> {

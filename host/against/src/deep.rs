@@ -2,11 +2,11 @@
 //! reports that are there, the acks of uncommitted ops, and the client table. A row that goes astray shows outside only much
 //! later, if at all. Acks of committed ops can't be told from outside, and what a view change gathered has no meaning outside it.
 
-use schedules::fees::Ledger;
 use schedules::inside::{inside, Inside, Row};
 use schedules::rust::Setup;
 use vsr_rs::{Replica, Status};
 use whitherhaul::raw::{state, Memory};
+use wire::fees::Ledger;
 
 /// The big-endian number of so many bytes at a place of the state.
 fn number(memory: &Memory, at: usize, bytes: usize) -> u64 {

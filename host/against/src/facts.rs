@@ -4,12 +4,12 @@
 //! log as it was (one comparison of memory each), and all totals. Only what is new is worked out: entries behind the old log, and
 //! entries that were committed since.
 
-use schedules::fees::{Entry, Ledger};
-use schedules::frames::entry_bytes;
 use schedules::rust::Setup;
 use std::collections::HashMap;
 use vsr_rs::StateMachine;
 use whitherhaul::raw::{state, Memory};
+use wire::fees::{Entry, Ledger};
+use wire::frames::entry_bytes;
 
 /// What is known of a replica from the calls so far.
 pub struct Facts {

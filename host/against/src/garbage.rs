@@ -7,10 +7,11 @@ use crate::pair::lent_setup;
 use crate::play::{clients, sizes, Fault, Found};
 use crate::wrongs::runs;
 use schedules::adversary::Adversary;
-use schedules::frames::{frame, hex};
-use schedules::random::Random;
+use schedules::run::hex;
 use schedules::rust::{Call, Rust, Setup, Start};
 use whitherhaul::raw::{self, state, Memory};
+use wire::frames::frame;
+use wire::random::Random;
 
 /// Plays some calls on such memory.
 pub fn play(random: &mut Random, counts: &mut Counts) -> Result<(), Fault> {

@@ -7,9 +7,9 @@ use crate::pair::Pair;
 use crate::play::{clients, end, give, sizes, Fault, Found};
 use crate::plots::Plot;
 use schedules::adversary::{start, Adversary};
-use schedules::frames::frame;
-use schedules::random::Random;
 use schedules::rust::Call;
+use wire::frames::frame;
+use wire::random::Random;
 
 /// Plays one.
 pub fn play(random: &mut Random, counts: &mut Counts) -> Result<(), Fault> {

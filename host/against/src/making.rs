@@ -4,9 +4,9 @@
 use crate::counts::Counts;
 use crate::play::{Fault, Found};
 use crate::wrongs::{make_wrong, runs, Wrong, RUNS};
-use schedules::random::Random;
 use whitherhaul::raw::{self, Memory};
 use whitherhaul::Setup;
+use wire::random::Random;
 
 /// Plays some.
 pub fn play(random: &mut Random, counts: &mut Counts) -> Result<(), Fault> {

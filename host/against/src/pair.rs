@@ -14,9 +14,10 @@ use crate::deep;
 use crate::facts::{number, Facts};
 use crate::parse::parse;
 use crate::wrongs::{self, Wrong};
-use schedules::frames::{entry_bytes, hex};
+use schedules::run::hex;
 use schedules::rust::{status_number, Answer, Rust, Setup, Start};
 use whitherhaul::raw::{self, state, Memory};
+use wire::frames::entry_bytes;
 
 #[cfg(test)]
 mod tests;
@@ -217,11 +218,11 @@ impl Pair {
         };
         self.out.needed.clear();
         for (to, message) in &answer.messages {
-            schedules::frames::write_frame(&mut self.out.needed, *to, message);
+            wire::frames::write_frame(&mut self.out.needed, *to, message);
         }
         self.reps.needed.clear();
         for reply in &answer.replies {
-            schedules::frames::write_reply(&mut self.reps.needed, reply);
+            wire::frames::write_reply(&mut self.reps.needed, reply);
         }
         Due {
             number,

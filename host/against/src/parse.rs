@@ -1,10 +1,10 @@
 //! Document 01's frames, read: a frame is malformed (refusal 2) exactly where this gives none. Written from the document's table
 //! alone, with no look at the library's parser.
 
-use schedules::fees::{Entry, ASK, FEE, MOST_CENTS, REFUND};
-use schedules::frames::Fees;
 use schedules::rust::Call;
 use vsr_rs::{LogEntry, Message, RecoveryState};
+use wire::fees::{Entry, ASK, FEE, MOST_CENTS, REFUND};
+use wire::frames::Fees;
 
 /// What is left of a frame.
 struct Rest<'a>(&'a [u8]);
@@ -209,9 +209,9 @@ fn recovery(kind: usize, rest: &mut Rest) -> Option<Fees> {
 mod tests {
     use super::*;
     use schedules::adversary::Adversary;
-    use schedules::frames::frame;
-    use schedules::random::Random;
     use schedules::rust::{Rust, Setup, Start};
+    use wire::frames::frame;
+    use wire::random::Random;
 
     #[test]
     fn reads_what_is_written() {

@@ -5,10 +5,10 @@ use crate::case::{Lends, Step};
 use crate::counts::Counts;
 use crate::pair::Pair;
 use crate::play::{end, fault, Fault, Found};
-use schedules::frames::{frame, Fees};
-use schedules::random::Random;
 use schedules::rust::{Setup, Start};
 use vsr_rs::Message;
+use wire::frames::{frame, Fees};
+use wire::random::Random;
 
 /// Plays one.
 pub fn play(random: &mut Random, counts: &mut Counts) -> Result<(), Fault> {

@@ -5,8 +5,8 @@ use crate::counts::Counts;
 use crate::pair::Pair;
 use crate::wrongs::{Wrong, RUNS};
 use crate::{big, clients, cluster, garbage, lone, making, patience};
-use schedules::random::Random;
 use schedules::rust::Setup;
+use wire::random::Random;
 
 /// Where the two sides differ: what was found, and the calls that led there.
 pub struct Fault {

@@ -1,11 +1,11 @@
 //! Short plots that an adversary seldom stumbles on, each some calls in a row that look at the replica before each: acks that outlive
 //! a NewState, a quorum of DoViewChanges whose logs don't agree, and recovery responses of views around the one that was kept.
 
-use schedules::fees::{Entry, FEE};
-use schedules::frames::{frame, Fees};
-use schedules::random::Random;
 use schedules::rust::Rust;
 use vsr_rs::{LogEntry, Message, RecoveryState, Status};
+use wire::fees::{Entry, FEE};
+use wire::frames::{frame, request, Fees};
+use wire::random::Random;
 
 /// A plot under way: its moves that are still to come, the last one first.
 pub struct Plot(Vec<Move>);
@@ -87,18 +87,14 @@ fn led(rust: &Rust) -> usize {
 fn fee(random: &mut Random, log: &[LogEntry<Entry>], clients: &[u64]) -> LogEntry<Entry> {
     let client = random.pick(clients);
     let latest = log.iter().rev().find(|e| e.op.client == client);
-    let op = Entry {
+    let fee = Entry {
         client,
         request: latest.map_or(0, |e| e.op.request.saturating_add(1)),
         operation: FEE,
         member: 0,
         cents: 1 + random.below(1000) as u64,
     };
-    LogEntry {
-        client_id: op.client as usize,
-        request_number: op.request as usize,
-        op,
-    }
+    fee.logged()
 }
 
 /// So many new fees behind this log.
@@ -123,14 +119,7 @@ fn message(chosen: Move, random: &mut Random, rust: &Rust, clients: &[u64]) -> F
     let view_number = replica.view_number();
     let replica_id = random.below(rust.setup.n);
     match chosen {
-        Move::Request => {
-            let entry = fee(random, log, clients);
-            Message::Request {
-                client_id: entry.client_id,
-                request_number: entry.request_number,
-                op: entry.op,
-            }
-        }
+        Move::Request => request(fee(random, log, clients)),
         Move::PrepareOk => Message::PrepareOk {
             view_number,
             op_number: committed + 1 + random.below(3),

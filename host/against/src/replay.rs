@@ -3,7 +3,7 @@
 
 use crate::deep;
 use crate::facts::{number, Facts};
-use schedules::frames::hex;
+use schedules::run::hex;
 use schedules::rust::Setup;
 use std::collections::BTreeMap;
 use std::process::ExitCode;

@@ -7,7 +7,7 @@ use crate::counts::Counts;
 use crate::pair::Pair;
 use crate::parse::parse;
 use crate::play::{Fault, Found};
-use schedules::frames::hex;
+use schedules::run::hex;
 use schedules::rust::{Call, Start};
 use std::fmt::Write;
 

@@ -1,11 +1,11 @@
 //! The cases: what is made ready, what is timed, and on what the sides have to agree afterwards.
 
-use crate::codec;
-use crate::fees::Charge;
 use crate::sides::{Side, Standing};
 use crate::stopwatch::took;
 use std::time::Duration;
 use vsr_rs::{LogEntry, Message};
+use wire::fees::{Charge, FEE};
+use wire::frames::{frame, request, write_frame};
 
 /// One case.
 #[derive(Clone, Copy)]
@@ -26,11 +26,14 @@ pub enum Case {
 
 /// All cases, each with its name.
 pub const CASES: [(&str, Case); 15] = [
-    ("request, 1 client", request(1, false)),
-    ("request, 16 clients", request(16, false)),
-    ("request, 256 clients", request(256, false)),
-    ("request, 2,000 clients, a first one", request(2_000, false)),
-    ("request, 2,000 clients, a later one", request(2_000, true)),
+    ("request, 1 client", requests(1, false)),
+    ("request, 16 clients", requests(16, false)),
+    ("request, 256 clients", requests(256, false)),
+    (
+        "request, 2,000 clients, a first one",
+        requests(2_000, false),
+    ),
+    ("request, 2,000 clients, a later one", requests(2_000, true)),
     ("tick, a heartbeat", Case::Tick { uncommitted: 0 }),
     ("heartbeat, taken by both backups", Case::Heartbeat),
     ("tick, 100 uncommitted", Case::Tick { uncommitted: 100 }),
@@ -52,7 +55,7 @@ pub const CASES: [(&str, Case); 15] = [
     ("recovery, 4,096 entries", Case::Recovery { entries: 4_096 }),
 ];
 
-const fn request(clients: usize, later: bool) -> Case {
+const fn requests(clients: usize, later: bool) -> Case {
     Case::Request { clients, later }
 }
 
@@ -228,7 +231,7 @@ impl<S: Side> Cluster<S> {
                 op_number: entries,
                 commit_number: entries,
             };
-            codec::write(&mut frames, 1, &message);
+            write_frame(&mut frames, 1, &message);
         }
         let pieces = self.deliveries(&frames, times(entries));
         // A StartViewChange and a StartView to each of the others, and a Reply for each entry.
@@ -271,7 +274,7 @@ fn log(entries: usize, clients: usize) -> Vec<LogEntry<Charge>> {
             client_id: (place % clients + 1).wrapping_mul(0x9e37_79b9_7f4a_7c15),
             request_number: place / clients,
             op: Charge {
-                operation: 1,
+                operation: FEE,
                 member: (place * 7 % 4_096) as u32,
                 cents: 4_500,
             },
@@ -279,17 +282,6 @@ fn log(entries: usize, clients: usize) -> Vec<LogEntry<Charge>> {
         .collect()
 }
 
-fn frame(to: usize, message: &Message<Charge>) -> Vec<u8> {
-    let mut frame = Vec::new();
-    codec::write(&mut frame, to, message);
-    frame
-}
-
 fn request_frame(entry: &LogEntry<Charge>) -> Vec<u8> {
-    let message = Message::Request {
-        client_id: entry.client_id,
-        request_number: entry.request_number,
-        op: entry.op,
-    };
-    frame(0, &message)
+    frame(0, &request(entry.clone()))
 }

@@ -4,8 +4,6 @@
 //! counts. After each round the sides must stand alike, or the figures would compare unlike things.
 
 mod cases;
-mod codec;
-mod fees;
 mod sides;
 mod stopwatch;
 

@@ -1,9 +1,9 @@
 //! What is timed: Whitherhaul; vsr-rs as it is, structs handed over; and vsr-rs with the same frames written and read around it.
 
-use crate::codec;
-use crate::fees::{Charge, Ledger, Outcome};
-use vsr_rs::{Config, Message};
+use vsr_rs::Message;
 use whitherhaul::{addressee, raw, Frames, Setup};
+use wire::fees::{Charge, Outcome, Totals};
+use wire::frames::{read, write_frame, write_reply};
 
 /// How all replicas are made: 3 of them, with the most room and the most members that there are.
 pub const ROOM: u32 = 4_096;
@@ -123,23 +123,16 @@ impl Side for Ours {
     }
 }
 
-type Vsr = vsr_rs::Replica<Ledger>;
-
-fn config() -> Config {
-    let mut config = Config::new();
-    for _ in 0..3 {
-        config.add_replica();
-    }
-    config
-}
+type Vsr = vsr_rs::Replica<Totals>;
 
 fn vsr(id: u8) -> Vsr {
-    Vsr::new(usize::from(id), config(), Ledger(vec![0; MEMBERS as usize]))
+    let totals = Totals::new(MEMBERS as usize);
+    Vsr::new(usize::from(id), wire::config(3), totals)
 }
 
 fn vsr_recover(id: u8, nonce: u64) -> Vsr {
-    let ledger = Ledger(vec![0; MEMBERS as usize]);
-    Vsr::recover(usize::from(id), config(), ledger, 0, nonce)
+    let totals = Totals::new(MEMBERS as usize);
+    Vsr::recover(usize::from(id), wire::config(3), totals, 0, nonce)
 }
 
 fn vsr_standing(replica: &Vsr) -> Standing {
@@ -195,7 +188,7 @@ impl Side for AsItIs {
         wire.clear();
         wire.messages.extend(Frames::new(frames).map(|frame| {
             let to = addressee(frame).expect("a whole frame");
-            (usize::from(to), codec::read(frame).expect("a good frame"))
+            (usize::from(to), read(frame).expect("a good frame"))
         }));
     }
 
@@ -228,10 +221,10 @@ pub struct Framed;
 impl Bytes {
     fn drain(&mut self, replica: &mut Vsr) {
         for (to, message) in replica.drain_messages() {
-            codec::write(&mut self.messages, to, &message);
+            write_frame(&mut self.messages, to, &message);
         }
         for reply in replica.drain_replies() {
-            codec::write_reply(&mut self.replies, &reply);
+            write_reply(&mut self.replies, &reply);
         }
     }
 }
@@ -262,7 +255,7 @@ impl Side for Framed {
         next.clear();
         for frame in Frames::new(&wire.messages) {
             let to = usize::from(addressee(frame).expect("a whole frame"));
-            let message = codec::read(frame).expect("a good frame");
+            let message = read(frame).expect("a good frame");
             replicas[to].on_message(message);
             next.drain(&mut replicas[to]);
         }

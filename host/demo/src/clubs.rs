@@ -1,7 +1,7 @@
 //! The clubs, their members and the renewal list, all made up.
 
-use crate::random::Random;
 use whitherhaul::Operation;
+use wire::random::Random;
 
 /// A club and its yearly fee in cents.
 pub struct Club {
@@ -116,7 +116,7 @@ impl List {
             let member = *renewed - 1;
             return charge(Operation::Fee, member, yearly(member));
         }
-        let member = random.below(u64::from(*renewed)) as u32;
+        let member = random.below(*renewed as usize) as u32;
         let total = self.totals[member as usize];
         if roll < 7 && total > 1 {
             return charge(Operation::Refund, member, total / 2);

@@ -7,10 +7,10 @@ use crate::library::{Library, Standing};
 use crate::machines::Machine;
 use crate::network::{Network, Traffic};
 use crate::options::Options;
-use crate::random::Random;
 use crate::teller::Teller;
 use std::collections::BTreeMap;
 use whitherhaul::{Operation, Outcome, Reply};
+use wire::random::Random;
 
 pub const REPLICAS: u8 = 3;
 /// Steps from one idle period of a replica to the next.
@@ -102,7 +102,7 @@ impl<'a, L: Library> Day<'a, L> {
             teller,
             machines: (0..REPLICAS).map(|id| Machine::new(id, list)).collect(),
             desks: (0..options.desks).map(desk).collect(),
-            network: Network::new(random, options.loss),
+            network: Network::new(random, options.loss as usize),
             counts: Counts::default(),
             answered: 0,
             wrong: Vec::new(),
@@ -238,7 +238,8 @@ impl<'a, L: Library> Day<'a, L> {
 fn crashes(requests: u64, random: &mut Random) -> Vec<u64> {
     let crashes = CRASHES.min(requests / 10);
     let apart = requests / (crashes + 1);
-    let at = (1..=crashes).map(|k| k * apart + random.below(apart.max(2) / 2));
+    let within = (apart.max(2) / 2) as usize;
+    let at = (1..=crashes).map(|k| k * apart + random.below(within) as u64);
     let mut at: Vec<u64> = at.collect();
     at.reverse();
     at

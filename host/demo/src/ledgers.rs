@@ -101,7 +101,7 @@ pub fn takings(totals: &[u64]) -> [u64; CLUBS.len()] {
 #[cfg(test)]
 mod tests {
     use super::*;
-    use crate::random::Random;
+    use wire::random::Random;
 
     /// A list of 20 charges, all sent by desk 1, and the entries of them in order.
     fn sent() -> (List, BTreeMap<(u64, u64), usize>, Vec<Entry>) {

@@ -123,12 +123,12 @@ impl<L: Library> Day<'_, L> {
         }
         self.crashes.pop();
         let leader = standings.iter().position(|s| s.leads && s.normal());
-        let some = self.network.random.below(u64::from(REPLICAS)) as usize;
+        let some = self.network.random.below(usize::from(REPLICAS));
         let id = match leader {
             Some(leader) if self.counts.crashes % 2 != 1 => leader,
             _ => some,
         };
-        let back = self.counts.steps + 30 + self.network.random.below(60);
+        let back = self.counts.steps + 30 + self.network.random.below(60) as u64;
         self.machines[id].runs = Err(back);
         self.counts.crashes += 1;
         let leads = if standings[id].leads {

@@ -8,7 +8,6 @@ mod machines;
 mod network;
 mod options;
 mod ours;
-mod random;
 mod teller;
 #[cfg(feature = "vsr-rs")]
 mod theirs;
@@ -19,10 +18,10 @@ use ledgers::Ledgers;
 use library::Library;
 use network::REPEATED;
 use options::{Asked, Options};
-use random::Random;
 use std::process::ExitCode;
 use teller::Teller;
 use whitherhaul::Operation;
+use wire::random::Random;
 
 /// The most lines that are printed of what isn't as it has to be.
 const MOST_WRONG: usize = 12;

@@ -1,12 +1,12 @@
 //! A bad network: what is sent arrives one to six steps later, or twice, or never, and so it also overtakes.
 
-use crate::random::Random;
 use std::collections::BTreeMap;
+use wire::random::Random;
 
 /// The most steps that something is under way.
-const SLOWEST: u64 = 6;
+const SLOWEST: usize = 6;
 /// How much of what arrives arrives once more, in percent.
-pub const REPEATED: u64 = 5;
+pub const REPEATED: usize = 5;
 
 /// How much was sent, and what became of it.
 #[derive(Clone, Default, PartialEq, Eq)]
@@ -20,13 +20,13 @@ pub struct Traffic {
 pub struct Network<P> {
     pub random: Random,
     pub traffic: Traffic,
-    loss: u64,
+    loss: usize,
     under_way: BTreeMap<(u64, u64), P>,
 }
 
 impl<P: Clone> Network<P> {
     /// A network that loses `loss` percent.
-    pub fn new(random: Random, loss: u64) -> Network<P> {
+    pub fn new(random: Random, loss: usize) -> Network<P> {
         Network {
             random,
             traffic: Traffic::default(),
@@ -51,7 +51,7 @@ impl<P: Clone> Network<P> {
 
     /// `copy` parts the two of a parcel that arrives twice.
     fn put(&mut self, now: u64, copy: u64, parcel: P) {
-        let due = now + 1 + self.random.below(SLOWEST);
+        let due = now + 1 + self.random.below(SLOWEST) as u64;
         let place = 2 * self.traffic.sent + copy;
         self.under_way.insert((due, place), parcel);
     }

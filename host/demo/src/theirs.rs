@@ -2,9 +2,10 @@
 
 use crate::clubs::Charge;
 use crate::library::{Answer, Library, Standing};
-use schedules::fees::{self, Ledger};
-use vsr_rs::{Client, Config, Message, Replica};
+use vsr_rs::{Client, Config, Replica};
 use whitherhaul::{Entry, Operation, Outcome, Reply, Setup, Status};
+use wire::fees::{self, Ledger};
+use wire::frames::Fees;
 
 pub struct VsrRs;
 
@@ -14,18 +15,15 @@ pub struct Desk {
     next: u64,
 }
 
-type Letters = Vec<(u8, Message<fees::Entry>)>;
+type Letters = Vec<(u8, Fees)>;
 
 fn config(replicas: u8, timeout: u16) -> Config {
-    let mut config = Config::new();
-    for _ in 0..replicas {
-        config.add_replica();
-    }
+    let mut config = wire::config(usize::from(replicas));
     config.set_primary_timeout(usize::from(timeout));
     config
 }
 
-fn letters(drained: impl Iterator<Item = (usize, Message<fees::Entry>)>) -> Letters {
+fn letters(drained: impl Iterator<Item = (usize, Fees)>) -> Letters {
     drained.map(|(to, message)| (to as u8, message)).collect()
 }
 
@@ -34,19 +32,12 @@ fn reply(reply: vsr_rs::Reply<fees::Outcome>) -> Reply {
         view: reply.view_number as u32,
         client: reply.client_id as u64,
         request: reply.request_number as u64,
-        outcome: match reply.result.code {
-            1 => Outcome::Fee,
-            2 => Outcome::Refund,
-            3 => Outcome::Ask,
-            4 => Outcome::NoMember,
-            5 => Outcome::PastLimit,
-            _ => Outcome::PastTotal,
-        },
+        outcome: Outcome::from_number(reply.result.code).expect("an outcome of the fee rules"),
         total: reply.result.total,
     }
 }
 
-fn answer(replica: &mut Replica<Ledger>) -> Answer<Message<fees::Entry>> {
+fn answer(replica: &mut Replica<Ledger>) -> Answer<Fees> {
     Answer {
         messages: letters(replica.drain_messages()),
         replies: replica.drain_replies().map(reply).collect(),
@@ -55,7 +46,7 @@ fn answer(replica: &mut Replica<Ledger>) -> Answer<Message<fees::Entry>> {
 }
 
 impl Library for VsrRs {
-    type Message = Message<fees::Entry>;
+    type Message = Fees;
     type Replica = Replica<Ledger>;
     type Desk = Desk;
 
@@ -74,15 +65,12 @@ impl Library for VsrRs {
         (replica, asked)
     }
 
-    fn on_message(
-        replica: &mut Replica<Ledger>,
-        message: &Message<fees::Entry>,
-    ) -> Answer<Message<fees::Entry>> {
+    fn on_message(replica: &mut Replica<Ledger>, message: &Fees) -> Answer<Fees> {
         replica.on_message(message.clone());
         answer(replica)
     }
 
-    fn on_idle(replica: &mut Replica<Ledger>) -> Answer<Message<fees::Entry>> {
+    fn on_idle(replica: &mut Replica<Ledger>) -> Answer<Fees> {
         replica.on_idle();
         answer(replica)
     }
@@ -118,15 +106,11 @@ impl Library for VsrRs {
         }
     }
 
-    fn request(desk: &mut Desk, charge: &Charge) -> (u64, (u8, Message<fees::Entry>)) {
+    fn request(desk: &mut Desk, charge: &Charge) -> (u64, (u8, Fees)) {
         let number = desk.client.on_request(fees::Entry {
             client: desk.client.client_id() as u64,
             request: desk.next,
-            operation: match charge.operation {
-                Operation::Fee => fees::FEE,
-                Operation::Refund => fees::REFUND,
-                Operation::Ask => fees::ASK,
-            },
+            operation: charge.operation as u8,
             member: charge.member,
             cents: charge.cents,
         }) as u64;

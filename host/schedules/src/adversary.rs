@@ -1,12 +1,12 @@
 //! A single replica fed frames that are well formed and otherwise anything: own id as sender, stale and far views, view
 //! 4,294,967,295, logs that break the committed prefix, logs that don't rise, numbers past the room.
 
-use crate::fees::{Entry, ASK, FEE, MOST_CENTS, REFUND};
-use crate::frames::Fees;
-use crate::random::Random;
 use crate::run::{Call, Run, Setup, Start};
 use crate::rust::Rust;
 use vsr_rs::{LogEntry, Message, RecoveryState};
+use wire::fees::{Entry, ASK, FEE, MOST_CENTS, REFUND};
+use wire::frames::{prepare, request, Fees};
+use wire::random::Random;
 
 const LAST_VIEW: usize = u32::MAX as usize;
 const MEMBERS: usize = 4;
@@ -21,6 +21,14 @@ pub fn start(random: &mut Random) -> Start {
         }
     } else {
         Start::New
+    }
+}
+
+/// Some cents that the operation may have.
+pub fn cents(random: &mut Random, operation: u8) -> u64 {
+    match operation {
+        ASK => 0,
+        _ => random.pick(&[1, 4_500, MOST_CENTS]),
     }
 }
 
@@ -86,24 +94,15 @@ impl Adversary<'_> {
 
     /// Request, Prepare, PrepareOk, Commit.
     fn normal(&mut self, kind: usize) -> Fees {
-        let op = self.entry(self.rust.replica.log());
-        let (client_id, request_number) = (op.client as usize, op.request as usize);
+        let entry = self.entry(self.rust.replica.log()).logged();
         let view_number = self.view();
         let commit_number = self.near(self.rust.replica.commit_number());
         match kind {
-            1 => Message::Request {
-                client_id,
-                request_number,
-                op,
-            },
-            2 => Message::Prepare {
-                view_number,
-                op_number: self.near(self.rust.replica.op_number() + 1),
-                client_id,
-                request_number,
-                op,
-                commit_number,
-            },
+            1 => request(entry),
+            2 => {
+                let op_number = self.near(self.rust.replica.op_number() + 1);
+                prepare(view_number, op_number, commit_number, entry)
+            }
             3 => Message::PrepareOk {
                 view_number,
                 op_number: self.near(self.rust.replica.op_number()),
@@ -257,12 +256,7 @@ impl Adversary<'_> {
         let mut log = own[..kept].to_vec();
         for _ in 0..self.random.below(4) {
             if log.len() < self.rust.setup.room || self.random.chance(5) {
-                let op = self.entry(&log);
-                log.push(LogEntry {
-                    client_id: op.client as usize,
-                    request_number: op.request as usize,
-                    op,
-                });
+                log.push(self.entry(&log).logged());
             }
         }
         if !log.is_empty() && self.random.chance(12) {
@@ -285,16 +279,12 @@ impl Adversary<'_> {
             _ => 0,
         };
         let operation = self.random.pick(&[FEE, FEE, REFUND, ASK]);
-        let cents = match operation {
-            ASK => 0,
-            _ => self.random.pick(&[1, 4_500, MOST_CENTS]),
-        };
         Entry {
             client,
             request,
             operation,
+            cents: cents(self.random, operation),
             member: self.random.below(self.rust.setup.members + 1) as u32,
-            cents,
         }
     }
 }

@@ -3,47 +3,34 @@
 //! The Rust knows no refusals, and none of these calls is one: every operation keeps the entry rules, and areas are just as long
 //! as what the Rust sent.
 
-use crate::fees::{Entry, ASK, FEE, MOST_CENTS, REFUND};
-use crate::frames::{frame, hex};
+use crate::adversary::cents;
 use crate::inside::{client_inside, ClientInside};
-use crate::random::Random;
+use crate::run::hex;
 use std::collections::BTreeMap;
-use vsr_rs::{Client, Config, Message};
+use vsr_rs::{Client, Message};
+use wire::fees::{Charge, ASK, FEE, REFUND};
+use wire::frames::write_frame;
+use wire::random::Random;
 
 /// How many replicas there are; each has a run of its own.
 const SIZES: [usize; 5] = [3, 4, 5, 6, 7];
 
 /// A client with the lines of its calls, and how often each kind of call was made.
 struct Run {
-    client: Client<Entry>,
+    client: Client<Charge>,
     lines: String,
     kinds: BTreeMap<&'static str, usize>,
 }
 
-/// The frames that the Rust's client has to send, its request numbers counted from `first`. Client and number are those of its
-/// message; the operation given has neither.
-pub fn sent(client: &mut Client<Entry>, first: u64) -> Vec<u8> {
+/// The frames that the Rust's client has to send, its request numbers counted from `first`.
+pub fn sent(client: &mut Client<Charge>, first: u64) -> Vec<u8> {
     let mut bytes = Vec::new();
-    for (to, message) in client.drain() {
-        let Message::Request {
-            client_id,
-            request_number,
-            op,
-        } = message
-        else {
+    for (to, mut message) in client.drain() {
+        let Message::Request { request_number, .. } = &mut message else {
             panic!("a client sends requests only");
         };
-        let op = Entry {
-            client: client_id as u64,
-            request: first + request_number as u64,
-            ..op
-        };
-        let whole = Message::Request {
-            client_id,
-            request_number,
-            op,
-        };
-        bytes.extend(frame(to, &whole));
+        *request_number += first as usize;
+        write_frame(&mut bytes, to, &message);
     }
     bytes
 }
@@ -51,12 +38,8 @@ pub fn sent(client: &mut Client<Entry>, first: u64) -> Vec<u8> {
 impl Run {
     /// A new client of `n` replicas.
     fn new(n: usize, id: u64) -> Run {
-        let mut config = Config::new();
-        for _ in 0..n {
-            config.add_replica();
-        }
         let mut run = Run {
-            client: Client::new(id as usize, config),
+            client: Client::new(id as usize, wire::config(n)),
             lines: String::new(),
             kinds: BTreeMap::new(),
         };
@@ -90,14 +73,11 @@ impl Run {
             Some(_) => "requests in place of another",
             None => "requests",
         });
-        let op = Entry {
-            client: 0,
-            request: 0,
+        self.client.on_request(Charge {
             operation,
             member,
             cents,
-        };
-        self.client.on_request(op);
+        });
         let bytes = sent(&mut self.client, 0);
         let call = format!("Q {operation} {member} {cents} {}", bytes.len());
         self.record(call, 0, &hex(&bytes));
@@ -135,11 +115,7 @@ impl Run {
             0..=3 => {
                 let operation = random.pick(&[FEE, REFUND, ASK]);
                 let member = random.pick(&[0, 1, 4095, 4096, u32::MAX]);
-                let cents = match operation {
-                    ASK => 0,
-                    _ => random.pick(&[1, 4_500, MOST_CENTS]),
-                };
-                self.request(operation, member, cents);
+                self.request(operation, member, cents(random, operation));
             }
             4..=7 => {
                 let i = self.inside();

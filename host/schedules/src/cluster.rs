@@ -1,10 +1,10 @@
 //! A cluster under a bad network: loss, repeats, reordering, replicas cut off for a while, crashes with recovery.
 
-use crate::fees::{Entry, ASK, FEE, MOST_CENTS, REFUND};
-use crate::frames::Fees;
-use crate::random::Random;
+use crate::adversary::cents;
 use crate::run::{Answer, Call, Run, Setup, Start};
-use vsr_rs::Message;
+use wire::fees::{Entry, ASK, FEE, REFUND};
+use wire::frames::{request, Fees};
+use wire::random::Random;
 
 const ROOM: usize = 8;
 const MEMBERS: usize = 4;
@@ -83,12 +83,7 @@ impl Cluster<'_> {
         };
         self.requests[client] = Some(entry);
         for id in 0..self.replicas.len() {
-            let request = Message::Request {
-                client_id: entry.client as usize,
-                request_number: entry.request as usize,
-                op: entry,
-            };
-            self.network.push((id, request));
+            self.network.push((id, request(entry.logged())));
         }
     }
 
@@ -100,10 +95,7 @@ impl Cluster<'_> {
             request: latest.map_or(0, |entry| entry.request + 1),
             operation,
             member: self.random.below(MEMBERS + 1) as u32,
-            cents: match operation {
-                ASK => 0,
-                _ => self.random.pick(&[1, 4_500, MOST_CENTS]),
-            },
+            cents: cents(self.random, operation),
         }
     }
 

@@ -1,9 +1,9 @@
 //! Short runs written by hand, for what chance seldom meets: ties, acks that outlive a NewState, replies that are lost.
 
-use crate::fees::{Entry, FEE, REFUND};
-use crate::frames::Fees;
 use crate::run::{Call, Run, Setup, Start};
 use vsr_rs::{LogEntry, Message, RecoveryState};
+use wire::fees::{Entry, FEE, REFUND};
+use wire::frames::{self, Fees};
 
 /// How the replica of a directed run is made: new, or recovering in a view, with nonce 1.
 pub const NEW: Start = Start::New;
@@ -23,31 +23,15 @@ pub fn fee(client: u64, request: u64) -> Entry {
 }
 
 pub fn logged(entries: &[Entry]) -> Vec<LogEntry<Entry>> {
-    let entry = |e: &Entry| LogEntry {
-        client_id: e.client as usize,
-        request_number: e.request as usize,
-        op: *e,
-    };
-    entries.iter().map(entry).collect()
+    entries.iter().map(|entry| entry.logged()).collect()
 }
 
 pub fn request(op: Entry) -> Fees {
-    Message::Request {
-        client_id: op.client as usize,
-        request_number: op.request as usize,
-        op,
-    }
+    frames::request(op.logged())
 }
 
 pub fn prepare(view_number: usize, op_number: usize, commit_number: usize, op: Entry) -> Fees {
-    Message::Prepare {
-        view_number,
-        op_number,
-        client_id: op.client as usize,
-        request_number: op.request as usize,
-        op,
-        commit_number,
-    }
+    frames::prepare(view_number, op_number, commit_number, op.logged())
 }
 
 pub fn prepare_ok(view_number: usize, op_number: usize, replica_id: usize) -> Fees {

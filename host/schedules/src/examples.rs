@@ -17,11 +17,11 @@ use crate::directed::{
     back, commit, do_view_change, fee, logged, new_state, prepare, prepare_ok, request, response,
     start_view, start_view_change, NEW,
 };
-use crate::fees::{Entry, Outcome, FEE};
-use crate::frames::{frame, reply_frame, Fees};
 use crate::run::{Answer, Call, Run, Setup, Start};
 use expect::*;
 use vsr_rs::{Message, RecoveryState, Reply};
+use wire::fees::{Entry, Outcome, FEE};
+use wire::frames::{frame, reply_frame, Fees};
 
 pub const LAST_VIEW: usize = u32::MAX as usize;
 

@@ -2,8 +2,8 @@
 //! the clock, the votes, the stored messages and the client table; and what its client holds. Top fields stand behind four
 //! spaces there.
 
-use crate::fees::{Entry, Ledger, Outcome};
 use vsr_rs::{Client, Replica};
+use wire::fees::{Charge, Ledger, Outcome};
 
 /// A row of the client table.
 #[derive(Default)]
@@ -58,7 +58,7 @@ pub struct ClientInside {
 }
 
 /// Reads both.
-pub fn client_inside(client: &Client<Entry>) -> ClientInside {
+pub fn client_inside(client: &Client<Charge>) -> ClientInside {
     let text = format!("{client:#?}");
     let pending = field(&text, "pending");
     ClientInside {

@@ -2,14 +2,12 @@
 //! traces with, and what `against` compares the proved library with. How refusals are told, which the Rust hasn't: see `rust`.
 
 pub mod adversary;
+pub mod alone;
 pub mod choose;
 pub mod client;
 pub mod cluster;
 pub mod directed;
 pub mod examples;
-pub mod fees;
-pub mod frames;
 pub mod inside;
-pub mod random;
 pub mod run;
 pub mod rust;

@@ -13,10 +13,10 @@
 //! `client` plays the Rust's client instead, a run of CALLS calls for each number of replicas. `examples` writes the directed
 //! examples: what their calls have to give is written beside them.
 
-use schedules::random::Random;
 use schedules::run::{Mark, Run};
 use schedules::{adversary, choose, client, cluster, directed, examples};
 use std::process::ExitCode;
+use wire::random::Random;
 
 /// How many replicas the clusters have.
 const SIZES: [usize; 4] = [3, 4, 5, 7];

@@ -2,12 +2,12 @@
 //! refusal is told: see `rust`. 9 and 10 are told by what the Rust sent, where a call lends areas of its own lengths
 //! (`call_in`); else they are as long as what it sent. 2 is told by hand (`malformed`), 1 doesn't occur.
 
-use crate::fees::{Ledger, Outcome};
-use crate::frames::{self, entry_bytes, frame, hex, Fees};
 use crate::inside::{inside, Inside, Row};
 use crate::rust::{status_number, Rust};
 use std::fmt::Write;
 use vsr_rs::{Replica, Status};
+use wire::fees::{Ledger, Outcome};
+use wire::frames::{self, entry_bytes, frame, Fees};
 
 pub use crate::rust::{Answer, Call, Setup, Start};
 
@@ -202,4 +202,12 @@ pub fn fnv(bytes: &[u8]) -> u64 {
     bytes.iter().fold(0xcbf2_9ce4_8422_2325, |hash, byte| {
         (hash ^ u64::from(*byte)).wrapping_mul(0x0100_0000_01b3)
     })
+}
+
+/// Lower-case hex, `-` when empty.
+pub fn hex(bytes: &[u8]) -> String {
+    if bytes.is_empty() {
+        return String::from("-");
+    }
+    bytes.iter().map(|byte| format!("{byte:02x}")).collect()
 }

@@ -1,18 +1,19 @@
 //! The unchanged Rust's replica, and how a refusal is told, of which it knows none: where document 01 refuses, it panics, or
 //! goes on outside the sizes.
 //!
-//! 3 to 6 on the frame alone are decided before (`frames::refused`), and such a call isn't given to it. The later causes show in
+//! 3 to 6 on the frame alone are decided before (`alone::refused`), and such a call isn't given to it. The later causes show in
 //! what the Rust does with the call: it panics (5 on a PrepareOk, else 7), its log has more than L entries (4) or no longer
 //! rises (6), its committed entries were altered (7), or its view passes 32 bits (8). Such a call is refused by that number, and
 //! the replica is made anew from the calls before it. So a number is this program's reading of document 01; that there is a
 //! refusal is seen in the Rust.
 
-use crate::fees::{Ledger, Outcome};
-use crate::frames::{self, refused, rising, write_frame, write_reply, Fees};
+use crate::alone::{refused, rising};
 use std::cell::Cell;
 use std::panic::{self, AssertUnwindSafe};
 use std::sync::Once;
-use vsr_rs::{Config, Message, Replica, Reply, Status};
+use vsr_rs::{Message, Replica, Reply, Status};
+use wire::fees::{Ledger, Outcome};
+use wire::frames::{self, write_frame, write_reply, Fees};
 
 /// What a replica is made with.
 #[derive(Clone, Copy, Debug)]
@@ -165,10 +166,7 @@ impl Answer {
 
 /// A new replica of the Rust.
 fn made(setup: Setup, start: Start) -> Replica<Ledger> {
-    let mut config = Config::new();
-    for _ in 0..setup.n {
-        config.add_replica();
-    }
+    let mut config = wire::config(setup.n);
     config.set_primary_timeout(setup.timeout);
     let ledger = Ledger::new(setup.members);
     match start {

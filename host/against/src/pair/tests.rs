@@ -1,9 +1,9 @@
 //! What the comparisons have to notice.
 
 use super::*;
-use schedules::fees::{Entry, FEE};
-use schedules::frames::frame;
 use vsr_rs::Message;
+use wire::fees::{Entry, FEE};
+use wire::frames::frame;
 
 /// A primary of three with a committed fee, and one that isn't.
 fn pair() -> Pair {

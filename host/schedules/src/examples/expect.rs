@@ -1,11 +1,12 @@
 //! What a call of an example has to give, and what of it a call didn't give.
 
-use crate::fees::{Entry, Outcome};
-use crate::frames::{frame, hex, reply_frame, Fees};
 use crate::inside::inside;
+use crate::run::hex;
 use crate::run::{Answer, Run};
 use std::fmt::Debug;
 use vsr_rs::Reply;
+use wire::fees::{Entry, Outcome};
+use wire::frames::{frame, reply_frame, Fees};
 
 /// Places of numbers in FORMAT.md's state line.
 pub const LAST_NORMAL: usize = 2;

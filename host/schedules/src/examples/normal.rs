@@ -1,7 +1,7 @@
 //! Requests, Prepares, acks, replies, heartbeats.
 
 use super::*;
-use crate::fees::{ASK, REFUND};
+use wire::fees::{ASK, REFUND};
 
 /// The tick of a primary of three that has nothing to send again: a Commit to 1 and to 2.
 fn heartbeat(commit_number: usize) -> Expect {

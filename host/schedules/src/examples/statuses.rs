@@ -2,7 +2,7 @@
 //! something in Normal, wherever that can be.
 
 use super::*;
-use crate::frames::KINDS;
+use wire::frames::KINDS;
 
 /// The title of a cell of the table.
 fn cell(status: &str, kind: usize, what: &str) -> String {
