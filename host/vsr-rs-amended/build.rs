@@ -17,9 +17,11 @@ fn main() {
         println!("cargo::rerun-if-changed={}", path.display());
     }
     match amended(&rust, &folder) {
-        Ok(text) => {
+        Ok((text, names)) => {
             fs::write(out.join("amended.rs"), text).expect("the amended text, written");
-            let module = "#[path = \"amended.rs\"]\nmod amended;\n";
+            let module = format!(
+                "#[path = \"amended.rs\"]\nmod amended;\nconst PATCHES: &[&str] = &{names:?};\n"
+            );
             fs::write(out.join("module.rs"), module).expect("its module, written");
         }
         Err(why) => {
@@ -30,8 +32,8 @@ fn main() {
     }
 }
 
-/// The Rust with all patches applied, or why that can't be.
-fn amended(rust: &Path, folder: &Path) -> Result<String, String> {
+/// The Rust with all patches applied, and their names; or why that can't be.
+fn amended(rust: &Path, folder: &Path) -> Result<(String, Vec<String>), String> {
     let text = read(rust)?;
     let mut patches = Vec::new();
     for file in fs::read_dir(folder).map_err(|why| format!("{}: {why}", folder.display()))? {
@@ -47,7 +49,9 @@ fn amended(rust: &Path, folder: &Path) -> Result<String, String> {
         let text = read(&path)?;
         patches.push(Patch { name, text });
     }
-    patch::amended(&text, patches)
+    let mut names: Vec<String> = patches.iter().map(|patch| patch.name.clone()).collect();
+    names.sort();
+    Ok((patch::amended(&text, patches)?, names))
 }
 
 fn read(path: &Path) -> Result<String, String> {

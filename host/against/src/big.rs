@@ -86,7 +86,7 @@ fn grow(random: &mut Random, log: &mut Vec<LogEntry<Entry>>, length: usize, memb
 /// A message that carries the whole log.
 fn whole(random: &mut Random, pair: &Pair, log: &[LogEntry<Entry>]) -> Fees {
     let view = pair.rust.replica.view_number();
-    let (n, id) = (pair.case.setup.n, pair.case.setup.id);
+    let n = pair.case.setup.n;
     let log = log.to_vec();
     let op_number = log.len();
     let committed = pair.rust.replica.commit_number();
@@ -108,7 +108,7 @@ fn whole(random: &mut Random, pair: &Pair, log: &[LogEntry<Entry>]) -> Fees {
             commit_number,
         },
         1 => Message::DoViewChange {
-            view_number: view + 1 + (id + n - (view + 1) % n) % n,
+            view_number: pair.case.setup.led_after(view),
             replica_id: random.below(n),
             last_normal_view: view,
             log,

@@ -1,4 +1,4 @@
-//! The proved library and the unchanged Rust, given the same calls and compared after each.
+//! The proved library and the Rust, as `vsr-rs-amended` has it, given the same calls and compared after each.
 //!
 //! ```text
 //! against [--seconds S] [--seed N] [--schedules K] [--threads T]

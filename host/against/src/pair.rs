@@ -1,4 +1,4 @@
-//! One replica on both sides: the unchanged Rust, and the library. Each call is judged on the Rust first (`schedules::rust`), then
+//! One replica on both sides: the Rust, and the library. Each call is judged on the Rust first (`schedules::rust`), then
 //! given to the library, and all that both show is compared.
 //!
 //! After a call that is done: number, counts, the bytes of messages and replies, the bytes of both areas past the counts, status,

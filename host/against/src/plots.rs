@@ -74,13 +74,11 @@ impl Plot {
 
 /// The next view that this replica leads; its own where it is changing to one that it leads.
 fn led(rust: &Rust) -> usize {
-    let (n, id) = (rust.setup.n, rust.setup.id);
     let view = rust.replica.view_number();
-    if rust.replica.status() == Status::ViewChange && view % n == id {
+    if rust.replica.status() == Status::ViewChange && rust.replica.is_primary() {
         return view;
     }
-    let led = view + 1 + (id + n - (view + 1) % n) % n;
-    led.min(u32::MAX as usize)
+    rust.setup.led_after(view).min(u32::MAX as usize)
 }
 
 /// A fee of a client's next number after this log.

@@ -1,5 +1,6 @@
 //! What is timed: Whitherhaul; vsr-rs as it is, structs handed over; and vsr-rs with the same frames written and read around it.
 
+use std::marker::PhantomData;
 use vsr_rs::Message;
 use whitherhaul::{addressee, raw, Frames, Setup};
 use wire::fees::{Charge, Outcome, Totals};
@@ -52,18 +53,6 @@ pub struct Bytes {
     replies: Vec<u8>,
 }
 
-impl Bytes {
-    fn clear(&mut self) {
-        self.messages.clear();
-        self.replies.clear();
-    }
-
-    fn count(&self) -> (usize, usize) {
-        let count = |bytes| Frames::new(bytes).count();
-        (count(&self.messages), count(&self.replies))
-    }
-}
-
 /// Whitherhaul.
 pub struct Ours;
 
@@ -89,7 +78,7 @@ impl Side for Ours {
 
     fn load(wire: &mut Bytes, frames: &[u8]) {
         wire.clear();
-        wire.messages.extend_from_slice(frames);
+        wire.load(frames);
     }
 
     fn pass(replicas: &mut [Self::Replica], wire: &mut Bytes, next: &mut Bytes) {
@@ -125,23 +114,75 @@ impl Side for Ours {
 
 type Vsr = vsr_rs::Replica<Totals>;
 
-fn vsr(id: u8) -> Vsr {
-    let totals = Totals::new(MEMBERS as usize);
-    Vsr::new(usize::from(id), wire::config(3), totals)
+/// What is under way between replicas of vsr-rs.
+pub trait Parcels: Default {
+    fn clear(&mut self);
+    /// Adds these frames.
+    fn load(&mut self, frames: &[u8]);
+    /// Adds what the replica wants sent.
+    fn drain(&mut self, replica: &mut Vsr);
+    /// Delivers all messages; what comes of it is added to `next`.
+    fn pass(&mut self, replicas: &mut [Vsr], next: &mut Self);
+    fn count(&self) -> (usize, usize);
 }
 
-fn vsr_recover(id: u8, nonce: u64) -> Vsr {
-    let totals = Totals::new(MEMBERS as usize);
-    Vsr::recover(usize::from(id), wire::config(3), totals, 0, nonce)
-}
+/// vsr-rs, with its messages in this form.
+pub struct Theirs<P>(PhantomData<P>);
 
-fn vsr_standing(replica: &Vsr) -> Standing {
-    (
-        replica.view_number() as u64,
-        replica.op_number() as u64,
-        replica.commit_number() as u64,
-        replica.state_machine().0.iter().sum(),
-    )
+/// vsr-rs as it is.
+pub type AsItIs = Theirs<Structs>;
+
+/// vsr-rs with frames around it.
+pub type Framed = Theirs<Bytes>;
+
+impl<P: Parcels> Side for Theirs<P> {
+    type Replica = Vsr;
+    type Wire = P;
+
+    fn new(id: u8) -> Vsr {
+        let totals = Totals::new(MEMBERS as usize);
+        Vsr::new(usize::from(id), wire::config(3), totals)
+    }
+
+    fn renew(replica: &mut Vsr, id: u8) {
+        *replica = Self::new(id);
+    }
+
+    fn recover(replica: &mut Vsr, id: u8, nonce: u64, wire: &mut P) {
+        let totals = Totals::new(MEMBERS as usize);
+        *replica = Vsr::recover(usize::from(id), wire::config(3), totals, 0, nonce);
+        wire.clear();
+        wire.drain(replica);
+    }
+
+    fn load(wire: &mut P, frames: &[u8]) {
+        wire.clear();
+        wire.load(frames);
+    }
+
+    fn pass(replicas: &mut [Vsr], wire: &mut P, next: &mut P) {
+        next.clear();
+        wire.pass(replicas, next);
+    }
+
+    fn tick(replica: &mut Vsr, next: &mut P) {
+        next.clear();
+        replica.on_idle();
+        next.drain(replica);
+    }
+
+    fn count(wire: &P) -> (usize, usize) {
+        wire.count()
+    }
+
+    fn standing(replica: &Vsr) -> Standing {
+        (
+            replica.view_number() as u64,
+            replica.op_number() as u64,
+            replica.commit_number() as u64,
+            replica.state_machine().0.iter().sum(),
+        )
+    }
 }
 
 /// Messages and replies as structs.
@@ -151,74 +192,46 @@ pub struct Structs {
     replies: Vec<vsr_rs::Reply<Outcome>>,
 }
 
-impl Structs {
+impl Parcels for Structs {
     fn clear(&mut self) {
         self.messages.clear();
         self.replies.clear();
+    }
+
+    fn load(&mut self, frames: &[u8]) {
+        self.messages.extend(Frames::new(frames).map(|frame| {
+            let to = addressee(frame).expect("a whole frame");
+            (usize::from(to), read(frame).expect("a good frame"))
+        }));
     }
 
     fn drain(&mut self, replica: &mut Vsr) {
         self.messages.extend(replica.drain_messages());
         self.replies.extend(replica.drain_replies());
     }
-}
 
-/// vsr-rs as it is.
-pub struct AsItIs;
-
-impl Side for AsItIs {
-    type Replica = Vsr;
-    type Wire = Structs;
-
-    fn new(id: u8) -> Vsr {
-        vsr(id)
-    }
-
-    fn renew(replica: &mut Vsr, id: u8) {
-        *replica = vsr(id);
-    }
-
-    fn recover(replica: &mut Vsr, id: u8, nonce: u64, wire: &mut Structs) {
-        *replica = vsr_recover(id, nonce);
-        wire.clear();
-        wire.drain(replica);
-    }
-
-    fn load(wire: &mut Structs, frames: &[u8]) {
-        wire.clear();
-        wire.messages.extend(Frames::new(frames).map(|frame| {
-            let to = addressee(frame).expect("a whole frame");
-            (usize::from(to), read(frame).expect("a good frame"))
-        }));
-    }
-
-    fn pass(replicas: &mut [Vsr], wire: &mut Structs, next: &mut Structs) {
-        next.clear();
-        for (to, message) in wire.messages.drain(..) {
+    fn pass(&mut self, replicas: &mut [Vsr], next: &mut Structs) {
+        for (to, message) in self.messages.drain(..) {
             replicas[to].on_message(message);
             next.drain(&mut replicas[to]);
         }
     }
 
-    fn tick(replica: &mut Vsr, next: &mut Structs) {
-        next.clear();
-        replica.on_idle();
-        next.drain(replica);
-    }
-
-    fn count(wire: &Structs) -> (usize, usize) {
-        (wire.messages.len(), wire.replies.len())
-    }
-
-    fn standing(replica: &Vsr) -> Standing {
-        vsr_standing(replica)
+    fn count(&self) -> (usize, usize) {
+        (self.messages.len(), self.replies.len())
     }
 }
 
-/// vsr-rs with frames around it.
-pub struct Framed;
+impl Parcels for Bytes {
+    fn clear(&mut self) {
+        self.messages.clear();
+        self.replies.clear();
+    }
 
-impl Bytes {
+    fn load(&mut self, frames: &[u8]) {
+        self.messages.extend_from_slice(frames);
+    }
+
     fn drain(&mut self, replica: &mut Vsr) {
         for (to, message) in replica.drain_messages() {
             write_frame(&mut self.messages, to, &message);
@@ -227,33 +240,9 @@ impl Bytes {
             write_reply(&mut self.replies, &reply);
         }
     }
-}
 
-impl Side for Framed {
-    type Replica = Vsr;
-    type Wire = Bytes;
-
-    fn new(id: u8) -> Vsr {
-        vsr(id)
-    }
-
-    fn renew(replica: &mut Vsr, id: u8) {
-        *replica = vsr(id);
-    }
-
-    fn recover(replica: &mut Vsr, id: u8, nonce: u64, wire: &mut Bytes) {
-        *replica = vsr_recover(id, nonce);
-        wire.clear();
-        wire.drain(replica);
-    }
-
-    fn load(wire: &mut Bytes, frames: &[u8]) {
-        Ours::load(wire, frames);
-    }
-
-    fn pass(replicas: &mut [Vsr], wire: &mut Bytes, next: &mut Bytes) {
-        next.clear();
-        for frame in Frames::new(&wire.messages) {
+    fn pass(&mut self, replicas: &mut [Vsr], next: &mut Bytes) {
+        for frame in Frames::new(&self.messages) {
             let to = usize::from(addressee(frame).expect("a whole frame"));
             let message = read(frame).expect("a good frame");
             replicas[to].on_message(message);
@@ -261,17 +250,8 @@ impl Side for Framed {
         }
     }
 
-    fn tick(replica: &mut Vsr, next: &mut Bytes) {
-        next.clear();
-        replica.on_idle();
-        next.drain(replica);
-    }
-
-    fn count(wire: &Bytes) -> (usize, usize) {
-        wire.count()
-    }
-
-    fn standing(replica: &Vsr) -> Standing {
-        vsr_standing(replica)
+    fn count(&self) -> (usize, usize) {
+        let count = |bytes| Frames::new(bytes).count();
+        (count(&self.messages), count(&self.replies))
     }
 }

@@ -211,11 +211,10 @@ impl Adversary<'_> {
     fn view(&mut self) -> usize {
         let view = self.rust.replica.view_number();
         let n = self.rust.setup.n;
-        let led = view + 1 + (self.rust.setup.id + n - (view + 1) % n) % n;
         let chosen = match self.random.below(100) {
             0..=67 => view,
             68..=75 => view + 1,
-            76..=83 => led,
+            76..=83 => self.rust.setup.led_after(view),
             84..=87 => view.saturating_sub(1),
             88..=93 => view + self.random.below(2 * n),
             94..=95 => view + 1_000_000,

@@ -1,4 +1,4 @@
-//! The unchanged Rust's `Client`, given requests, replies and idle calls, and what it answered to each.
+//! The Rust's `Client`, given requests, replies and idle calls, and what it answered to each.
 //!
 //! The Rust knows no refusals, and none of these calls is one: every operation keeps the entry rules, and areas are just as long
 //! as what the Rust sent.
@@ -158,9 +158,9 @@ pub fn trace(seed: u64, calls: usize) -> String {
             *kinds.entry(kind).or_insert(0) += times;
         }
     }
-    let mut text = format!(
-        "# Answers of the unchanged vsr-rs's client, written by host/schedules: seed {seed}.\n"
-    );
+    let rust = crate::answered_by();
+    let mut text =
+        format!("# Answers of {rust}'s client, written by host/schedules: seed {seed}.\n");
     text += &format!("# {} runs, {count} calls\n", SIZES.len());
     for (kind, times) in kinds {
         text += &format!("# {kind}: {times}\n");

@@ -59,6 +59,13 @@ pub fn sized(n: usize, id: usize, timeout: usize, room: usize, title: &str) -> E
     made(n, id, timeout, room, NEW, title)
 }
 
+/// The primary of `n` with A as op 1, not committed.
+fn with_one(n: usize, title: &str) -> Example {
+    let others: Vec<usize> = (1..n).collect();
+    let sent = expect::normal(0, 1, 0).sends(&others, prepare(0, 1, 0, A));
+    fresh(n, 0, title).frame(request(A), sent)
+}
+
 /// Replica `id` of `n`, T = 3, L = 8, M = 8, recovering in a view with nonce 1. It sends a Recovery to each other one.
 pub fn recovered(n: usize, id: usize, view: usize, title: &str) -> Example {
     made(n, id, 3, 8, back(view), title)
@@ -219,8 +226,9 @@ pub fn trace() -> Result<String, String> {
     let runs = all.iter().filter(|example| example.run.is_some()).count();
     let calls: usize = all.iter().map(Example::calls).sum();
     let not_made = all.len() - runs;
+    let rust = crate::answered_by();
     let head = format!(
-        "# Directed examples of document 01's rules, answered by the unchanged vsr-rs; written by host/schedules.\n\
+        "# Directed examples of document 01's rules, answered by {rust}; written by host/schedules.\n\
         # {runs} runs, {calls} calls; {not_made} refused creations. Refusals 1 and 2 are written by hand.\n"
     );
     Ok(head + &all.iter().map(Example::text).collect::<String>())

@@ -1,4 +1,4 @@
-//! Drives the unchanged vsr-rs with document 01's fees, and knows document 01's frames and refusals: what `schedules` writes its
+//! Drives vsr-rs, as `vsr-rs-amended` has it, with document 01's fees, and knows document 01's refusals: what `schedules` writes its
 //! traces with, and what `against` compares the proved library with. How refusals are told, which the Rust hasn't: see `rust`.
 
 pub mod adversary;
@@ -11,3 +11,11 @@ pub mod examples;
 pub mod inside;
 pub mod run;
 pub mod rust;
+
+/// How a trace names the Rust that answered.
+pub fn answered_by() -> &'static str {
+    match vsr_rs::patches() {
+        [] => "the unchanged vsr-rs",
+        _ => "the amended vsr-rs",
+    }
+}

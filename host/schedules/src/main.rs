@@ -1,4 +1,4 @@
-//! Drives the unchanged vsr-rs with fees and writes what it was given and what it answered, in the format of
+//! Drives vsr-rs, as `vsr-rs-amended` has it, with fees and writes what it was given and what it answered, in the format of
 //! `vectors/FORMAT.md`: clusters under a bad network, single replicas under an adversary, and some runs written by hand. The same
 //! words on the command line give the same bytes. How refusals are told, which the Rust hasn't: see `rust`.
 //!
@@ -94,7 +94,8 @@ fn replicas(seed: u64, rounds: usize, most: usize) {
         runs = choose::chosen(runs, &SIZES, most);
     }
     runs.extend(directed::directed());
-    println!("# Answers of the unchanged vsr-rs, written by host/schedules: seed {seed}, {rounds} rounds.");
+    let rust = schedules::answered_by();
+    println!("# Answers of {rust}, written by host/schedules: seed {seed}, {rounds} rounds.");
     print!("{}", counts(&runs));
     for run in &runs {
         print!("{}", run.creation);

@@ -1,4 +1,4 @@
-//! One replica of the unchanged Rust with all calls that it was given, and what it answered to each, as lines of FORMAT.md. How a
+//! One replica of the Rust with all calls that it was given, and what it answered to each, as lines of FORMAT.md. How a
 //! refusal is told: see `rust`. 9 and 10 are told by what the Rust sent, where a call lends areas of its own lengths
 //! (`call_in`); else they are as long as what it sent. 2 is told by hand (`malformed`), 1 doesn't occur.
 

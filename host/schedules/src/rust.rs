@@ -1,4 +1,4 @@
-//! The unchanged Rust's replica, and how a refusal is told, of which it knows none: where document 01 refuses, it panics, or
+//! The Rust's replica, and how a refusal is told, of which it knows none: where document 01 refuses, it panics, or
 //! goes on outside the sizes.
 //!
 //! 3 to 6 on the frame alone are decided before (`alone::refused`), and such a call isn't given to it. The later causes show in
@@ -23,6 +23,14 @@ pub struct Setup {
     pub timeout: usize,
     pub room: usize,
     pub members: usize,
+}
+
+impl Setup {
+    /// The next view behind this one that the replica leads.
+    pub fn led_after(&self, view: usize) -> usize {
+        let next = view + 1;
+        next + (self.id + self.n - next % self.n) % self.n
+    }
 }
 
 /// How it is made: for the first time, or after a crash.

@@ -3,6 +3,12 @@
 #[cfg(test)]
 mod patch;
 
+// The module, and the names of the patches.
 include!(concat!(env!("OUT_DIR"), "/module.rs"));
 
 pub use amended::*;
+
+/// The names of the patches that were applied, in their order.
+pub fn patches() -> &'static [&'static str] {
+    PATCHES
+}

@@ -36,15 +36,10 @@ fn marked() -> Vec<Example> {
 /// A primary of `n` with A as op 1, then B as op 2; nothing is committed.
 fn with_two(n: usize, title: &str) -> Example {
     let others: Vec<usize> = (1..n).collect();
-    fresh(n, 0, title)
-        .frame(
-            request(A),
-            normal(0, 1, 0).sends(&others, prepare(0, 1, 0, A)),
-        )
-        .frame(
-            request(B),
-            normal(0, 2, 0).sends(&others, prepare(0, 2, 0, B)),
-        )
+    with_one(n, title).frame(
+        request(B),
+        normal(0, 2, 0).sends(&others, prepare(0, 2, 0, B)),
+    )
 }
 
 /// How many acks commit, and what they commit.

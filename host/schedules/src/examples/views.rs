@@ -75,12 +75,7 @@ fn later_views() -> Vec<Example> {
 
 /// Replica 0 of `n` with A as op 1, that catches up with view n by an empty NewState: A is gone, its ack is still there.
 fn emptied(n: usize, title: &str) -> Example {
-    let others: Vec<usize> = (1..n).collect();
-    fresh(n, 0, title)
-        .frame(
-            request(A),
-            normal(0, 1, 0).sends(&others, prepare(0, 1, 0, A)),
-        )
+    with_one(n, title)
         .frame(
             commit(n, 0),
             change(n, 1, 0).sends(&[0], get_state(0, n, 0)),
