@@ -38,16 +38,19 @@ pub trait Operation: Clone + Debug {
 }
 
 impl Operation for Charge {
+    #[inline]
     fn new(_: u64, _: u64, charge: Charge) -> Charge {
         charge
     }
 
+    #[inline]
     fn charge(&self) -> Charge {
         *self
     }
 }
 
 impl Operation for Entry {
+    #[inline]
     fn new(client: u64, request: u64, charge: Charge) -> Entry {
         Entry {
             client,
@@ -58,6 +61,7 @@ impl Operation for Entry {
         }
     }
 
+    #[inline]
     fn charge(&self) -> Charge {
         Charge {
             operation: self.operation,
@@ -86,6 +90,7 @@ pub struct Outcome {
 }
 
 /// The fee rules: a charge is applied to the members' totals.
+#[inline]
 fn apply(totals: &mut [u64], charge: Charge) -> Outcome {
     let Some(total) = totals.get_mut(charge.member as usize) else {
         return Outcome { code: 4, total: 0 };
@@ -124,6 +129,7 @@ impl StateMachine for Totals {
     type Input = Charge;
     type Output = Outcome;
 
+    #[inline]
     fn apply(&mut self, charge: Charge) -> Outcome {
         apply(&mut self.0, charge)
     }
@@ -150,6 +156,7 @@ impl StateMachine for Ledger {
     type Input = Entry;
     type Output = Outcome;
 
+    #[inline]
     fn apply(&mut self, entry: Entry) -> Outcome {
         self.applied.push(entry);
         apply(&mut self.totals, entry.charge())

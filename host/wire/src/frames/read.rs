@@ -8,24 +8,29 @@ use vsr_rs::{LogEntry, Message, RecoveryState};
 struct Fields<'a>(&'a [u8]);
 
 impl Fields<'_> {
+    #[inline]
     fn take<const K: usize>(&mut self) -> Option<[u8; K]> {
         let (front, rest) = self.0.split_first_chunk()?;
         self.0 = rest;
         Some(*front)
     }
 
+    #[inline]
     fn one(&mut self) -> Option<usize> {
         self.take().map(|[byte]| usize::from(byte))
     }
 
+    #[inline]
     fn four(&mut self) -> Option<usize> {
         self.take().map(|bytes| u32::from_be_bytes(bytes) as usize)
     }
 
+    #[inline]
     fn eight(&mut self) -> Option<u64> {
         self.take().map(u64::from_be_bytes)
     }
 
+    #[inline]
     fn entry<O: Operation>(&mut self) -> Option<LogEntry<O>> {
         let bytes: [u8; ENTRY] = self.take()?;
         let eight = |at: usize| bytes[at..].first_chunk().map(|b| u64::from_be_bytes(*b));
@@ -35,19 +40,21 @@ impl Fields<'_> {
             member: u32::from_be_bytes([bytes[20], bytes[21], bytes[22], bytes[23]]),
             cents: eight(24)?,
         };
-        let cents = match charge.operation {
-            FEE | REFUND => 1..=MOST_CENTS,
-            ASK => 0..=0,
+        let most = match charge.operation {
+            FEE | REFUND => MOST_CENTS,
+            ASK => 0,
             _ => return None,
         };
-        let kept = cents.contains(&charge.cents) && bytes[17..20] == [0; 3];
-        kept.then(|| LogEntry {
+        let least = u64::from(charge.operation != ASK);
+        let kept = (least..=most).contains(&charge.cents) && bytes[17..20] == [0; 3];
+        kept.then_some(LogEntry {
             client_id: client as usize,
             request_number: request as usize,
             op: O::new(client, request, charge),
         })
     }
 
+    #[inline]
     fn log<O: Operation>(&mut self, count: usize) -> Option<Vec<LogEntry<O>>> {
         if self.0.len() != ENTRY * count {
             return None;
@@ -80,6 +87,7 @@ pub fn read<O: Operation>(frame: &[u8]) -> Option<Message<O>> {
 }
 
 /// Request, Prepare, PrepareOk, Commit.
+#[inline]
 fn normal<O: Operation>(kind: usize, fields: &mut Fields) -> Option<Message<O>> {
     Some(match kind {
         1 => super::request(fields.entry()?),
@@ -100,6 +108,7 @@ fn normal<O: Operation>(kind: usize, fields: &mut Fields) -> Option<Message<O>> 
 }
 
 /// GetState, NewState.
+#[inline]
 fn transfer<O: Operation>(kind: usize, fields: &mut Fields) -> Option<Message<O>> {
     if kind == 5 {
         return Some(Message::GetState {
@@ -120,6 +129,7 @@ fn transfer<O: Operation>(kind: usize, fields: &mut Fields) -> Option<Message<O>
 }
 
 /// StartViewChange, DoViewChange, StartView.
+#[inline]
 fn change<O: Operation>(kind: usize, fields: &mut Fields) -> Option<Message<O>> {
     let view_number = fields.four()?;
     if kind == 9 {
@@ -150,6 +160,7 @@ fn change<O: Operation>(kind: usize, fields: &mut Fields) -> Option<Message<O>> 
 }
 
 /// Recovery, RecoveryResponse.
+#[inline]
 fn recovery<O: Operation>(kind: usize, fields: &mut Fields) -> Option<Message<O>> {
     if kind == 10 {
         return Some(Message::Recovery {

@@ -10,17 +10,14 @@ struct Bytes<'a>(&'a mut Vec<u8>);
 impl Bytes<'_> {
     #[inline]
     fn one(self, number: usize) -> Self {
-        let number = u8::try_from(number).expect("a number of one byte");
-        self.0.push(number);
+        self.0.push(one_byte(number));
         self
     }
 
     #[inline]
     fn fours<const K: usize>(self, numbers: [&usize; K]) -> Self {
-        for number in numbers {
-            let number = u32::try_from(*number).expect("a number of four bytes");
-            self.0.extend_from_slice(&number.to_be_bytes());
-        }
+        let bytes = numbers.map(|number| four_bytes(*number));
+        self.0.extend_from_slice(bytes.as_flattened());
         self
     }
 
@@ -47,6 +44,17 @@ impl Bytes<'_> {
 }
 
 #[inline]
+fn one_byte(number: usize) -> u8 {
+    u8::try_from(number).expect("a number of one byte")
+}
+
+#[inline]
+fn four_bytes(number: usize) -> [u8; 4] {
+    let number = u32::try_from(number).expect("a number of four bytes");
+    number.to_be_bytes()
+}
+
+#[inline]
 fn bytes_of(client: u64, request: u64, charge: Charge) -> [u8; ENTRY] {
     let mut bytes = [0; ENTRY];
     bytes[..8].copy_from_slice(&client.to_be_bytes());
@@ -66,10 +74,10 @@ pub fn entry_bytes(entry: &Entry) -> [u8; ENTRY] {
 #[inline]
 fn framed(out: &mut Vec<u8>, kind: usize, addressee: usize, fields: impl FnOnce(Bytes)) {
     let start = out.len();
-    out.extend_from_slice(&[0, 0, 0, 0, 1]);
-    fields(Bytes(out).one(kind).one(addressee));
-    let length = u32::try_from(out.len() - start - 4).expect("a number of four bytes");
-    out[start..start + 4].copy_from_slice(&length.to_be_bytes());
+    out.extend_from_slice(&[0, 0, 0, 0, 1, one_byte(kind), one_byte(addressee)]);
+    fields(Bytes(out));
+    let length = four_bytes(out.len() - start - 4);
+    out[start..start + 4].copy_from_slice(&length);
 }
 
 /// Writes the frame of a message.
