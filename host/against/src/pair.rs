@@ -217,13 +217,9 @@ impl Pair {
             },
         };
         self.out.needed.clear();
-        for (to, message) in &answer.messages {
-            wire::frames::write_frame(&mut self.out.needed, *to, message);
-        }
+        answer.write_messages(&mut self.out.needed);
         self.reps.needed.clear();
-        for reply in &answer.replies {
-            wire::frames::write_reply(&mut self.reps.needed, reply);
-        }
+        answer.write_replies(&mut self.reps.needed);
         Due {
             number,
             status,

@@ -156,19 +156,29 @@ impl Answer {
     /// The frames of all messages.
     pub fn message_bytes(&self) -> Vec<u8> {
         let mut bytes = Vec::new();
-        for (to, message) in &self.messages {
-            write_frame(&mut bytes, *to, message);
-        }
+        self.write_messages(&mut bytes);
         bytes
+    }
+
+    /// The same, written behind what is there.
+    pub fn write_messages(&self, bytes: &mut Vec<u8>) {
+        for (to, message) in &self.messages {
+            write_frame(bytes, *to, message);
+        }
     }
 
     /// The frames of all replies.
     pub fn reply_bytes(&self) -> Vec<u8> {
         let mut bytes = Vec::new();
-        for reply in &self.replies {
-            write_reply(&mut bytes, reply);
-        }
+        self.write_replies(&mut bytes);
         bytes
+    }
+
+    /// The same, written behind what is there.
+    pub fn write_replies(&self, bytes: &mut Vec<u8>) {
+        for reply in &self.replies {
+            write_reply(bytes, reply);
+        }
     }
 }
 
