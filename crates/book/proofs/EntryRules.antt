@@ -17,10 +17,11 @@ use Rattle.numbers.specs.Numbers.{num, over, putAt, Bytes}
 use Rattle.numbers.proofs.WordLaws.{and-left, and-right, and-true}
 use Rattle.numbers.proofs.NumberLaws.{be-lt, pow-le256, num-front, drop-bytes, take-bytes}
 use Rattle.entries.specs.Entries.{operationOk, entryOf, entryOk, encodeEntry, entriesOk, EntryFits}
+use Rattle.entries.specs.Places.{entryPlace}
 use Rattle.entries.specs.declared.Entry.{Entry}
 use Rattle.entries.proofs.EntryLaws.{entryOk-encode}
-use Rattle.book.specs.Log.{placeOf, withEntries}
-use Rattle.book.proofs.LogLaws.{place-is, place-add, place-next}
+use Rattle.entries.proofs.PlaceLaws.{place-is, place-add, place-next}
+use Rattle.book.specs.Log.{withEntries}
 
 -- the rules see no byte past the entries
 rules-front : (s t : List ℕ) → 32 ≤ length s → entryOk (s ++ t) ≡ entryOk s
@@ -69,7 +70,7 @@ unfolding entryOk entryOf
 ok-entry s p = and-right _ _ p
 
 -- entries written after the first n of a log
-pub written-ok : (n k : ℕ) (log w : List ℕ) → entriesOk n log ≡ true → placeOf n ≤ length log → ((t : List ℕ) → entriesOk k (w ++ t) ≡ true)
+pub written-ok : (n k : ℕ) (log w : List ℕ) → entriesOk n log ≡ true → entryPlace n ≤ length log → ((t : List ℕ) → entriesOk k (w ++ t) ≡ true)
     → entriesOk (n + k) (withEntries n w log) ≡ true
 unfolding withEntries putAt over
 written-ok n k log w p h q =
@@ -79,12 +80,12 @@ written-ok n k log w p h q =
     (ap (entriesOk n) (sym (append-nil (take (32 * n) log))) ∙ ok-taken n log [] l ∙ p) (q (drop (length w) (drop (32 * n) log))))
 
 pub append-ok : (op : ℕ) (log : List ℕ) (e : Entry) → EntryFits e → operationOk (e .operation) (e .cents) ≡ true
-    → placeOf (op + 1) ≤ length log → entriesOk op log ≡ true → entriesOk (op + 1) (withEntries op (encodeEntry e) log) ≡ true
+    → entryPlace (op + 1) ≤ length log → entriesOk op log ≡ true → entriesOk (op + 1) (withEntries op (encodeEntry e) log) ≡ true
 unfolding entriesOk
 append-ok op log e f o h p =
     written-ok op 1 log (encodeEntry e) p (omega (arith, place-next op)) (λ t. and-true _ _ (entryOk-encode e t f ∙ o) refl)
 
-pub part-ok : (op n k : ℕ) (log part : List ℕ) → n ≤ op → placeOf (n + k) ≤ length log → 32 * k ≤ length part
+pub part-ok : (op n k : ℕ) (log part : List ℕ) → n ≤ op → entryPlace (n + k) ≤ length log → 32 * k ≤ length part
     → entriesOk op log ≡ true → entriesOk k part ≡ true → entriesOk (n + k) (withEntries n (take (32 * k) part) log) ≡ true
 part-ok op n k log part g h l p q =
     written-ok n k log (take (32 * k) part) (ok-front op n log g p) (omega (arith, place-add n k)) (λ t. ok-taken k part t l ∙ q)

@@ -1,6 +1,4 @@
--- Laws of the log in a lent run. No other file opens `placeOf`: where an entry stands is cited through these.
---     place-is, place-small, place-next, place-add, place-mono, place-long    places
---     entry-room, entry-is                          what reading an entry asks and gives
+-- Laws of the log in a lent run.
 --     with-part, with-length                        entries written behind the first n
 --     entry-get, append-entries, part-entries       the run as a list of entries
 --     none-next                                     one entry of the log further, by places
@@ -25,74 +23,40 @@ use Rattle.numbers.proofs.WordLaws.{and-both}
 use Rattle.numbers.proofs.RunLaws.{put-part, put-length, put-split}
 use Rattle.numbers.proofs.CellLaws.{cells-get, cells-more, cells-join, cells-front, cells-taken}
 use Rattle.entries.specs.Entries.{entryOf, encodeEntry, entries, EntryFits}
+use Rattle.entries.specs.Places.{entryPlace, entryIn}
 use Rattle.entries.specs.Rising.{breaksAt, follows, rising}
 use Rattle.entries.specs.declared.Entry.{Entry}
 use Rattle.entries.proofs.EntryLaws.{entry-codec}
 use Rattle.entries.proofs.RisingLaws.{fromAt, from-next}
-use Rattle.book.specs.Log.{placeOf, entryIn, withEntries, noneBreaks, risesAfter, isSame, keepsFirst}
-
--- ---- places
-
--- what `place` computes
-pub place-is : (i : ℕ) → 32 * i ≡ placeOf i
-unfolding placeOf
-place-is i = refl
-
-pub place-small : (i : ℕ) → i ≤ 4096 → placeOf i ≤ 131072
-unfolding placeOf
-place-small i h = omega arith
-
-pub place-next : (i : ℕ) → placeOf (i + 1) ≡ placeOf i + 32
-unfolding placeOf
-place-next i = omega arith
-
-pub place-add : (n k : ℕ) → placeOf (n + k) ≡ placeOf n + 32 * k
-unfolding placeOf
-place-add n k = omega arith
-
-pub place-mono : (i n : ℕ) → i ≤ n → placeOf i ≤ placeOf n
-unfolding placeOf
-place-mono i n h = omega arith
-
-pub place-long : (n : ℕ) → 32 * n ≤ placeOf n
-unfolding placeOf
-place-long n = omega arith
-
--- what `entry` asks, of any of the first n entries
-pub entry-room : {i room : ℕ} (n : ℕ) → n ≤ 4096 → placeOf n ≤ room → i < n → (i < 4096) × (placeOf (i + 1) ≤ room)
-entry-room {i} n h g l = (omega arith, omega (arith, place-mono (i + 1) n (omega arith)))
-
-pub entry-is : (log : List ℕ) (i p : ℕ) (e : Entry) → p ≡ placeOf i → e ≡ entryOf (drop p log) → e ≡ entryIn log i
-unfolding entryIn
-entry-is log i p e h q = rw (← h) q
+use Rattle.entries.proofs.PlaceLaws.{place-add, place-long}
+use Rattle.book.specs.Log.{withEntries, noneBreaks, risesAfter, isSame, keepsFirst}
 
 -- ---- entries written
 
 -- what comes back where a writer put es over the front of `&mut log[p..]`
-pub with-part : (log es : List ℕ) {part : List ℕ} (n p : ℕ) → p ≡ placeOf n → part ≡ over es (take (length log - p) (drop p log))
+pub with-part : (log es : List ℕ) {part : List ℕ} (n p : ℕ) → p ≡ entryPlace n → part ≡ over es (take (length log - p) (drop p log))
     → take p log ++ (part ++ drop (length log - p) (drop p log)) ≡ withEntries n es log
 unfolding withEntries
 with-part log es n p h q = put-part log es p q ∙ ap (λ (a : ℕ). putAt a es log) h
 
-pub with-length : (n k : ℕ) (es log : List ℕ) → length es ≡ 32 * k → placeOf (n + k) ≤ length log
+pub with-length : (n k : ℕ) (es log : List ℕ) → length es ≡ 32 * k → entryPlace (n + k) ≤ length log
     → length (withEntries n es log) ≡ length log
 unfolding withEntries
-with-length n k es log e h = put-length (placeOf n) es log (omega (arith, place-add n k))
+with-length n k es log e h = put-length (entryPlace n) es log (omega (arith, place-add n k))
 
 -- ---- as lists of entries
 
 pub entry-get : (n : ℕ) (log : List ℕ) (i : ℕ) (d : Entry) → i < n → getD (entries n log) i d ≡ entryIn log i
-unfolding entryIn placeOf
 entry-get n log i d h = cells-get 32 entryOf n log i d h
 
-pub append-entries : (n : ℕ) (log : List ℕ) (e : Entry) → EntryFits e → placeOf n ≤ length log
+pub append-entries : (n : ℕ) (log : List ℕ) (e : Entry) → EntryFits e → entryPlace n ≤ length log
     → entries (suc n) (withEntries n (encodeEntry e) log) ≡ entries n log ++ e ∷ []
-unfolding withEntries placeOf
+unfolding withEntries
 append-entries n log e f h = cells-more 32 entryOf encodeEntry EntryFits entry-codec n log e f h
 
-pub part-entries : (n : ℕ) (log : List ℕ) (k : ℕ) (part : List ℕ) → placeOf (n + k) ≤ length log → 32 * k ≤ length part
+pub part-entries : (n : ℕ) (log : List ℕ) (k : ℕ) (part : List ℕ) → entryPlace (n + k) ≤ length log → 32 * k ≤ length part
     → entries (n + k) (withEntries n (take (32 * k) part) log) ≡ entries n log ++ entries k part
-unfolding withEntries placeOf putAt over
+unfolding withEntries putAt over
 part-entries n log k part h g =
     let l : 32 * n ≤ length log = omega (arith, h) in
     let w = take (32 * k) part in
@@ -106,7 +70,7 @@ part-entries n log k part h g =
 
 pub none-next : (n : ℕ) (log : List ℕ) (i : ℕ) (e : Entry) (fs : List Entry) → i < n → e ≡ entryIn log i
     → noneBreaks (fromAt n log i) fs ≡ (follows e fs and noneBreaks (fromAt n log (i + 1)) fs)
-unfolding noneBreaks entryIn placeOf
+unfolding noneBreaks
 none-next n log i e fs h q = rw (from-next n log i h, q)
 
 and-assoc : (a b c : Bool) → ((a and b) and c) ≡ (a and (b and c))
@@ -186,7 +150,7 @@ module _ (n : ℕ) (log : List ℕ) (k : ℕ) (part : List ℕ) where
       let p = and-both (leb n k) (isSame (take (32 * n) log) (take (32 * n) part)) h in
       (leb-true n k (p .0), same-eq (take (32 * n) log) (take (32 * n) part) (p .1))
 
-  pub keeps-entries : keepsFirst n log k part ≡ true → placeOf n ≤ length log → 32 * k ≤ length part → entries n log ≡ entries n part
+  pub keeps-entries : keepsFirst n log k part ≡ true → entryPlace n ≤ length log → 32 * k ≤ length part → entries n log ≡ entries n part
   keeps-entries h g f =
       let p = keeps-prefix h in
       sym (cells-taken 32 entryOf encodeEntry EntryFits entry-codec n log (omega (arith, place-long n)))

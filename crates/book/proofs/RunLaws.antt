@@ -18,24 +18,27 @@ use Rattle.numbers.specs.declared.View.{View}
 use Rattle.numbers.proofs.WordLaws.{split}
 use Rattle.numbers.proofs.NumberLaws.{length-big}
 use Rattle.numbers.proofs.RunLaws.{put-part, put-length, over-lend, over-nil}
+use Rattle.entries.specs.Places.{resultPlace, entryIn}
 use Rattle.entries.specs.declared.Entry.{Entry}
+use Rattle.entries.proofs.PlaceLaws.{result-next}
 use Rattle.fees.specs.Fees.{outcomeOf, totalsAfter}
-use Rattle.fees.specs.Results.{resultOf, encodeResult}
+use Rattle.fees.specs.Results.{resultIn, encodeResult}
 use Rattle.fees.specs.declared.Outcome.{Outcome}
 use Rattle.fees.proofs.ResultLaws.{result-codec}
 use Rattle.writers.specs.Writers.{header, reply}
-use Rattle.book.specs.Log.{entryIn}
 use Rattle.book.specs.Runs.{applied, committed, replyTo, replies}
 use Rattle.book.specs.Memory.{Money, money}
 
 -- ---- commits
 
-pub applied-of : (M : ℕ) (e : Entry) (i : ℕ) (r t : List ℕ) {t′ part : List ℕ} (o : Outcome) → o ≡ outcomeOf M t e → t′ ≡ totalsAfter M t e
-    → part ≡ over (encodeResult o) (take (length r - 9 * i) (drop (9 * i) r))
-    → money (take (9 * i) r ++ (part ++ drop (length r - 9 * i) (drop (9 * i) r))) t′ ≡ applied M e i (money r t)
+pub applied-of : (M : ℕ) (e : Entry) (i : ℕ) (r t : List ℕ) {t′ part : List ℕ} (o : Outcome) (at : ℕ) → o ≡ outcomeOf M t e → t′ ≡ totalsAfter M t e
+    → at ≡ resultPlace i → part ≡ over (encodeResult o) (take (length r - at) (drop at r))
+    → money (take at r ++ (part ++ drop (length r - at) (drop at r))) t′ ≡ applied M e i (money r t)
 unfolding applied
-applied-of M e i r t o p q w =
-    let a = put-part r (encodeResult o) (9 * i) w ∙ ap (λ (y : Outcome). putAt (9 * i) (encodeResult y) r) p in
+applied-of M e i r t o at p q h w =
+    let a = put-part r (encodeResult o) at w
+    ∙ ap (λ (y : Outcome). putAt at (encodeResult y) r) p
+    ∙ ap (λ (b : ℕ). putAt b (encodeResult (outcomeOf M t e)) r) h in
     λ j. money (a j) (q j)
 
 pub commit-none : (M : ℕ) (log : List ℕ) (from : ℕ) (x : Money) → x ≡ committed M log from 0 x
@@ -55,12 +58,12 @@ totals-length M s e h =
     (λ l. put-length (8 * e .member) w s (omega (arith, length-big 8 (outcomeOf M s e .total), ltb-true (e .member) M l)))
     (λ l. refl)
 
-pub applied-lengths : (M : ℕ) (e : Entry) (i : ℕ) (x : Money) → 8 * M ≤ length (x .totals) → 9 * i + 9 ≤ length (x .results)
+pub applied-lengths : (M : ℕ) (e : Entry) (i : ℕ) (x : Money) → 8 * M ≤ length (x .totals) → resultPlace (i + 1) ≤ length (x .results)
     → (length (applied M e i x .results) ≡ length (x .results)) × (length (applied M e i x .totals) ≡ length (x .totals))
 unfolding applied
 applied-lengths M e i x h g =
     let o = outcomeOf M (x .totals) e in
-    (put-length (9 * i) (encodeResult o) (x .results) (omega (arith, result-codec .width o)), totals-length M (x .totals) e h)
+    (put-length (resultPlace i) (encodeResult o) (x .results) (omega (arith, result-next i, result-codec .width o)), totals-length M (x .totals) e h)
 
 pub committed-lengths : (M : ℕ) (log : List ℕ) (from k : ℕ) (x : Money) → 8 * M ≤ length (x .totals) → 9 * (from + k) ≤ length (x .results)
     → (length (committed M log from k x .results) ≡ length (x .results)) × (length (committed M log from k x .totals) ≡ length (x .totals))
@@ -81,16 +84,16 @@ pub replies-length : (v : View) (log results : List ℕ) (from k : ℕ) → leng
 unfolding replies
 replies-length v log results from zero = refl
 replies-length v log results from (suc k) =
-    let w = replyTo v (entryIn log (from + k)) (resultOf (drop (9 * (from + k)) results)) in
+    let w = replyTo v (entryIn log (from + k)) (resultIn results (from + k)) in
     length-append (replies v log results from k) w
-    ∙ omega (arith, replies-length v log results from k, reply-length v (entryIn log (from + k)) (resultOf (drop (9 * (from + k)) results)))
+    ∙ omega (arith, replies-length v log results from k, reply-length v (entryIn log (from + k)) (resultIn results (from + k)))
 
 pub replies-none : (v : View) (log results : List ℕ) (from : ℕ) (a : List ℕ) → a ≡ over (replies v log results from 0) a
 unfolding replies
 replies-none v log results from a = over-nil a
 
 pub replies-more : (v : View) (log results : List ℕ) (from k : ℕ) (a cur : List ℕ) {part : List ℕ} (e : Entry) (o : Outcome)
-    → cur ≡ over (replies v log results from k) a → e ≡ entryIn log (from + k) → o ≡ resultOf (drop (9 * (from + k)) results)
+    → cur ≡ over (replies v log results from k) a → e ≡ entryIn log (from + k) → o ≡ resultIn results (from + k)
     → part ≡ over (reply v (e .client) (e .request) (o .code) (o .total)) (take (length cur - 36 * k) (drop (36 * k) cur))
     → take (36 * k) cur ++ (part ++ drop (length cur - 36 * k) (drop (36 * k) cur)) ≡ over (replies v log results from (k + 1)) a
 unfolding replies replyTo

@@ -1,27 +1,19 @@
--- The log in a lent run, 32 bytes an entry: where an op's entry stands, what an append or an install leaves, and the tests of refusals 6 and 7 on a
--- log that is carried in. Assumes nothing.
+-- The log in a lent run, 32 bytes an entry: what an append or an install leaves, and the tests of refusals 6 and 7 on a log that is carried in.
+-- Assumes nothing.
 use mathlib.Core.Bool.{Bool, true, false}
 use mathlib.Core.List.{List, [], _∷_}
 use Prim.Native.Nat.{ℕ, _*_}
 use lib.Dec.{leb, eqb}
-use lib.ListN.{take, drop}
+use lib.ListN.{take}
 use Rattle.numbers.specs.Words.{_and_}
 use Rattle.numbers.specs.Numbers.{putAt}
-use Rattle.entries.specs.Entries.{entryOf}
+use Rattle.entries.specs.Places.{entryPlace}
 use Rattle.entries.specs.Rising.{follows, rising}
 use Rattle.entries.specs.declared.Entry.{Entry}
 
--- where the entry after the first i begins: that of op number i + 1
-unfoldable pub placeOf : ℕ → ℕ
-placeOf i = 32 * i
-
--- that entry
-unfoldable pub entryIn : List ℕ → ℕ → Entry
-entryIn log i = entryOf (drop (placeOf i) log)
-
 -- the bytes of entries after the first n
 unfoldable pub withEntries : ℕ → List ℕ → List ℕ → List ℕ
-withEntries n es log = putAt (placeOf n) es log
+withEntries n es log = putAt (entryPlace n) es log
 
 -- no entry of fs breaks with an entry of es, which stand before them
 unfoldable pub noneBreaks : List Entry → List Entry → Bool

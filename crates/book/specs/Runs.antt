@@ -1,21 +1,20 @@
 -- Results and totals in lent runs, 9 bytes a result, 8 a total: what a commit leaves there; and the replies that are written out of log and
 -- results. Assumes nothing.
 use mathlib.Core.List.{List, [], _++_}
-use Prim.Native.Nat.{ℕ, zero, suc, _+_, _*_}
-use lib.ListN.{drop}
+use Prim.Native.Nat.{ℕ, zero, suc, _+_}
 use Rattle.numbers.specs.Numbers.{putAt}
 use Rattle.numbers.specs.declared.View.{View}
+use Rattle.entries.specs.Places.{resultPlace, entryIn}
 use Rattle.entries.specs.declared.Entry.{Entry}
 use Rattle.fees.specs.Fees.{outcomeOf, totalsAfter}
-use Rattle.fees.specs.Results.{resultOf, encodeResult}
+use Rattle.fees.specs.Results.{resultIn, encodeResult}
 use Rattle.fees.specs.declared.Outcome.{Outcome}
 use Rattle.writers.specs.Writers.{reply}
 use Rattle.book.specs.Memory.{Money, money}
-use Rattle.book.specs.Log.{entryIn}
 
 -- the entry of op number i + 1 goes through the fee rules of M members: one result more, its member's total changed
 unfoldable pub applied : (M : ℕ) → Entry → (i : ℕ) → Money → Money
-applied M e i x = money (putAt (9 * i) (encodeResult (outcomeOf M (x .totals) e)) (x .results)) (totalsAfter M (x .totals) e)
+applied M e i x = money (putAt (resultPlace i) (encodeResult (outcomeOf M (x .totals) e)) (x .results)) (totalsAfter M (x .totals) e)
 
 -- commit_up_to: the k entries after the first `from`, in order
 unfoldable pub committed : (M : ℕ) (log : List ℕ) (from k : ℕ) → Money → Money
@@ -30,4 +29,4 @@ replyTo v e o = reply v (e .client) (e .request) (o .code) (o .total)
 unfoldable pub replies : View → (log results : List ℕ) (from k : ℕ) → List ℕ
 replies v log results from zero = []
 replies v log results from (suc k) =
-    replies v log results from k ++ replyTo v (entryIn log (from + k)) (resultOf (drop (9 * (from + k)) results))
+    replies v log results from k ++ replyTo v (entryIn log (from + k)) (resultIn results (from + k))

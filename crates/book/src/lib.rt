@@ -4,55 +4,40 @@ ghost use Prim.Native.Nat.{_+_, _*_, _≤_, _<_};
 ghost use lib.ListN.{length, take};
 ghost use Rattle.numbers.specs.Numbers.{over};
 ghost use Rattle.entries.specs.Entries.{encodeEntry, entries};
-ghost use Rattle.book.specs.Log.{placeOf, entryIn, withEntries, risesAfter, noneBreaks, isSame, keepsFirst};
+ghost use Rattle.entries.specs.Places.{entryPlace, resultPlace};
+ghost use Rattle.book.specs.Log.{withEntries, risesAfter, noneBreaks, isSame, keepsFirst};
 ghost use Rattle.book.specs.Runs.{applied, committed, replies};
 ghost use Rattle.book.specs.Memory.{money};
 use entries::Entry;
 use numbers::View;
 
-// Where the entry of op number i + 1 begins in the log.
-pub fn place(i: usize) -> usize
-    requires { ⌜ i ≤ 4096 ⌝ }
-    ensures { λ r. ⌜ r ≡ placeOf i ⌝ }
-{
-    32 * i
-}
-
-// The entry of op number i + 1.
-pub fn entry(log: &[u8], i: usize) -> Entry
-    requires { ⌜ (i < 4096) × (placeOf (i + 1) ≤ length (now log)) ⌝ }
-    ensures { λ r. ⌜ r ≡ entryIn (now (log .entry)) i ⌝ }
-{
-    entries::entry_at(log, place(i))
-}
-
 // One entry after the first n.
 pub fn append(log: &mut [u8], n: usize, e: Entry)
-    requires { ⌜ (n < 4096) × (placeOf (n + 1) ≤ length (now log)) ⌝ }
+    requires { ⌜ (n < 4096) × (entryPlace (n + 1) ≤ length (now log)) ⌝ }
     ensures { λ r. ⌜ now (log .exit) ≡ withEntries n (encodeEntry e) (now (log .entry)) ⌝ }
 {
-    let p = place(n);
+    let p = entries::entry_place(n);
     entries::write_entry(&mut log[p..], e);
 }
 
 // The first k entries of `part` after the first n. With n = 0 a log is installed.
 pub fn append_part(log: &mut [u8], n: usize, part: &[u8], k: usize)
-    requires { ⌜ (n + k ≤ 4096) × ((placeOf (n + k) ≤ length (now log)) × (32 * k ≤ length (now part))) ⌝ }
+    requires { ⌜ (n + k ≤ 4096) × ((entryPlace (n + k) ≤ length (now log)) × (32 * k ≤ length (now part))) ⌝ }
     ensures { λ r. ⌜ now (log .exit) ≡ withEntries n (take (32 * k) (now (part .entry))) (now (log .entry)) ⌝ }
 {
-    let p = place(n);
+    let p = entries::entry_place(n);
     numbers::copy(&mut log[p..], part, 32 * k);
 }
 
 // Whether none of the first k entries of `part` breaks with one of the first n of the log. The look stops at the first pair that does.
 fn none_breaks(log: &[u8], n: usize, part: &[u8], k: usize) -> bool
-    requires { ⌜ (n ≤ 4096) × ((placeOf n ≤ length (now log)) × (32 * k ≤ length (now part))) ⌝ }
+    requires { ⌜ (n ≤ 4096) × ((entryPlace n ≤ length (now log)) × (32 * k ≤ length (now part))) ⌝ }
     ensures { λ r. ⌜ r ≡ noneBreaks (entries n (now (log .entry))) (entries k (now (part .entry))) ⌝ }
 {
     let mut ok = true;
     let mut i = 0;
     'pairs: while i < n {
-        let e = entry(log, i);
+        let e = entries::entry_in(log, i);
         let mut j = 0;
         while j < k {
             if entries::breaks(e, part, 32 * j) {
@@ -68,7 +53,7 @@ fn none_breaks(log: &[u8], n: usize, part: &[u8], k: usize) -> bool
 
 // Whether the first n entries of a log that is rising, followed by the first k of `part`, are rising.
 pub fn rises_after(log: &[u8], n: usize, part: &[u8], k: usize) -> bool
-    requires { ⌜ (n ≤ 4096) × ((placeOf n ≤ length (now log)) × (32 * k ≤ length (now part))) ⌝ }
+    requires { ⌜ (n ≤ 4096) × ((entryPlace n ≤ length (now log)) × (32 * k ≤ length (now part))) ⌝ }
     ensures { λ r. ⌜ r ≡ risesAfter (entries n (now (log .entry))) (entries k (now (part .entry))) ⌝ }
 {
     if !none_breaks(log, n, part, k) {
@@ -94,7 +79,7 @@ fn same(xs: &[u8], ys: &[u8], n: usize) -> bool
 
 // Whether a log of k entries in `part` keeps the first n of ours, all 32 bytes of each.
 pub fn keeps(log: &[u8], n: usize, part: &[u8], k: usize) -> bool
-    requires { ⌜ (n ≤ 4096) × ((placeOf n ≤ length (now log)) × (32 * k ≤ length (now part))) ⌝ }
+    requires { ⌜ (n ≤ 4096) × ((entryPlace n ≤ length (now log)) × (32 * k ≤ length (now part))) ⌝ }
     ensures { λ r. ⌜ r ≡ keepsFirst n (now (log .entry)) k (now (part .entry)) ⌝ }
 {
     if k < n {
@@ -105,11 +90,12 @@ pub fn keeps(log: &[u8], n: usize, part: &[u8], k: usize) -> bool
 
 // The entry of op number i + 1 goes through the fee rules; what it gave is the result of that op.
 fn commit_one(results: &mut [u8], totals: &mut [u8], members: u32, e: Entry, i: usize)
-    requires { ⌜ (8 * members ≤ length (now totals)) × (9 * i + 9 ≤ length (now results)) ⌝ }
+    requires { ⌜ (8 * members ≤ length (now totals)) × (resultPlace (i + 1) ≤ length (now results)) ⌝ }
     ensures { λ r. ⌜ money (now (results .exit)) (now (totals .exit)) ≡ applied members e i (money (now (results .entry)) (now (totals .entry))) ⌝ }
 {
     let o = fees::apply(totals, members, e);
-    fees::write_result(&mut results[9 * i..], o);
+    let p = entries::result_place(i);
+    fees::write_result(&mut results[p..], o);
 }
 
 // `count` ops after the first `from`, in order.
@@ -121,13 +107,13 @@ pub fn commit_up_to(
     from: usize,
     count: usize,
 )
-    requires { ⌜ (from + count ≤ 4096) × ((8 * members ≤ length (now totals)) × ((9 * (from + count) ≤ length (now results)) × (placeOf (from + count) ≤ length (now log)))) ⌝ }
+    requires { ⌜ (from + count ≤ 4096) × ((8 * members ≤ length (now totals)) × ((9 * (from + count) ≤ length (now results)) × (entryPlace (from + count) ≤ length (now log)))) ⌝ }
     ensures { λ r. ⌜ money (now (results .exit)) (now (totals .exit)) ≡ committed members (now (log .entry)) from count (money (now (results .entry)) (now (totals .entry))) ⌝ }
 {
     let mut k = 0;
     while k < count {
         let i = from + k;
-        commit_one(results, totals, members, entry(log, i), i);
+        commit_one(results, totals, members, entries::entry_in(log, i), i);
         k += 1;
     }
 }
@@ -141,14 +127,14 @@ pub fn write_replies(
     count: usize,
     area: &mut [u8],
 )
-    requires { ⌜ (from + count ≤ 4096) × ((36 * count ≤ length (now area)) × ((9 * (from + count) ≤ length (now results)) × (placeOf (from + count) ≤ length (now log)))) ⌝ }
+    requires { ⌜ (from + count ≤ 4096) × ((36 * count ≤ length (now area)) × ((9 * (from + count) ≤ length (now results)) × (entryPlace (from + count) ≤ length (now log)))) ⌝ }
     ensures { λ r. ⌜ now (area .exit) ≡ over (replies v (now (log .entry)) (now (results .entry)) from count) (now (area .entry)) ⌝ }
 {
     let mut k = 0;
     while k < count {
         let i = from + k;
-        let e = entry(log, i);
-        let o = fees::result_at(results, 9 * i);
+        let e = entries::entry_in(log, i);
+        let o = fees::result_in(results, i);
         writers::write_reply(&mut area[36 * k..], v, e.client, e.request, o.code, o.total);
         k += 1;
     }

@@ -13,6 +13,8 @@ use Rattle.numbers.specs.Numbers.{over, putAt, Wrote}
 use Rattle.numbers.proofs.WordLaws.{split, split₂}
 use Rattle.numbers.proofs.RunLaws.{over-lend, over-nil, length-over, put-part}
 use Rattle.numbers.specs.declared.Op.{Op}
+use Rattle.entries.specs.Places.{entryPlace, ackPlace}
+use Rattle.entries.proofs.PlaceLaws.{place-is, place-mono}
 use Rattle.config.specs.Setup.{setupOk}
 use Rattle.config.specs.Replicas.{withMember}
 use Rattle.config.specs.declared.Setup.{Setup}
@@ -20,8 +22,6 @@ use Rattle.config.proofs.SetupLaws.{sized}
 use Rattle.frames.specs.declared.Message.the-variants.{StartView}
 use Rattle.writers.specs.Writers.{sizeOf, lengthOf, toOthers}
 use Rattle.writers.proofs.WriterLaws.{others-length}
-use Rattle.book.specs.Log.{placeOf}
-use Rattle.book.proofs.LogLaws.{place-is, place-mono}
 use Rattle.book.specs.Runs.{replies}
 use Rattle.book.specs.Memory.{money, Runs, runs}
 use Rattle.state.specs.State.{withLog, normalIn}
@@ -169,15 +169,16 @@ module _ (u : Replica) (acks : List ℕ) (l : u .commit .0 ≤ u .op .0) (g : u 
         f,
       )
 
-  pub acks-anew : (b : ℕ) (cur part : List ℕ) → cur ≡ over (replicate (u .setup .room) 0) acks → b ≡ withMember 0 (u .setup .id)
-      → part ≡ over (replicate (u .op .0 - u .commit .0) b) (take (length cur - u .commit .0) (drop (u .commit .0) cur))
-      → take (u .commit .0) cur ++ (part ++ drop (length cur - u .commit .0) (drop (u .commit .0) cur)) ≡ over (ownAcks u) acks
+  pub acks-anew : (c b : ℕ) (cur part : List ℕ) → c ≡ ackPlace (u .commit .0) → cur ≡ over (replicate (u .setup .room) 0) acks → b ≡ withMember 0 (u .setup .id)
+      → part ≡ over (replicate (u .op .0 - u .commit .0) b) (take (length cur - c) (drop c cur))
+      → take c cur ++ (part ++ drop (length cur - c) (drop c cur)) ≡ over (ownAcks u) acks
   unfolding ownAcks
-  acks-anew b cur part p e q =
+  acks-anew c b cur part h p e q =
       let k = u .op .0 - u .commit .0 in
       let z = replicate {A = ℕ} (u .setup .room - u .op .0) 0 in
       let x = replicate {A = ℕ} (u .commit .0) 0 in
-      put-part cur (replicate k b) (u .commit .0) q
+      put-part cur (replicate k b) c q
+      ∙ ap (λ (a : ℕ). putAt a (replicate k b) cur) h
       ∙ (ap (putAt (u .commit .0) (replicate k b)) (p ∙ ap (λ (w : List ℕ). over w acks) none-split)
       ∙ (put-middle x (replicate {A = ℕ} k 0) (replicate k b) z acks (length-replicate {A = ℕ} k 0 ∙ sym (length-replicate k b))
       (u .commit .0) (length-replicate {A = ℕ} (u .commit .0) 0)
@@ -215,7 +216,7 @@ module _ (t : Replica) (o g : Op) (log results totals : List ℕ) (h : Sound (en
         → (t .commit .0 + (u .commit .0 - t .commit .0) ≤ 4096)
         × ((36 * (u .commit .0 - t .commit .0) ≤ k)
         × ((9 * (t .commit .0 + (u .commit .0 - t .commit .0)) ≤ m)
-        × (placeOf (t .commit .0 + (u .commit .0 - t .commit .0)) ≤ length log)))
+        × (entryPlace (t .commit .0 + (u .commit .0 - t .commit .0)) ≤ length log)))
     replies-fit m k f c =
         let z = sized (t .setup) (h .sized) in
         let x : t .commit .0 + (u .commit .0 - t .commit .0) ≤ t .setup .room = omega (arith, rises, l, h .commit-le, h .op-le) in

@@ -8,6 +8,7 @@ use lib.ListN.{length, take, replicate}
 use Rattle.numbers.specs.Words.{if_then_else_}
 use Rattle.numbers.specs.Numbers.{over}
 use Rattle.numbers.specs.declared.Op.{Op}
+use Rattle.entries.specs.Places.{ackPlace}
 use Rattle.config.specs.Setup.{setupOk}
 use Rattle.config.specs.Replicas.{withMember}
 use Rattle.frames.specs.declared.Message.the-variants.{StartView}
@@ -39,9 +40,9 @@ startViewsOf s log = toOthers (s .setup .n) (s .setup .id) (StartView (s .view) 
 -- acks of a view that begins: our own for each op that isn't committed, none for the others
 unfoldable pub ownAcks : Replica → List ℕ
 ownAcks s =
-    replicate (s .commit .0) 0
+    replicate (ackPlace (s .commit .0)) 0
     ++ replicate (s .op .0 - s .commit .0) (withMember 0 (s .setup .id))
-    ++ replicate (s .setup .room - s .op .0) 0
+    ++ replicate (s .setup .room - ackPlace (s .op .0)) 0
 
 -- Normal in its view, with a log of o entries
 abbrev pub entered : Replica → Op → Replica

@@ -65,7 +65,7 @@ fn own_acks(u: Replica, acks: &mut [u8])
     requires { ⌜ (setupOk (u .setup) ≡ true) × ((u .commit .0 ≤ u .op .0) × ((u .op .0 ≤ u .setup .room) × (length (now acks) ≡ acksLength (u .setup)))) ⌝ }
     ensures { λ r. ⌜ now (acks .exit) ≡ over (ownAcks u) (now (acks .entry)) ⌝ }
 {
-    let c = u.commit.0 as usize;
+    let c = entries::ack_place(u.commit.0 as usize);
     let k = (u.op.0 - u.commit.0) as usize;
     numbers::fill(acks, u.setup.room as usize, 0);
     numbers::fill(&mut acks[c..], k, config::insert(0, u.setup.id));

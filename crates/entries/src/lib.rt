@@ -1,9 +1,10 @@
-// The 32-byte entry, the entry rules, runs of entries, and the look over pairs of them.
+// The 32-byte entry, the entry rules, runs of entries, and the look over pairs of them; where an op has its cell in log, results and acks.
 ghost use mathlib.Core.Path.{_≡_};
-ghost use Prim.Native.Nat.{_+_, _*_, _≤_};
+ghost use Prim.Native.Nat.{_+_, _*_, _^_, _≤_, _<_};
 ghost use lib.ListN.{length, drop};
 ghost use Rattle.numbers.specs.Numbers.{over};
 ghost use Rattle.entries.specs.Entries.{operationNumber, operationOf, operationOk, entryOf, entryOk, encodeEntry, entries, entriesOk};
+ghost use Rattle.entries.specs.Places.{cellOf, entryPlace, resultPlace, ackPlace, entryIn};
 ghost use Rattle.entries.specs.Rising.{breaksAt, rising};
 
 // A charge as a client asks for it. The operation is the wire's byte: memory that no call produced may hold any.
@@ -66,6 +67,44 @@ pub fn entry_at(s: &[u8], at: usize) -> Entry
         member: numbers::read_u32(s, at + 20),
         cents: numbers::read_u64(s, at + 24),
     }
+}
+
+// The cell of op number i + 1 in log, results and acks, counted from 0. All its places are computed from this one.
+fn cell_of(i: usize) -> usize
+    ensures { λ r. ⌜ r ≡ cellOf i ⌝ }
+{
+    i
+}
+
+// Where the entry of op number i + 1 begins in the log.
+pub fn entry_place(i: usize) -> usize
+    requires { ⌜ entryPlace i < 2 ^ 64 ⌝ }
+    ensures { λ r. ⌜ r ≡ entryPlace i ⌝ }
+{
+    32 * cell_of(i)
+}
+
+// Where the result of op number i + 1 begins in the results.
+pub fn result_place(i: usize) -> usize
+    requires { ⌜ resultPlace i < 2 ^ 64 ⌝ }
+    ensures { λ r. ⌜ r ≡ resultPlace i ⌝ }
+{
+    9 * cell_of(i)
+}
+
+// Where the row of acks of op number i + 1 stands.
+pub fn ack_place(i: usize) -> usize
+    ensures { λ r. ⌜ r ≡ ackPlace i ⌝ }
+{
+    cell_of(i)
+}
+
+// The entry of op number i + 1.
+pub fn entry_in(log: &[u8], i: usize) -> Entry
+    requires { ⌜ entryPlace (i + 1) ≤ length (now log) ⌝ }
+    ensures { λ r. ⌜ r ≡ entryIn (now (log .entry)) i ⌝ }
+{
+    entry_at(log, entry_place(i))
 }
 
 // Whether the 32 bytes at place `at` keep the entry rules.

@@ -3,8 +3,9 @@ ghost use mathlib.Core.Path.{_≡_};
 ghost use Prim.Native.Nat.{_+_, _*_, _≤_};
 ghost use lib.ListN.{length, drop};
 ghost use Rattle.numbers.specs.Numbers.{over};
+ghost use Rattle.entries.specs.Places.{resultPlace};
 ghost use Rattle.fees.specs.Fees.{rule, outcomeOf, totalsAfter};
-ghost use Rattle.fees.specs.Results.{resultOf, encodeResult};
+ghost use Rattle.fees.specs.Results.{resultOf, resultIn, encodeResult};
 use entries::Entry;
 use entries::Operation;
 
@@ -80,6 +81,14 @@ pub fn result_at(s: &[u8], at: usize) -> Outcome
         code: numbers::read_u8(s, at),
         total: numbers::read_u64(s, at + 1),
     }
+}
+
+// The result of op number i + 1.
+pub fn result_in(results: &[u8], i: usize) -> Outcome
+    requires { ⌜ resultPlace (i + 1) ≤ length (now results) ⌝ }
+    ensures { λ r. ⌜ r ≡ resultIn (now (results .entry)) i ⌝ }
+{
+    result_at(results, entries::result_place(i))
 }
 
 // A result's 9 bytes over the front of the area.

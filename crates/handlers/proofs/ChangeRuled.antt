@@ -10,10 +10,10 @@ use Rattle.numbers.specs.declared.View.{View}
 use Rattle.numbers.specs.declared.Op.{Op}
 use Rattle.numbers.proofs.WordLaws.{split}
 use Rattle.entries.specs.Entries.{entriesOk}
+use Rattle.entries.proofs.PlaceLaws.{place-is}
 use Rattle.config.proofs.SetupLaws.{sized}
 use Rattle.frames.specs.declared.RecoveryState.{RecoveryState}
 use Rattle.book.specs.Log.{withEntries}
-use Rattle.book.proofs.LogLaws.{place-is}
 use Rattle.book.proofs.EntryRules.{part-ok}
 use Rattle.state.specs.State.{withLog, normalIn, changingTo, withStart, withSent}
 use Rattle.state.specs.declared.Replica.{Replica}

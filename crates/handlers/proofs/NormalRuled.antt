@@ -10,10 +10,10 @@ use Rattle.numbers.specs.declared.Op.{Op}
 use Rattle.numbers.proofs.WordLaws.{split}
 use Rattle.entries.specs.Entries.{operationOk, encodeEntry, entriesOk, EntryFits}
 use Rattle.entries.specs.declared.Entry.{Entry}
+use Rattle.entries.proofs.PlaceLaws.{place-is}
 use Rattle.rows.specs.declared.Latest.{Latest}
 use Rattle.frames.specs.declared.Status.the-variants.{Normal}
 use Rattle.book.specs.Log.{withEntries}
-use Rattle.book.proofs.LogLaws.{place-is}
 use Rattle.book.proofs.EntryRules.{ok-back, append-ok, part-ok}
 use Rattle.state.specs.State.{heardBy, withStatus, withLog, normalIn}
 use Rattle.state.specs.declared.Replica.{Replica}

@@ -17,16 +17,16 @@ use Rattle.numbers.specs.declared.Op.{Op}
 use Rattle.numbers.proofs.CellLaws.{cells-length, packed-append}
 use Rattle.entries.specs.Entries.{entryOf, encodeEntry, entries, entriesOk}
 use Rattle.entries.specs.declared.Entry.{Entry}
+use Rattle.entries.proofs.PlaceLaws.{place-is}
 use Rattle.config.proofs.SetupLaws.{sized}
 use Rattle.frames.specs.declared.Status.the-variants.{Normal}
 use Rattle.frames.specs.declared.Message.the-variants.{StartView}
 use Rattle.writers.specs.Writers as W
 use Rattle.writers.specs.Writers.{sizeOf, lengthOf}
 use Rattle.writers.proofs.WriterLaws.{others-length}
-use Rattle.book.specs.Log.{placeOf, withEntries}
+use Rattle.book.specs.Log.{withEntries}
 use Rattle.book.specs.Runs.{committed, replies}
 use Rattle.book.specs.Memory.{Money, money, Memory, memory}
-use Rattle.book.proofs.LogLaws.{place-is}
 use Rattle.book.proofs.RunLaws.{replies-length}
 use Rattle.state.specs.Statuses.{isRecovering}
 use Rattle.state.specs.declared.Replica.{Replica}
@@ -203,7 +203,7 @@ module _ (c : Given) (t : Replica) (table : List Row) (applied : List Entry) (h 
     -- ---- messages
 
     log-bytes-are : take (32 * o .0) log ≡ take (32 * o .0) part
-    unfolding withEntries placeOf putAt over
+    unfolding withEntries putAt over
     log-bytes-are = take-at (take (32 * o .0) part) _ (32 * o .0) (length-take-le (32 * o .0) part long)
 
     start-views-bytes : messagesOut (startViewToOthers (t .setup) after) ≡ startViewsOf u log

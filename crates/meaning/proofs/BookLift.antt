@@ -23,17 +23,19 @@ use Rattle.numbers.proofs.NumberLaws.{be-big, num-lt, num-drop, num-front, big-
 use Rattle.numbers.proofs.RunLaws.{put-bytes}
 use Rattle.numbers.proofs.CellLaws.{cells-length, cells-get, cells-put, cells-more, cells-take, packed-append}
 use Rattle.entries.specs.Entries.{operationOf, entryOf, encodeEntry, entries, EntryFits}
+use Rattle.entries.specs.Places.{entryPlace, entryIn}
 use Rattle.entries.specs.declared.Entry.{Entry}
 use Rattle.entries.specs.declared.Operation.{Operation}
 use Rattle.entries.specs.declared.Operation.the-variants.{Fee, Refund, Ask}
+use Rattle.entries.proofs.PlaceLaws.{place-next}
 use Rattle.fees.specs.Fees as F
 use Rattle.fees.specs.Results.{resultOf, encodeResult, ResultFits, outcomes}
 use Rattle.fees.specs.declared.Outcome.{Outcome}
 use Rattle.fees.proofs.ResultLaws.{result-codec}
-use Rattle.book.specs.Log.{placeOf, entryIn, withEntries}
+use Rattle.book.specs.Log.{withEntries}
 use Rattle.book.specs.Runs.{applied, committed, replyTo, replies}
 use Rattle.book.specs.Memory.{Money}
-use Rattle.book.proofs.LogLaws.{place-next, entry-get, append-entries, part-entries}
+use Rattle.book.proofs.LogLaws.{entry-get, append-entries, part-entries}
 use Rattle.book.proofs.RunLaws.{committed-lengths, replies-length}
 use Rattle.meaning.specs.State.{Row, Book}
 use Rattle.meaning.specs.Book.{outcome, totalsAfter, through, answersOf, append, appendAll, commitAll, due, commitUpTo, install}
@@ -208,7 +210,7 @@ module _ (M : ℕ) (log : List ℕ) (from : ℕ) (x : Money) (bytes : Bytes (x .
 -- ---- entries written
 
 module _ (M op commit : ℕ) (log : List ℕ) (x : Money) (t : List Row) (a : List Entry) where
-  pub append-lift : (e : Entry) → EntryFits e → placeOf (op + 1) ≤ length log
+  pub append-lift : (e : Entry) → EntryFits e → entryPlace (op + 1) ≤ length log
       → bookOf M (op + 1) commit (withEntries op (encodeEntry e) log) x (append (bookOf M op commit log x t a) e .table) a
       ≡ append (bookOf M op commit log x t a) e
   unfolding bookOf append
@@ -219,7 +221,7 @@ module _ (M op commit : ℕ) (log : List ℕ) (x : Money) (t : List Row) (a : Li
       let c = append (bookOf M op commit log x t a) e in
       λ i. record { log = l i; commit = commit; results = c .results; table = c .table; totals = c .totals; applied = a }
 
-  pub part-lift : (k : ℕ) (part : List ℕ) → placeOf (op + k) ≤ length log → 32 * k ≤ length part
+  pub part-lift : (k : ℕ) (part : List ℕ) → entryPlace (op + k) ≤ length log → 32 * k ≤ length part
       → bookOf M (op + k) commit (withEntries op (take (32 * k) part) log) x
       (appendAll (bookOf M op commit log x t a) (entries k part) .table) a
       ≡ appendAll (bookOf M op commit log x t a) (entries k part)
@@ -240,7 +242,7 @@ module _ (M op commit : ℕ) (log : List ℕ) (x : Money) (t : List Row) (a : Li
       }
 
   -- in place of what stood after the first n: a whole log where n is 0, what follows our committed entries where it is the commit number
-  pub install-lift : (n k : ℕ) (part : List ℕ) → n ≤ op → placeOf (n + k) ≤ length log → 32 * k ≤ length part
+  pub install-lift : (n k : ℕ) (part : List ℕ) → n ≤ op → entryPlace (n + k) ≤ length log → 32 * k ≤ length part
       → bookOf M (n + k) commit (withEntries n (take (32 * k) part) log) x
       (install (bookOf M op commit log x t a) (take n (entries op log) ++ entries k part) .table) a
       ≡ install (bookOf M op commit log x t a) (take n (entries op log) ++ entries k part)

@@ -13,8 +13,9 @@ use Rattle.numbers.specs.Numbers.{Bytes}
 use Rattle.numbers.proofs.NumberLaws.{le-or-lt, drop-bytes}
 use Rattle.numbers.proofs.WordLaws.{split}
 use Rattle.entries.specs.Entries.{entries, entriesOk}
+use Rattle.entries.specs.Places.{entryPlace}
 use Rattle.config.specs.declared.Setup.{Setup}
-use Rattle.book.specs.Log.{placeOf, isSame, keepsFirst}
+use Rattle.book.specs.Log.{isSame, keepsFirst}
 use Rattle.book.proofs.LogLaws.{keeps-long, keeps-short}
 use Rattle.state.specs.Lengths.{storedPlace}
 use Rattle.reports.specs.Judge.{chosenLog}
@@ -41,7 +42,7 @@ module _ (u : Setup) (stored : List ℕ) (r : ℕ) (fresh : List ℕ) where
   run-bytes i old new = split Bytes _ _ _ (λ _. new) (λ _. drop-bytes (storedPlace (u .room) i) stored old)
 
   pub keeps-chosen : (b : Best) → Whole u stored r fresh (b .id) (b .report) → Bytes stored → Bytes fresh
-      → (n op : ℕ) (log : List ℕ) → entriesOk op log ≡ true → Bytes log → n ≤ op → placeOf op ≤ length log
+      → (n op : ℕ) (log : List ℕ) → entriesOk op log ≡ true → Bytes log → n ≤ op → entryPlace op ≤ length log
       → agree n (entries (b .report .op .0) (runOf u stored r fresh (b .id))) (entries op log)
       ≡ keepsFirst n log (b .report .op .0) (chosenLog b r (u .room) stored fresh)
   keeps-chosen b w old new n op log ok bytes h l =

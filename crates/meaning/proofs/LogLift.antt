@@ -18,11 +18,13 @@ use Rattle.numbers.proofs.WordLaws.{and-left, and-right, and-true}
 use Rattle.numbers.proofs.NumberLaws.{drop-bytes}
 use Rattle.numbers.proofs.CellLaws.{cells-length, cells-drop, cells-take}
 use Rattle.entries.specs.Entries.{entryOf, encodeEntry, entries, entriesOk}
+use Rattle.entries.specs.Places.{entryPlace}
 use Rattle.entries.specs.Rising.{follows, rising}
 use Rattle.entries.specs.declared.Entry.{Entry}
 use Rattle.entries.proofs.EntryLaws.{encode-decode}
-use Rattle.book.specs.Log.{placeOf, risesAfter, keepsFirst}
-use Rattle.book.proofs.LogLaws.{place-is, place-mono, rises-after, keeps-prefix, keeps-entries, prefix-keeps}
+use Rattle.entries.proofs.PlaceLaws.{place-is, place-mono}
+use Rattle.book.specs.Log.{risesAfter, keepsFirst}
+use Rattle.book.proofs.LogLaws.{rises-after, keeps-prefix, keeps-entries, prefix-keeps}
 use Rattle.book.proofs.EntryRules.{ok-front, ok-back}
 use Rattle.meaning.specs.Book.{sameEntry, agree}
 use Rattle.meaning.proofs.BookLaws.{agree-take, agree-le}
@@ -61,8 +63,8 @@ packed-log (suc k) log ok b h =
     rw (m, take-add 32 (32 * k) log, encode-decode log b (omega arith) (and-left _ _ ok), p)
 
 -- the bytes from op number i + 1 on
-pub packed-back : (op i : ℕ) (log : List ℕ) → i ≤ op → entriesOk op log ≡ true → Bytes log → placeOf op ≤ length log
-    → packed encodeEntry (drop i (entries op log)) ≡ take (32 * (op - i)) (drop (placeOf i) log)
+pub packed-back : (op i : ℕ) (log : List ℕ) → i ≤ op → entriesOk op log ≡ true → Bytes log → entryPlace op ≤ length log
+    → packed encodeEntry (drop i (entries op log)) ≡ take (32 * (op - i)) (drop (entryPlace i) log)
 packed-back op i log g ok b h =
     let l : 32 * (op - i) ≤ length (drop (32 * i) log) = simp length-drop (omega (arith, place-is op)) in
     rw (← place-is i, cells-drop 32 entryOf op log i)
@@ -101,7 +103,7 @@ both-ways false false f g = refl
 
 -- the fields of an entry that keeps the rules say all of its 32 bytes
 pub keeps-lift : (n op k : ℕ) (log part : List ℕ) → entriesOk op log ≡ true → entriesOk k part ≡ true → Bytes log → Bytes part → n ≤ op
-    → placeOf op ≤ length log → 32 * k ≤ length part → agree n (entries k part) (entries op log) ≡ keepsFirst n log k part
+    → entryPlace op ≤ length log → 32 * k ≤ length part → agree n (entries k part) (entries op log) ≡ keepsFirst n log k part
 keeps-lift n op k log part p q a b g h l =
     both-ways (agree n (entries k part) (entries op log)) (keepsFirst n log k part)
     (λ t.

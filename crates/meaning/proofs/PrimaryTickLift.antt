@@ -9,12 +9,12 @@ use lib.Seq.{take-all}
 use Rattle.numbers.specs.Cells.{packed}
 use Rattle.numbers.proofs.CellLaws.{cells-length, packed-append}
 use Rattle.entries.specs.Entries.{entries}
+use Rattle.entries.specs.Places.{entryIn}
 use Rattle.entries.specs.declared.Entry.{Entry}
 use Rattle.config.specs.declared.Setup.{Setup}
 use Rattle.clock.specs.Clock.{tickOf}
 use Rattle.clock.specs.declared.Duty.the-variants.{Lead}
 use Rattle.frames.specs.declared.Message.the-variants.{Prepare, Commit}
-use Rattle.book.specs.Log.{entryIn}
 use Rattle.state.specs.State as S
 use Rattle.state.specs.declared.Replica.{Replica}
 use Rattle.normal.specs.Tick as T

@@ -19,8 +19,9 @@ use Rattle.numbers.proofs.WordLaws.{split₂}
 use Rattle.numbers.proofs.CellLaws.{cells-length}
 use Rattle.entries.specs.Entries.{entryOf, entries, entriesOk}
 use Rattle.entries.specs.declared.Entry.{Entry}
+use Rattle.entries.proofs.PlaceLaws.{place-is}
 use Rattle.book.specs.Log.{withEntries, keepsFirst}
-use Rattle.book.proofs.LogLaws.{place-is, keeps-prefix}
+use Rattle.book.proofs.LogLaws.{keeps-prefix}
 use Rattle.config.specs.Replicas.{quorumOf}
 use Rattle.config.specs.declared.Setup.{Setup}
 use Rattle.config.proofs.SetupLaws.{Sized, sized}

@@ -24,6 +24,7 @@ use Rattle.numbers.proofs.WordLaws.{if-false, split₂}
 use Rattle.numbers.proofs.CellLaws.{cells-length}
 use Rattle.entries.specs.Entries.{entryOf, entries, entriesOk}
 use Rattle.entries.specs.declared.Entry.{Entry}
+use Rattle.entries.proofs.PlaceLaws.{place-is}
 use Rattle.config.specs.Setup.{setupOk}
 use Rattle.config.specs.Replicas.{quorumOf}
 use Rattle.config.specs.declared.Setup.{Setup}
@@ -35,7 +36,7 @@ use Rattle.frames.specs.declared.Message.the-variants.{Recovery, RecoveryRespon
 use Rattle.writers.specs.Writers.{encode, stateSize, sizeOf, lengthOf}
 use Rattle.writers.proofs.WriterLaws.{encode-length}
 use Rattle.book.specs.Log.{withEntries, keepsFirst}
-use Rattle.book.proofs.LogLaws.{place-is, keeps-prefix}
+use Rattle.book.proofs.LogLaws.{keeps-prefix}
 use Rattle.state.specs.State.{leads}
 use Rattle.state.specs.Statuses.{isRecovering, noReport}
 use Rattle.state.specs.Answers.{completed}

@@ -16,16 +16,16 @@ use Rattle.numbers.specs.Cells.{packed}
 use Rattle.numbers.proofs.WordLaws.{if-false, split, split₂, and-both}
 use Rattle.numbers.proofs.CellLaws.{cells-length}
 use Rattle.entries.specs.Entries.{entryOf, entries, EntryFits}
+use Rattle.entries.specs.Places.{entryPlace}
 use Rattle.entries.specs.Rising.{rising}
 use Rattle.entries.specs.declared.Entry.{Entry}
+use Rattle.entries.proofs.PlaceLaws.{place-is, place-mono}
 use Rattle.fees.specs.declared.Outcome.{Outcome}
 use Rattle.frames.specs.declared.Message.the-variants.{Prepare}
 use Rattle.writers.specs.Writers as W
 use Rattle.rows.specs.declared.Latest.{Latest}
-use Rattle.book.specs.Log.{placeOf}
 use Rattle.book.specs.Runs.{replyTo}
 use Rattle.book.specs.Memory.{money}
-use Rattle.book.proofs.LogLaws.{place-is, place-mono}
 use Rattle.book.proofs.RunLaws.{reply-length}
 use Rattle.state.specs.State.{leads, withLog}
 use Rattle.state.specs.declared.Replica.{Replica}
@@ -189,7 +189,7 @@ module _ (c : Given) (table : List Row) (applied : List Entry) (e : Entry) (late
   prepares-long = prepare-long (s .setup) (asked .ready .sized) (s .view) (nextOp s) (s .commit) e
 
   module _ (room : s .op .0 < s .setup .room) where
-    place : placeOf (s .op .0 + 1) ≤ length (c .runs .log)
+    place : entryPlace (s .op .0 + 1) ≤ length (c .runs .log)
     place =
         omega (arith, asked .ready .log-long, place-is (s .setup .room), place-mono (s .op .0 + 1) (s .setup .room) (omega (arith, room)))
 

@@ -21,6 +21,7 @@ use Rattle.numbers.proofs.WordLaws.{if-false, split, split₂}
 use Rattle.numbers.proofs.CellLaws.{cells-length}
 use Rattle.entries.specs.Entries.{entryOf, entries, entriesOk}
 use Rattle.entries.specs.declared.Entry.{Entry}
+use Rattle.entries.proofs.PlaceLaws.{place-is}
 use Rattle.config.specs.Setup.{setupOk}
 use Rattle.config.specs.declared.Setup.{Setup}
 use Rattle.config.proofs.SetupLaws.{sized}
@@ -30,7 +31,7 @@ use Rattle.writers.specs.Writers as W
 use Rattle.writers.specs.Writers.{encode, sizeOf, lengthOf}
 use Rattle.writers.proofs.WriterLaws.{encode-length}
 use Rattle.book.specs.Log.{keepsFirst}
-use Rattle.book.proofs.LogLaws.{place-is, keeps-prefix}
+use Rattle.book.proofs.LogLaws.{keeps-prefix}
 use Rattle.state.specs.State as S
 use Rattle.state.specs.State.{withLog, normalIn}
 use Rattle.state.specs.Statuses.{isChanging, isRecovering}

@@ -20,8 +20,10 @@ use Rattle.numbers.specs.declared.Op.{Op}
 use Rattle.numbers.proofs.WordLaws.{if-false, split₂, and-left, and-right}
 use Rattle.numbers.proofs.CellLaws.{cells-length, cells-drop, cells-take}
 use Rattle.entries.specs.Entries.{entryOf, encodeEntry, entries, entriesOk}
+use Rattle.entries.specs.Places.{entryPlace}
 use Rattle.entries.specs.Rising.{rising}
 use Rattle.entries.specs.declared.Entry.{Entry}
+use Rattle.entries.proofs.PlaceLaws.{place-is}
 use Rattle.config.proofs.SetupLaws.{sized}
 use Rattle.clock.specs.declared.Clock.{Clock}
 use Rattle.clock.specs.declared.Ticked.{Ticked}
@@ -30,8 +32,7 @@ use Rattle.frames.specs.declared.Message.{Message}
 use Rattle.frames.specs.declared.Message.the-variants.{NewState}
 use Rattle.writers.specs.Writers.{encode, sizeOf, lengthOf}
 use Rattle.writers.proofs.WriterLaws.{encode-length}
-use Rattle.book.specs.Log.{placeOf, risesAfter}
-use Rattle.book.proofs.LogLaws.{place-is}
+use Rattle.book.specs.Log.{risesAfter}
 use Rattle.state.specs.State as S
 use Rattle.state.specs.State.{withLog, normalIn}
 use Rattle.state.specs.Statuses.{isNormal, isChanging, isRecovering}
@@ -128,7 +129,7 @@ module _ (c : Given) (table : List Row) (applied : List Entry) where
 
     -- the bytes that it carries
     abbrev carried : List ℕ
-    carried = take (32 * (c .state .op .0 - o .0)) (drop (placeOf (o .0)) (c .runs .log))
+    carried = take (32 * (c .state .op .0 - o .0)) (drop (entryPlace (o .0)) (c .runs .log))
 
     new-state-bytes : v .0 ≡ c .state .view .0 → o .0 ≤ c .state .op .0
         → messagesOut (sendNewState now from (o .0)) ≡ encode from (NewState v o (c .state .op) (c .state .commit)) carried
@@ -143,7 +144,7 @@ module _ (c : Given) (table : List Row) (applied : List Entry) where
         → length (encode from (NewState v o (c .state .op) (c .state .commit)) carried) ≡ newStateLength (c .state) o
     unfolding sizeOf lengthOf
     new-state-long g =
-        let l : 32 * (c .state .op .0 - o .0) ≤ length (drop (placeOf (o .0)) (c .runs .log)) =
+        let l : 32 * (c .state .op .0 - o .0) ≤ length (drop (entryPlace (o .0)) (c .runs .log)) =
         rw length-drop (omega (arith, g, reading .op-le, reading .log-long, place-is (o .0))) in
         encode-length from (NewState v o (c .state .op) (c .state .commit)) carried (length-take-le _ _ l)
 

@@ -12,11 +12,13 @@ use Rattle.numbers.specs.Words.{if_then_else_}
 use Rattle.numbers.specs.declared.Op.{Op}
 use Rattle.numbers.proofs.WordLaws.{split}
 use Rattle.entries.specs.Entries.{encodeEntry}
+use Rattle.entries.specs.Places.{entryPlace}
 use Rattle.entries.specs.declared.Entry.{Entry}
 use Rattle.entries.proofs.EntryLaws.{entry-codec}
+use Rattle.entries.proofs.PlaceLaws.{place-is, place-mono}
 use Rattle.config.proofs.SetupLaws.{sized}
-use Rattle.book.specs.Log.{placeOf, withEntries}
-use Rattle.book.proofs.LogLaws.{place-is, place-mono, with-length}
+use Rattle.book.specs.Log.{withEntries}
+use Rattle.book.proofs.LogLaws.{with-length}
 use Rattle.state.specs.State.{heardBy, withLog}
 use Rattle.state.specs.Answers.{refusal}
 use Rattle.state.specs.declared.Answer.{Answer}
@@ -108,10 +110,10 @@ op-small s x h = omega (arith, h .op-le, sized (s .setup) (h .sized) .room-high)
 -- what the steps of an append ask, state and runs before it being sound
 module _ (s : Replica) (e : Entry) (log results totals : List ℕ) (h : Sound s (runs log results totals))
     (l : s .op .0 < s .setup .room) where
-  pub append-fits : (s .op .0 < 4096) × (placeOf (s .op .0 + 1) ≤ length log)
+  pub append-fits : (s .op .0 < 4096) × (entryPlace (s .op .0 + 1) ≤ length log)
   append-fits =
       let z = sized (s .setup) (h .sized) in
-      let p : placeOf (s .op .0 + 1) ≤ placeOf (s .setup .room) = place-mono (s .op .0 + 1) (s .setup .room) (omega arith) in
+      let p : entryPlace (s .op .0 + 1) ≤ entryPlace (s .setup .room) = place-mono (s .op .0 + 1) (s .setup .room) (omega arith) in
       (omega (arith, z .room-high), omega (arith, p, place-is (s .setup .room), h .log-long))
 
   pub sound-next : (u t : Replica) (r : List ℕ) → r ≡ withEntries (s .op .0) (encodeEntry e) log → u ≡ heardBy s

@@ -13,9 +13,9 @@ use Rattle.numbers.specs.Numbers.{over}
 use Rattle.numbers.specs.declared.View.{View}
 use Rattle.numbers.specs.declared.Op.{Op}
 use Rattle.numbers.proofs.WordLaws.{split}
+use Rattle.entries.specs.Places.{entryPlace, ackPlace}
 use Rattle.config.specs.Replicas.{bit, withMember, quorumOf}
 use Rattle.config.proofs.SetupLaws.{sized}
-use Rattle.book.specs.Log.{placeOf}
 use Rattle.book.specs.Runs.{replies}
 use Rattle.book.specs.Memory.{Money, money, Runs, runs}
 use Rattle.state.specs.State.{leads}
@@ -136,27 +136,28 @@ module _ (s : Replica) (op : Op) (log results totals : List ℕ) (h : Sound s (r
   pub replies-fit : (r m : ℕ) → r ≡ length results → 36 * (op .0 - s .commit .0) ≤ m
       → (s .commit .0 + (op .0 - s .commit .0) ≤ 4096)
       × ((36 * (op .0 - s .commit .0) ≤ m)
-      × ((9 * (s .commit .0 + (op .0 - s .commit .0)) ≤ r) × (placeOf (s .commit .0 + (op .0 - s .commit .0)) ≤ length log)))
+      × ((9 * (s .commit .0 + (op .0 - s .commit .0)) ≤ r) × (entryPlace (s .commit .0 + (op .0 - s .commit .0)) ≤ length log)))
   replies-fit r m e k =
       let f = commits-fit s op log results totals h l g in
       (f .0, (k, (rw e (f .1 .1 .0), f .1 .1 .1)))
 
   -- what fill asks
-  pub acks-fit : (acks : List ℕ) → length acks ≡ s .setup .room → op .0 ≤ length acks
-  acks-fit acks e = omega (arith, h .op-le)
+  pub acks-fit : (acks : List ℕ) (n : ℕ) → n ≡ ackPlace (op .0) → length acks ≡ s .setup .room → n ≤ length acks
+  acks-fit acks n p e = omega (arith, h .op-le)
 
 module _ (s : Replica) (op : Op) (log results totals acks reps : List ℕ) where
-  pub all-committed : (t : Replica) (a : Answer) (rs ts ks ps : List ℕ) → t ≡ committedTo s op
+  pub all-committed : (t : Replica) (a : Answer) (n : ℕ) (rs ts ks ps : List ℕ) → t ≡ committedTo s op
       → runs log rs ts ≡ settled s op (runs log results totals)
-      → ps ≡ over (replies (s .view) log rs (s .commit .0) (op .0 - s .commit .0)) reps → ks ≡ over (replicate (op .0) 0) acks
+      → ps ≡ over (replies (s .view) log rs (s .commit .0) (op .0 - s .commit .0)) reps → n ≡ ackPlace (op .0) → ks ≡ over (replicate n 0) acks
       → a ≡ completed t 0 (36 * (op .0 - s .commit .0)) false
       → counted a (money rs ts) ks ps ≡ committedBy s op log (money results totals) acks reps
   unfolding committedBy settled
-  all-committed t a rs ts ks ps p q e f d =
+  all-committed t a n rs ts ks ps p q e z f d =
       let m = ap (λ (x : Runs). x .money) q in
-      let n = e ∙ ap (λ (x : Money). over (replies (s .view) log (x .results) (s .commit .0) (op .0 - s .commit .0)) reps) m in
+      let o = e ∙ ap (λ (x : Money). over (replies (s .view) log (x .results) (s .commit .0) (op .0 - s .commit .0)) reps) m in
       let b = d ∙ ap (λ (u : Replica). completed u 0 (36 * (op .0 - s .commit .0)) false) p in
-      λ i. counted (b i) (m i) (f i) (n i)
+      let g = f ∙ ap (λ (k : ℕ). over (replicate k 0) acks) z in
+      λ i. counted (b i) (m i) (g i) (o i)
 
 -- what weigh asks of the sender
 pub sender-small : (s : Replica) (x : Runs) (from : ℕ) → Sound s x → from < s .setup .n → from < 8
@@ -169,7 +170,9 @@ module _ (s : Replica) (v : View) (op : Op) (from : ℕ) (log : List ℕ) (x : M
   unfolding prepareOkStep if_then_else_
   unheard a n e = rw (← p, n, e)
 
-  pub weighed : (d e : Count) (y : Counted) → not b ≡ false → d ≡ verdictOf s op (getD acks (op .0 - 1) 0) from (length reps) → d ≡ e
+  pub weighed : (i : ℕ) (d e : Count) (y : Counted) → i ≡ ackPlace (op .0 - 1) → not b ≡ false → d ≡ verdictOf s op (getD acks i 0) from (length reps) → d ≡ e
       → y ≡ byCount e s op from log x acks reps → y ≡ prepareOkStep s v op from log x acks reps
   unfolding prepareOkStep if_then_else_
-  weighed d e y n q m z = rw (← p, n) (z ∙ ap (λ (k : Count). byCount k s op from log x acks reps) (sym m ∙ q))
+  weighed i d e y h n q m z =
+      let r = q ∙ ap (λ (k : ℕ). verdictOf s op (getD acks k 0) from (length reps)) h in
+      rw (← p, n) (z ∙ ap (λ (k : Count). byCount k s op from log x acks reps) (sym m ∙ r))

@@ -11,15 +11,16 @@ use Rattle.numbers.specs.Words.{if_then_else_}
 use Rattle.numbers.specs.Numbers.{Wrote}
 use Rattle.numbers.proofs.WordLaws.{split}
 use Rattle.entries.specs.Entries.{encodeEntry}
+use Rattle.entries.specs.Places.{entryPlace, ackPlace}
 use Rattle.entries.specs.declared.Entry.{Entry}
+use Rattle.entries.proofs.PlaceLaws.{place-is, entry-room}
 use Rattle.config.specs.Replicas.{withMember}
 use Rattle.config.proofs.SetupLaws.{sized}
 use Rattle.fees.specs.declared.Outcome.{Outcome}
 use Rattle.writers.specs.Writers.{sizeOf, reply, toOthers}
 use Rattle.rows.specs.declared.Latest.{Latest}
-use Rattle.book.specs.Log.{placeOf, withEntries}
+use Rattle.book.specs.Log.{withEntries}
 use Rattle.book.specs.Runs.{replyTo}
-use Rattle.book.proofs.LogLaws.{place-is, entry-room}
 use Rattle.book.proofs.RunLaws.{reply-length}
 use Rattle.state.specs.State.{leads, withLog}
 use Rattle.state.specs.Statuses.{isNormal}
@@ -153,10 +154,10 @@ resends s e o reps r a w q p =
 -- accept
 module _ (s : Replica) (log acks : List ℕ) (h : Ready s (length log) (length acks)) where
   -- what book::append asks
-  pub append-asks : s .op .0 < s .setup .room → (s .op .0 < 4096) × (placeOf (s .op .0 + 1) ≤ length log)
+  pub append-asks : s .op .0 < s .setup .room → (s .op .0 < 4096) × (entryPlace (s .op .0 + 1) ≤ length log)
   append-asks l =
       let z = sized (s .setup) (h .sized) in
-      entry-room {i = s .op .0} (s .setup .room) (z .room-high) (omega (arith, place-is (s .setup .room), h .log-long)) l
+      (omega (arith, l, z .room-high), entry-room {i = s .op .0} (s .setup .room) (omega (arith, place-is (s .setup .room), h .log-long)) l)
 
   -- what config::insert asks
   pub own-bit : s .setup .id < 8
@@ -164,15 +165,15 @@ module _ (s : Replica) (log acks : List ℕ) (h : Ready s (length log) (length a
       let z = sized (s .setup) (h .sized) in
       omega (arith, z .own, z .seven)
 
-  pub accepts : (e : Entry) (out l o : List ℕ) (b w : ℕ) (t : Replica) (a : Answer) → l ≡ withEntries (s .op .0) (encodeEntry e) log
-      → b ≡ withMember 0 (s .setup .id)
+  pub accepts : (e : Entry) (out l o : List ℕ) (i b w : ℕ) (t : Replica) (a : Answer) → l ≡ withEntries (s .op .0) (encodeEntry e) log
+      → i ≡ ackPlace (s .op .0) → b ≡ withMember 0 (s .setup .id)
       → Wrote (toOthers (s .setup .n) (s .setup .id) (prepareOf s e) (take (32 * sizeOf (prepareOf s e) .entries) l)) out o w
       → t ≡ withLog s (nextOp s) (s .commit) → a ≡ completed t w 0 false
-      → took a l (set acks (s .op .0) b) o ≡ accepted s e log acks out
+      → took a l (set acks i b) o ≡ accepted s e log acks out
   unfolding accepted sizeOf
-  accepts e out l o b w t a p q x y c =
+  accepts e out l o i b w t a p z q x y c =
       let k : w ≡ sendsOf s = x .count ∙ prepare-long (s .setup) (h .sized) (s .view) (nextOp s) (s .commit) e in
-      rw (c, p, q, y, k, x .bytes)
+      rw (c, p, z, q, y, k, x .bytes)
 
 -- on_request
 module _ (s : Replica) (e : Entry) (latest : Latest) (log acks out reps : List ℕ) where

@@ -11,15 +11,15 @@ use borrow.Author.Tests.{lt-ltb, le-ltb}
 use Rattle.numbers.specs.Words.{if_then_else_}
 use Rattle.numbers.specs.Numbers.{over, Wrote}
 use Rattle.numbers.proofs.RunLaws.{over-lend, over-nil, length-over}
+use Rattle.entries.specs.Places.{entryPlace, entryIn}
 use Rattle.entries.specs.declared.Entry.{Entry}
+use Rattle.entries.proofs.PlaceLaws.{place-is, entry-room}
 use Rattle.config.proofs.SetupLaws.{sized}
 use Rattle.clock.specs.Clock.{tickOf}
 use Rattle.clock.specs.declared.Duty.the-variants.{Lead}
 use Rattle.clock.specs.declared.Ticked.{Ticked}
 use Rattle.frames.specs.declared.Message.the-variants.{Prepare, Commit}
 use Rattle.writers.specs.Writers.{sizeOf, toOthers}
-use Rattle.book.specs.Log.{placeOf, entryIn}
-use Rattle.book.proofs.LogLaws.{place-is, entry-room}
 use Rattle.state.specs.State.{withClock}
 use Rattle.state.specs.Answers.{refusal, completed}
 use Rattle.state.specs.declared.Answer.{Answer}
@@ -45,11 +45,10 @@ pub record Sent (s : Replica) (log out cur : List ℕ) (at i : ℕ) : Type 0 whe
 
 -- a Leading replica, and the log
 module _ (s : Replica) (log : List ℕ) (h : Leading s (length log)) where
-  -- what book::entry asks
-  pub entry-asks : (i : ℕ) → i < s .op .0 → (i < 4096) × (placeOf (i + 1) ≤ length log)
+  -- what entries::entry_in asks
+  pub entry-asks : (i : ℕ) → i < s .op .0 → entryPlace (i + 1) ≤ length log
   entry-asks i l =
-      let z = sized (s .setup) (h .sized) in
-      entry-room {i = i} (s .setup .room) (z .room-high) (omega (arith, place-is (s .setup .room), h .log-long)) (omega (arith, l, h .op-le))
+      entry-room {i = i} (s .setup .room) (omega (arith, place-is (s .setup .room), h .log-long)) (omega (arith, l, h .op-le))
 
   -- send_prepare
   pub prepares-one : (i w : ℕ) (e : Entry) (out o : List ℕ) → e ≡ entryIn log i

@@ -10,6 +10,7 @@ use Rattle.numbers.specs.Words.{if_then_else_, _and_}
 use Rattle.numbers.specs.Numbers.{over}
 use Rattle.numbers.specs.declared.View.{View}
 use Rattle.numbers.specs.declared.Op.{Op}
+use Rattle.entries.specs.Places.{ackPlace}
 use Rattle.config.specs.Replicas.{bit, withMember, quorumOf}
 use Rattle.book.specs.Runs.{committed, replies}
 use Rattle.book.specs.Memory.{Money}
@@ -56,7 +57,7 @@ committedBy s op log x acks reps =
     counted
     (completed (committedTo s op) 0 (36 * (op .0 - s .commit .0)) false)
     (committed (s .setup .members) log (s .commit .0) (op .0 - s .commit .0) x)
-    (over (replicate (op .0) 0) acks)
+    (over (replicate (ackPlace (op .0)) 0) acks)
     (over
     (replies
     (s .view)
@@ -69,7 +70,7 @@ committedBy s op log x acks reps =
 unfoldable pub byCount : Count → Replica → Op → (from : ℕ) (log : List ℕ) → Money → (acks reps : List ℕ) → Counted
 byCount Nothing s op from log x acks reps = counted (quiet s) x acks reps
 byCount Note s op from log x acks reps =
-    counted (quiet s) x (set acks (op .0 - 1) (withMember (getD acks (op .0 - 1) 0) from)) reps
+    counted (quiet s) x (set acks (ackPlace (op .0 - 1)) (withMember (getD acks (ackPlace (op .0 - 1)) 0) from)) reps
 byCount (Refuse k) s op from log x acks reps = counted (refusal k s) x acks reps
 byCount Commit s op from log x acks reps = committedBy s op log x acks reps
 
@@ -77,4 +78,4 @@ byCount Commit s op from log x acks reps = committedBy s op log x acks reps
 unfoldable pub prepareOkStep : Replica → View → Op → (from : ℕ) (log : List ℕ) → Money → (acks reps : List ℕ) → Counted
 prepareOkStep s v op from log x acks reps =
     if not (listens s v op) then counted (quiet s) x acks reps else
-    byCount (verdictOf s op (getD acks (op .0 - 1) 0) from (length reps)) s op from log x acks reps
+    byCount (verdictOf s op (getD acks (ackPlace (op .0 - 1)) 0) from (length reps)) s op from log x acks reps

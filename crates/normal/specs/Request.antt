@@ -10,6 +10,7 @@ use Rattle.numbers.specs.Words.{if_then_else_}
 use Rattle.numbers.specs.Numbers.{over}
 use Rattle.numbers.specs.declared.Op.{Op}
 use Rattle.entries.specs.Entries.{encodeEntry}
+use Rattle.entries.specs.Places.{ackPlace}
 use Rattle.entries.specs.declared.Entry.{Entry}
 use Rattle.config.specs.Setup.{setupOk}
 use Rattle.config.specs.Replicas.{withMember}
@@ -112,7 +113,7 @@ accepted s e log acks out =
     took
     (completed (withLog s (nextOp s) (s .commit)) (sendsOf s) 0 false)
     (withEntries (s .op .0) (encodeEntry e) log)
-    (set acks (s .op .0) (withMember 0 (s .setup .id)))
+    (set acks (ackPlace (s .op .0)) (withMember 0 (s .setup .id)))
     (over (toOthers (s .setup .n) (s .setup .id) (prepareOf s e) []) out)
 
 -- the reply again, with the current view

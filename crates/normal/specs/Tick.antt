@@ -8,6 +8,7 @@ use lib.Dec.{ltb}
 use lib.ListN.{length}
 use Rattle.numbers.specs.Words.{if_then_else_}
 use Rattle.numbers.specs.Numbers.{over}
+use Rattle.entries.specs.Places.{entryIn}
 use Rattle.config.specs.Setup.{setupOk}
 use Rattle.clock.specs.Clock.{tickOf}
 use Rattle.clock.specs.declared.Clock.{Clock}
@@ -15,7 +16,6 @@ use Rattle.clock.specs.declared.Duty.the-variants.{Lead}
 use Rattle.frames.specs.declared.Message.{Message}
 use Rattle.frames.specs.declared.Message.the-variants.{Prepare, Commit}
 use Rattle.writers.specs.Writers.{toOthers}
-use Rattle.book.specs.Log.{entryIn}
 use Rattle.state.specs.State.{withClock}
 use Rattle.state.specs.Answers.{refusal, completed, quiet}
 use Rattle.state.specs.Lengths.{logLength}

@@ -78,7 +78,7 @@ fn commit_with_replies(
     let v = s.view;
     let t = steps::commit_up_to(s, op, log, results, totals);
     book::write_replies(log, results, v, from, count, reps);
-    numbers::fill(acks, op.0 as usize, 0);
+    numbers::fill(acks, entries::ack_place(op.0 as usize), 0);
     state::done(t, 0, 36 * count, false)
 }
 
@@ -100,7 +100,7 @@ pub fn on_prepare_ok(
     if !hears(s, v, op) {
         return state::done(s, 0, 0, false);
     }
-    let i = (op.0 - 1) as usize;
+    let i = entries::ack_place((op.0 - 1) as usize);
     let held = acks[i];
     match weigh(s, op, held, from, reps.len()) {
         Count::Nothing => state::done(s, 0, 0, false),

@@ -95,7 +95,7 @@ fn accept(s: Replica, e: Entry, log: &mut [u8], acks: &mut [u8], out: &mut [u8])
     let commit = s.commit;
     let view = s.view;
     book::append(log, i, e);
-    acks[i] = config::insert(0, s.setup.id);
+    acks[entries::ack_place(i)] = config::insert(0, s.setup.id);
     let m = Message::Prepare {
         view,
         op,

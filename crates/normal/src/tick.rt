@@ -23,7 +23,7 @@ fn send_prepare(s: Replica, i: u32, log: &[u8], out: &mut [u8]) -> usize
         view,
         op: Op(i + 1),
         commit,
-        entry: book::entry(log, i as usize),
+        entry: entries::entry_in(log, i as usize),
     };
     writers::broadcast(out, s.setup.n, s.setup.id, m, log)
 }

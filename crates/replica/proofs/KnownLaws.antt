@@ -17,6 +17,7 @@ use Rattle.numbers.proofs.WordLaws.{split}
 use Rattle.entries.specs.Entries.{entryOf, encodeEntry, EntryFits}
 use Rattle.entries.specs.declared.Entry.{Entry}
 use Rattle.entries.proofs.EntryLaws.{entryOf-encode}
+use Rattle.entries.proofs.PlaceLaws.{place-is}
 use Rattle.frames.specs.Refusals.{checkFrame}
 use Rattle.frames.specs.declared.Message.{Message}
 use Rattle.frames.specs.declared.Message.the-variants.{Request, Prepare, PrepareOk, Commit, GetState, NewState, StartViewChange, DoViewChange, StartView, Recovery, RecoveryResponse}
@@ -27,7 +28,6 @@ use Rattle.table.specs.Layout.{rowsOf}
 use Rattle.table.specs.Steps.{foundIn, AppendsFor}
 use Rattle.book.specs.Log.{withEntries}
 use Rattle.book.specs.Memory.{Memory}
-use Rattle.book.proofs.LogLaws.{place-is}
 use Rattle.state.specs.declared.Answer.{Answer}
 use Rattle.state.specs.declared.Replica.{Replica}
 use Rattle.steps.specs.Steps.{Left, Spoke, acceptOf, settled, asked, transferred, deferred, acked}

@@ -11,8 +11,10 @@ use Rattle.numbers.specs.Numbers.{over, putAt}
 use Rattle.numbers.specs.declared.Op.{Op}
 use Rattle.numbers.proofs.RunLaws.{put-part}
 use Rattle.numbers.proofs.WordLaws.{if-true, if-false}
-use Rattle.book.specs.Log.{placeOf, withEntries}
-use Rattle.book.proofs.LogLaws.{place-mono, place-is, with-length}
+use Rattle.entries.specs.Places.{entryPlace}
+use Rattle.entries.proofs.PlaceLaws.{place-mono, place-is}
+use Rattle.book.specs.Log.{withEntries}
+use Rattle.book.proofs.LogLaws.{with-length}
 use Rattle.state.specs.Lengths.{storedPlace}
 use Rattle.reports.specs.Judge.{logFrom, chosenLog, Lies}
 use Rattle.reports.specs.Store.{keptLog, chosenOver}
@@ -30,7 +32,7 @@ module _ (b : Best) (id room : ℕ) (stored fresh log : List ℕ) (h : Lies b id
   abbrev k : ℕ
   k = b .report .op .0
 
-  pub install-fits : (0 + k ≤ 4096) × (placeOf (0 + k) ≤ length log)
+  pub install-fits : (0 + k ≤ 4096) × (entryPlace (0 + k) ≤ length log)
   install-fits =
       let small = h .small in
       let e = h .long in
@@ -60,7 +62,7 @@ put-own n log h = rw (length-take-le n log h) (sym (take-append-drop n log))
 -- our own log is chosen
 pub own-stays : (b : Best) (id room : ℕ) (stored log : List ℕ) → Lies b id room stored log → b .id ≡ id
     → log ≡ chosenOver b id room stored log log
-unfolding chosenOver chosenLog logFrom withEntries placeOf
+unfolding chosenOver chosenLog logFrom withEntries
 own-stays b id room stored log h e =
     let t = eq-eqb (b .id) id e in
     put-own (32 * b .report .op .0) log (h .new t)

@@ -19,9 +19,9 @@ use Rattle.numbers.specs.Words.{if_then_else_}
 use Rattle.numbers.proofs.NumberLaws.{eq-or-not}
 use Rattle.numbers.proofs.WordLaws.{if-true, if-false, split₂}
 use Rattle.entries.specs.Entries.{entriesOk}
+use Rattle.entries.proofs.PlaceLaws.{place-is}
 use Rattle.config.specs.declared.Setup.{Setup}
 use Rattle.book.specs.Log.{withEntries}
-use Rattle.book.proofs.LogLaws.{place-is}
 use Rattle.book.proofs.EntryRules.{part-ok}
 use Rattle.state.specs.Statuses.{noReport}
 use Rattle.state.specs.Lengths.{storedPlace}

@@ -11,12 +11,12 @@ use Rattle.numbers.specs.Words.{if_then_else_}
 use Rattle.numbers.specs.Numbers.{big, over, Wrote}
 use Rattle.numbers.specs.declared.View.{View}
 use Rattle.numbers.specs.declared.Op.{Op}
+use Rattle.entries.specs.Places.{entryPlace}
+use Rattle.entries.proofs.PlaceLaws.{place-is, place-mono}
 use Rattle.config.specs.Setup.{primaryOf}
 use Rattle.config.proofs.SetupLaws.{sized}
 use Rattle.frames.specs.declared.Message.the-variants.{PrepareOk, GetState}
 use Rattle.writers.specs.Writers.{header, encode}
-use Rattle.book.specs.Log.{placeOf}
-use Rattle.book.proofs.LogLaws.{place-is, place-mono}
 use Rattle.book.specs.Runs.{committed}
 use Rattle.book.specs.Memory.{Money, money, Runs, runs}
 use Rattle.state.specs.State.{leads, withLog}
@@ -69,11 +69,11 @@ module _ (s : Replica) (k : Op) (log results totals : List ℕ) where
   pub commits-fit : Sound s (runs log results totals) → k .0 ≤ s .op .0 → s .commit .0 < k .0
       → (s .commit .0 + (k .0 - s .commit .0) ≤ 4096)
       × ((8 * s .setup .members ≤ length totals)
-      × ((9 * (s .commit .0 + (k .0 - s .commit .0)) ≤ length results) × (placeOf (s .commit .0 + (k .0 - s .commit .0)) ≤ length log)))
+      × ((9 * (s .commit .0 + (k .0 - s .commit .0)) ≤ length results) × (entryPlace (s .commit .0 + (k .0 - s .commit .0)) ≤ length log)))
   commits-fit h l g =
       let z = sized (s .setup) (h .sized) in
       let e : s .commit .0 + (k .0 - s .commit .0) ≡ k .0 = omega arith in
-      let p : placeOf (k .0) ≤ placeOf (s .setup .room) = place-mono (k .0) (s .setup .room) (omega (arith, l, h .op-le)) in
+      let p : entryPlace (k .0) ≤ entryPlace (s .setup .room) = place-mono (k .0) (s .setup .room) (omega (arith, l, h .op-le)) in
       rw e (
         omega (arith, l, h .op-le, z .room-high),
         (

@@ -10,6 +10,7 @@ use lib.ListN.{length, drop}
 use Rattle.numbers.specs.Numbers.{Bytes}
 use Rattle.numbers.proofs.CellLaws.{cells-drop, cells-next, cells-none}
 use Rattle.entries.specs.Entries.{entryOf, entries}
+use Rattle.entries.specs.Places.{entryIn}
 use Rattle.entries.specs.declared.Entry.{Entry}
 use Rattle.rows.specs.declared.Change.{Change}
 use Rattle.rows.specs.Rows.{putRow, renewed}
@@ -27,7 +28,7 @@ module _ {n : ℕ} {k : Change} {f : Found} {t log : List ℕ} (h : AppendsFor n
       let e = cells-drop 32 entryOf (k .to .0) log (k .op .0) ∙ cells-none 32 entryOf (k .to .0) (drop (32 * k .op .0) log) (k .op .0) o in
       rw p (left-is (left-same n t b l) (renew-none byteRow k (rowsOf n t) (entries (k .to .0) log) e (h .kept)))
 
-  module _ (l : k .op .0 < k .to .0) {e : Entry} {r : Row} (p : e ≡ entryOf (drop (32 * k .op .0) log)) (q : r ≡ byteRow .fresh e) where
+  module _ (l : k .op .0 < k .to .0) {e : Entry} {r : Row} (p : e ≡ entryIn log (k .op .0)) (q : r ≡ byteRow .fresh e) where
     pub found-client : f ≡ foundIn (rowsOf n t) (r .client)
     found-client =
         h .found l

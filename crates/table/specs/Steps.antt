@@ -8,7 +8,7 @@ use lib.ListN.{take, drop}
 use Rattle.numbers.specs.Words.{if_then_else_}
 use Rattle.numbers.specs.Numbers.{over}
 use Rattle.numbers.specs.Cells.{packed}
-use Rattle.entries.specs.Entries.{entryOf}
+use Rattle.entries.specs.Places.{entryIn}
 use Rattle.fees.specs.Fees.{gives}
 use Rattle.rows.specs.Rows.{spotOf, isThere}
 use Rattle.rows.specs.Shape.{rowAt}
@@ -38,7 +38,7 @@ foundIn xs c = record { at = spotOf byteRow xs c; there = isThere byteRow xs c; 
 pub record AppendsFor (n : ℕ) (k : Change) (f : Found) (table log : List ℕ) : Type 0 where
   pub kept : k .installed ≡ false
   pub one : k .to .0 ≤ k .op .0 + 1
-  pub found : k .op .0 < k .to .0 → f ≡ foundIn (rowsOf n table) (entryOf (drop (32 * k .op .0) log) .client)
+  pub found : k .op .0 < k .to .0 → f ≡ foundIn (rowsOf n table) (entryIn log (k .op .0) .client)
 
 -- what was found, as the core is told it: the reply is there where one is kept
 abbrev pub latestOf : Found → Latest

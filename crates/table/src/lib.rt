@@ -4,6 +4,7 @@ ghost use Prim.Native.Nat.{_-_, _*_, _≤_};
 ghost use lib.ListN.{length, take, drop, replicate};
 ghost use Rattle.numbers.specs.Numbers.{over};
 ghost use Rattle.entries.specs.Entries.{entries};
+ghost use Rattle.entries.specs.Places.{entryPlace, resultPlace};
 ghost use Rattle.fees.specs.Results.{outcomes};
 ghost use Rattle.rows.specs.Rows.{spotOf, inserted, putRow, appended, replied, committed, keptRow, rebuilt, renewed, followed};
 ghost use Rattle.table.specs.Layout.{noRow, byteRow, rowsOf};
@@ -97,11 +98,11 @@ fn put(table: &mut [u8], n: usize, row: Row)
 // The entries from .. to of the log, in order, become their clients' rows.
 pub fn follow_append(table: &mut [u8], n: usize, log: &[u8], from: usize, to: usize)
     requires { ⌜ (25 * n ≤ length (now table)) × ((32 * to ≤ length (now log)) × (from ≤ to)) ⌝ }
-    ensures { λ r. ⌜ Left n (now (table .entry)) (now (table .exit)) (appended byteRow (rowsOf n (now (table .entry))) (entries (to - from) (drop (32 * from) (now (log .entry))))) ⌝ }
+    ensures { λ r. ⌜ Left n (now (table .entry)) (now (table .exit)) (appended byteRow (rowsOf n (now (table .entry))) (entries (to - from) (drop (entryPlace from) (now (log .entry))))) ⌝ }
 {
     let mut k = from;
     while k < to {
-        put(table, n, cell::fresh(entries::entry_at(log, 32 * k)));
+        put(table, n, cell::fresh(entries::entry_in(log, k)));
         k += 1;
     }
 }
@@ -130,12 +131,12 @@ fn reply(table: &mut [u8], n: usize, e: Entry, o: Outcome)
 // The entries from .. to were executed, and gave these results.
 pub fn follow_commit(table: &mut [u8], n: usize, log: &[u8], results: &[u8], from: usize, to: usize)
     requires { ⌜ (25 * n ≤ length (now table)) × ((32 * to ≤ length (now log)) × ((9 * to ≤ length (now results)) × (from ≤ to))) ⌝ }
-    ensures { λ r. ⌜ Left n (now (table .entry)) (now (table .exit)) (committed byteRow (rowsOf n (now (table .entry))) (entries (to - from) (drop (32 * from) (now (log .entry)))) (outcomes (to - from) (drop (9 * from) (now (results .entry))))) ⌝ }
+    ensures { λ r. ⌜ Left n (now (table .entry)) (now (table .exit)) (committed byteRow (rowsOf n (now (table .entry))) (entries (to - from) (drop (entryPlace from) (now (log .entry)))) (outcomes (to - from) (drop (resultPlace from) (now (results .entry))))) ⌝ }
 {
     let mut k = from;
     while k < to {
-        let e = entries::entry_at(log, 32 * k);
-        let o = fees::result_at(results, 9 * k);
+        let e = entries::entry_in(log, k);
+        let o = fees::result_in(results, k);
         reply(table, n, e, o);
         k += 1;
     }
@@ -171,7 +172,7 @@ fn refill(table: &mut [u8], n: usize, old: &[u8], log: &[u8], op: usize, commit:
 {
     let mut k = 0;
     while k < op {
-        let e = entries::entry_at(log, 32 * k);
+        let e = entries::entry_in(log, k);
         put(table, n, kept(old, n, rows::left_of(commit, k), e));
         k += 1;
     }
@@ -250,7 +251,7 @@ pub fn follow_found(
     ensures { λ r. ⌜ Left n (now (table .entry)) (now (table .exit)) (followed byteRow change (rowsOf n (now (table .entry))) (entries (change .to .0) (now (log .entry))) (outcomes (change .done .0) (now (results .entry)))) ⌝ }
 {
     if change.op.0 < change.to.0 {
-        let e = entries::entry_at(log, 32 * (change.op.0 as usize));
+        let e = entries::entry_in(log, change.op.0 as usize);
         put_found(table, n, f, cell::fresh(e));
     }
     if change.done.0 <= change.commit.0 {

@@ -5,6 +5,7 @@ ghost use mathlib.Core.Bool.{true};
 ghost use Prim.Native.Nat.{_-_, _*_, _≤_, _<_};
 ghost use lib.ListN.{length, drop, replicate};
 ghost use Rattle.entries.specs.Entries.{entries};
+ghost use Rattle.entries.specs.Places.{entryPlace, resultPlace};
 ghost use Rattle.fees.specs.Results.{outcomes};
 ghost use Rattle.rows.specs.Rows.{seek, stored, putRow, appended, replied, committed, rebuilt, renewed, followed};
 ghost use Rattle.rows.specs.Shape.{rowAt};
@@ -99,11 +100,11 @@ fn put(table: &mut [Row], row: Row)
 // The entries from .. to of the log, in order, become their clients' rows.
 fn append(table: &mut [Row], log: &[u8], from: usize, to: usize)
     requires { ⌜ (32 * to ≤ length (now log)) × (from ≤ to) ⌝ }
-    ensures { λ r. ⌜ now (table .exit) ≡ appended structRow (now (table .entry)) (entries (to - from) (drop (32 * from) (now (log .entry)))) ⌝ }
+    ensures { λ r. ⌜ now (table .exit) ≡ appended structRow (now (table .entry)) (entries (to - from) (drop (entryPlace from) (now (log .entry)))) ⌝ }
 {
     let mut k = from;
     while k < to {
-        put(table, cell::fresh(entries::entry_at(log, 32 * k)));
+        put(table, cell::fresh(entries::entry_in(log, k)));
         k += 1;
     }
 }
@@ -122,14 +123,14 @@ fn keep_reply(table: &mut [Row], e: Entry, o: Outcome)
 // The entries from .. to were executed, and gave these results.
 fn commit(table: &mut [Row], log: &[u8], results: &[u8], from: usize, to: usize)
     requires { ⌜ (32 * to ≤ length (now log)) × ((9 * to ≤ length (now results)) × (from ≤ to)) ⌝ }
-    ensures { λ r. ⌜ now (table .exit) ≡ committed structRow (now (table .entry)) (entries (to - from) (drop (32 * from) (now (log .entry)))) (outcomes (to - from) (drop (9 * from) (now (results .entry)))) ⌝ }
+    ensures { λ r. ⌜ now (table .exit) ≡ committed structRow (now (table .entry)) (entries (to - from) (drop (entryPlace from) (now (log .entry)))) (outcomes (to - from) (drop (resultPlace from) (now (results .entry)))) ⌝ }
 {
     let mut k = from;
     while k < to {
         keep_reply(
             table,
-            entries::entry_at(log, 32 * k),
-            fees::result_at(results, 9 * k),
+            entries::entry_in(log, k),
+            fees::result_in(results, k),
         );
         k += 1;
     }
@@ -155,7 +156,7 @@ fn refill(table: &mut [Row], old: &[Row], log: &[u8], op: usize, commit: usize)
 {
     let mut k = 0;
     while k < op {
-        let e = entries::entry_at(log, 32 * k);
+        let e = entries::entry_in(log, k);
         put(
             table,
             cell::kept(find(old, e.client), rows::left_of(commit, k), e),

@@ -14,12 +14,12 @@ use Rattle.numbers.specs.declared.View.{View}
 use Rattle.numbers.specs.declared.Op.{Op}
 use Rattle.numbers.proofs.WordLaws.{split}
 use Rattle.numbers.proofs.RunLaws.{part-rest}
+use Rattle.entries.specs.Places.{entryPlace}
+use Rattle.entries.proofs.PlaceLaws.{place-is}
 use Rattle.config.proofs.SetupLaws.{sized}
 use Rattle.frames.specs.declared.Message.the-variants.{NewState}
 use Rattle.writers.specs.Writers.{encode, sizeOf, lengthOf}
 use Rattle.writers.proofs.WriterLaws.{encode-length}
-use Rattle.book.specs.Log.{placeOf}
-use Rattle.book.proofs.LogLaws.{place-is}
 use Rattle.state.specs.Statuses.{isNormal}
 use Rattle.state.specs.Answers.{refusal, completed, quiet}
 use Rattle.state.specs.declared.Answer.{Answer}
@@ -63,34 +63,34 @@ module _ (s : Replica) (v : View) (o : Op) where
 
 -- the log from op o on
 module _ (s : Replica) (o : Op) (log : List ℕ) (h : Reading s (length log)) (g : o .0 ≤ s .op .0) where
-  -- what book::place asks, and `&log[p..]`
-  pub starts : (o .0 ≤ 4096) × (placeOf (o .0) ≤ length log)
+  -- what entries::entry_place asks, and `&log[p..]`
+  pub starts : (o .0 ≤ 4096) × (entryPlace (o .0) ≤ length log)
   starts =
       let z = sized (s .setup) (h .sized) in
       (omega (arith, g, h .op-le, z .room-high), omega (arith, g, h .op-le, h .log-long, place-is (o .0)))
 
   -- the entries that are there
-  rest-long : 32 * (s .op .0 - o .0) ≤ length (drop (placeOf (o .0)) log)
+  rest-long : 32 * (s .op .0 - o .0) ≤ length (drop (entryPlace (o .0)) log)
   rest-long = rw length-drop (omega (arith, g, h .op-le, h .log-long, place-is (o .0)))
 
   -- what writers::kinds::new_state asks
-  pub new-state-fits : (p : ℕ) (out : List ℕ) → p ≡ placeOf (o .0) → newStateLength s o ≤ length out
+  pub new-state-fits : (p : ℕ) (out : List ℕ) → p ≡ entryPlace (o .0) → newStateLength s o ≤ length out
       → (s .op .0 - o .0 ≤ 4096)
       × ((32 * (s .op .0 - o .0) ≤ length (take (length log - p) (drop p log))) × (newStateLength s o ≤ length out))
   new-state-fits p out e l =
       let z = sized (s .setup) (h .sized) in
-      rw (e, part-rest (placeOf (o .0)) log) (omega (arith, h .op-le, z .room-high), (rest-long, l))
+      rw (e, part-rest (entryPlace (o .0)) log) (omega (arith, h .op-le, z .room-high), (rest-long, l))
 
   new-state-length : (from : ℕ) (v : View)
-      → length (encode from (NewState v o (s .op) (s .commit)) (take (32 * (s .op .0 - o .0)) (drop (placeOf (o .0)) log)))
+      → length (encode from (NewState v o (s .op) (s .commit)) (take (32 * (s .op .0 - o .0)) (drop (entryPlace (o .0)) log)))
       ≡ newStateLength s o
   unfolding sizeOf lengthOf
   new-state-length from v =
       encode-length
       from
       (NewState v o (s .op) (s .commit))
-      (take (32 * (s .op .0 - o .0)) (drop (placeOf (o .0)) log))
-      (length-take-le (32 * (s .op .0 - o .0)) (drop (placeOf (o .0)) log) rest-long)
+      (take (32 * (s .op .0 - o .0)) (drop (entryPlace (o .0)) log))
+      (length-take-le (32 * (s .op .0 - o .0)) (drop (entryPlace (o .0)) log) rest-long)
 
 -- on_get_state
 module _ (s : Replica) (from : ℕ) (v : View) (o : Op) (log out : List ℕ) where
@@ -104,12 +104,12 @@ module _ (s : Replica) (from : ℕ) (v : View) (o : Op) (log out : List ℕ) whe
   short a h g p = rw (h, lt-ltb (length out) (newStateLength s o) g, p)
 
   pub answered : (a : Answer) (p w : ℕ) (x : List ℕ) → Reading s (length log) → not (answers s v o) ≡ false → newStateLength s o ≤ length out
-      → p ≡ placeOf (o .0)
+      → p ≡ entryPlace (o .0)
       → Wrote (encode from (NewState v o (s .op) (s .commit)) (take (32 * (s .op .0 - o .0)) (take (length log - p) (drop p log)))) out x w
       → a ≡ completed s w 0 false → spoke a x ≡ getStateStep s from v o log out
   unfolding getStateStep if_then_else_
   answered a p w x r h g e q c =
-      let bytes : take (length log - p) (drop p log) ≡ drop (placeOf (o .0)) log = part-rest p log ∙ ap (λ (i : ℕ). drop i log) e in
+      let bytes : take (length log - p) (drop p log) ≡ drop (entryPlace (o .0)) log = part-rest p log ∙ ap (λ (i : ℕ). drop i log) e in
       rw (
         h,
         le-ltb (length out) (newStateLength s o) g,

@@ -13,10 +13,12 @@ use Rattle.numbers.specs.declared.View.{View}
 use Rattle.numbers.proofs.WordLaws.{split}
 use Rattle.numbers.proofs.RunLaws.{part-rest}
 use Rattle.entries.specs.Entries.{entries}
+use Rattle.entries.specs.Places.{entryPlace}
+use Rattle.entries.proofs.PlaceLaws.{place-is}
 use Rattle.config.proofs.SetupLaws.{sized}
 use Rattle.frames.specs.declared.Status.the-variants.{Normal}
-use Rattle.book.specs.Log.{placeOf, withEntries, risesAfter}
-use Rattle.book.proofs.LogLaws.{place-is, with-length}
+use Rattle.book.specs.Log.{withEntries, risesAfter}
+use Rattle.book.proofs.LogLaws.{with-length}
 use Rattle.state.specs.State.{heardBy, withStatus, withLog, normalIn}
 use Rattle.state.specs.Statuses.{isTransfer, isChanging}
 use Rattle.state.specs.Answers.{refusal, quiet}
@@ -114,13 +116,13 @@ install-told s v p h = subst (Told s p) h (use-told s v p)
 
 module _ (s : Replica) (x : Runs) (n k : ℕ) (part : List ℕ) (h : Sound s x) (l : 32 * k ≤ length part) where
   -- what book::rises_after asks
-  pub rises-fit : n ≤ s .op .0 → (n ≤ 4096) × ((placeOf n ≤ length (x .log)) × (32 * k ≤ length part))
+  pub rises-fit : n ≤ s .op .0 → (n ≤ 4096) × ((entryPlace n ≤ length (x .log)) × (32 * k ≤ length part))
   rises-fit g =
       let z = sized (s .setup) (h .sized) in
       (omega (arith, g, h .op-le, z .room-high), (omega (arith, g, h .op-le, h .log-long, place-is n), l))
 
   -- what book::append_part asks
-  pub append-fits : n + k ≤ s .setup .room → (n + k ≤ 4096) × ((placeOf (n + k) ≤ length (x .log)) × (32 * k ≤ length part))
+  pub append-fits : n + k ≤ s .setup .room → (n + k ≤ 4096) × ((entryPlace (n + k) ≤ length (x .log)) × (32 * k ≤ length part))
   append-fits g =
       let z = sized (s .setup) (h .sized) in
       (omega (arith, g, z .room-high), (omega (arith, g, h .log-long, place-is (n + k)), l))

@@ -9,10 +9,10 @@ use Rattle.numbers.specs.Words.{if_then_else_}
 use Rattle.numbers.specs.Numbers.{over}
 use Rattle.numbers.specs.declared.View.{View}
 use Rattle.numbers.specs.declared.Op.{Op}
+use Rattle.entries.specs.Places.{entryPlace}
 use Rattle.config.specs.Setup.{setupOk}
 use Rattle.frames.specs.declared.Message.the-variants.{NewState}
 use Rattle.writers.specs.Writers.{encode}
-use Rattle.book.specs.Log.{placeOf}
 use Rattle.state.specs.Statuses.{isNormal}
 use Rattle.state.specs.Answers.{refusal, completed, quiet}
 use Rattle.state.specs.Lengths.{logLength}
@@ -43,4 +43,4 @@ getStateStep s from v o log out =
     if ltb (length out) (newStateLength s o) then spoke (refusal 9 s) out else
     spoke
     (completed s (newStateLength s o) 0 false)
-    (over (encode from (NewState v o (s .op) (s .commit)) (take (32 * (s .op .0 - o .0)) (drop (placeOf (o .0)) log))) out)
+    (over (encode from (NewState v o (s .op) (s .commit)) (take (32 * (s .op .0 - o .0)) (drop (entryPlace (o .0)) log))) out)

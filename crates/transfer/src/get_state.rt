@@ -36,7 +36,7 @@ pub fn on_get_state(s: Replica, from: u8, v: View, o: Op, log: &[u8], out: &mut 
     }
     let op = s.op;
     let commit = s.commit;
-    let p = book::place(o.0 as usize);
+    let p = entries::entry_place(o.0 as usize);
     let w = writers::kinds::new_state(out, from, v, o, op, commit, &log[p..]);
     state::done(s, w, 0, false)
 }

@@ -13,12 +13,14 @@ use Rattle.numbers.specs.Numbers.{over, Wrote}
 use Rattle.numbers.proofs.WordLaws.{split}
 use Rattle.numbers.specs.declared.View.{View}
 use Rattle.numbers.specs.declared.Op.{Op}
+use Rattle.entries.specs.Places.{entryPlace}
+use Rattle.entries.proofs.PlaceLaws.{place-is, place-mono}
 use Rattle.config.proofs.SetupLaws.{sized}
 use Rattle.frames.specs.declared.Message.the-variants.{StartView}
 use Rattle.writers.specs.Writers.{encode, sizeOf, lengthOf}
 use Rattle.writers.proofs.WriterLaws.{encode-length}
-use Rattle.book.specs.Log.{placeOf, withEntries, keepsFirst}
-use Rattle.book.proofs.LogLaws.{place-is, place-mono, with-length, keeps-prefix}
+use Rattle.book.specs.Log.{withEntries, keepsFirst}
+use Rattle.book.proofs.LogLaws.{with-length, keeps-prefix}
 use Rattle.state.specs.State.{withLog, normalIn}
 use Rattle.state.specs.Statuses.{isChanging}
 use Rattle.state.specs.Answers.{refusal, completed, quiet}
@@ -61,7 +63,7 @@ module _ (s : Replica) (to : ℕ) (log out : List ℕ) where
 
 module _ (s : Replica) (o : Op) (part log : List ℕ) where
   pub keep-fits : Holding s (length log) → s .commit .0 ≤ s .op .0 → 32 * o .0 ≤ length part
-      → (s .commit .0 ≤ 4096) × ((placeOf (s .commit .0) ≤ length log) × (32 * o .0 ≤ length part))
+      → (s .commit .0 ≤ 4096) × ((entryPlace (s .commit .0) ≤ length log) × (32 * o .0 ≤ length part))
   keep-fits h l g =
       let z = sized (s .setup) (h .sized) in
       let p = place-mono (s .commit .0) (s .setup .room) (omega (arith, l, h .op-le)) in
@@ -128,7 +130,7 @@ module _ (s : Replica) (v : View) (o c : Op) (part log results totals acks out :
   joins-short a h p = rw (lt-ltb (length out) 16 h, p)
 
   module _ (h : Sound s (runs log results totals)) (k : Carried s o c) (l : s .commit .0 ≤ o .0) (g : 32 * o .0 ≤ length part) where
-    pub part-fits : (0 + o .0 ≤ 4096) × ((placeOf (0 + o .0) ≤ length log) × (32 * o .0 ≤ length part))
+    pub part-fits : (0 + o .0 ≤ 4096) × ((entryPlace (0 + o .0) ≤ length log) × (32 * o .0 ≤ length part))
     part-fits =
         let z = sized (s .setup) (h .sized) in
         let p = place-mono (0 + o .0) (s .setup .room) (omega (arith, k .op-le)) in

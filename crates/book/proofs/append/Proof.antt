@@ -3,7 +3,8 @@ use native.Mathlib.Omega.{arith}
 use borrow.Author.Needs.{needs}
 use lib.ListN.{length-take, length-drop}
 use Rattle.entries.specs.Entries.{encodeEntry}
-use Rattle.book.proofs.LogLaws.{place-next, with-part}
+use Rattle.entries.proofs.PlaceLaws.{place-next}
+use Rattle.book.proofs.LogLaws.{with-part}
 use Rattle.book.proofs.append.Statement.{statement}
 use Rattle.book.proofs.append.Tie as tie
 
@@ -19,7 +20,7 @@ write-entry-requires c κs = simp (length-take, length-drop) (omega (arith, plac
 returns : tie.Need-returns
 returns c =
     let a = c .before .before .before .before .before .before .args in
-    let p = c .before .before .before .before .place in
+    let p = c .before .before .before .before .entry-place in
     with-part (a .log .now) (encodeEntry (a .e)) (a .n) (p .result) (p .ensures) (c .before .before .write-entry .ensures)
 
 pub append-spec : {M : Type 1} → statement M

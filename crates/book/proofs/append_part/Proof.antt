@@ -3,7 +3,8 @@ use Prim.Native.Nat.{_*_}
 use native.Mathlib.Omega.{arith}
 use borrow.Author.Needs.{needs}
 use lib.ListN.{take, length-take, length-drop}
-use Rattle.book.proofs.LogLaws.{place-add, with-part}
+use Rattle.entries.proofs.PlaceLaws.{place-add}
+use Rattle.book.proofs.LogLaws.{with-part}
 use Rattle.book.proofs.append_part.Statement.{statement}
 use Rattle.book.proofs.append_part.Tie as tie
 
@@ -21,7 +22,7 @@ copy-requires c κs =
 returns : tie.Need-returns
 returns c =
     let a = c .before .before .before .before .before .before .before .args in
-    let p = c .before .before .before .before .place in
+    let p = c .before .before .before .before .entry-place in
     with-part (a .log .now) (take (32 * a .k) (a .part .now)) (a .n) (p .result) (p .ensures) (c .before .before .copy .ensures)
 
 pub append-part-spec : {M : Type 1} → statement M

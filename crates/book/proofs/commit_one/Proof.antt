@@ -6,17 +6,19 @@ use Rattle.book.proofs.commit_one.Tie as tie
 
 returns : tie.Need-returns
 returns c =
-    let a = c .before .before .before .before .before .before .before .before .before .before .args in
-    let o = c .before .before .before .before .before .before .apply in
+    let a = c .before .before .before .before .before .before .before .before .before .before .before .args in
+    let o = c .before .before .before .before .before .before .before .apply in
+    let p = c .before .before .before .before .result-place in
     let w = c .before .before .write-result in
-    applied-of (a .members) (a .e) (a .i) (a .results .now) (a .totals .now) (o .result) (o .ensures .0) (o .ensures .1) (w .ensures)
+    applied-of (a .members) (a .e) (a .i) (a .results .now) (a .totals .now) (o .result) (p .result) (o .ensures .0) (o .ensures .1) (p .ensures)
+    (w .ensures)
 
 pub commit-one-spec : {M : Type 1} → statement M
 commit-one-spec =
     tie.close
     (tie.spec
     (λ c κs. search needs)
-    (λ c. search needs)
+    (λ c κs. search needs)
     (λ c. search needs)
     (λ c. search needs)
     (λ c. search needs)

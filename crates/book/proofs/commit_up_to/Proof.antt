@@ -3,9 +3,9 @@ use mathlib.Core.Path.{_≡_, refl, ap, _∙_}
 use Prim.Native.Nat.{ℕ, _+_, _-_, _≤_}
 use native.Mathlib.Omega.{arith}
 use lib.ListN.{length}
+use Rattle.entries.proofs.PlaceLaws.{entry-room}
 use Rattle.book.specs.Runs.{committed}
 use Rattle.book.specs.Memory.{money}
-use Rattle.book.proofs.LogLaws.{entry-room}
 use Rattle.book.proofs.RunLaws.{commit-none, commit-more}
 use Rattle.book.proofs.commit_up_to.Statement.{statement}
 use Rattle.book.proofs.commit_up_to.Tie as tie
@@ -23,16 +23,16 @@ loop-holds c =
     let a = c .before .before .before .args in
     (omega arith, refl, refl, commit-none (a .members) (a .log .now) (a .from) (money (a .results .now) (a .totals .now)))
 
-entry-requires : tie.Need-entry-requires Inv-loop μ-loop
-entry-requires c κs =
+entry-in-requires : tie.Need-entry-in-requires Inv-loop μ-loop
+entry-in-requires c κs =
     let s = c .before .before .before .before .before .before .before in
-    entry-room (s .args .from + s .args .count) (s .pre .0) (s .pre .1 .1 .1) (omega arith)
+    entry-room (s .args .from + s .args .count) (s .pre .1 .1 .1) (omega arith)
 
 loop-again : tie.Need-loop-again Inv-loop μ-loop
 loop-again c =
     let a = c .before .before .before .before .before .before .before .before .before .before .before .before .before .args in
     let l = c .before .before .before .before .before .before .before .before .before .loop in
-    let e = c .before .before .before .before .before .entry in
+    let e = c .before .before .before .before .before .entry-in in
     let o = c .before .before .before .before .commit-one in (
       omega arith,
       o .kept .0 ∙ l .inv .1,
@@ -55,7 +55,7 @@ commit-up-to-spec =
     μ-loop
     loop-holds
     (λ c. omega arith)
-    entry-requires
+    entry-in-requires
     (λ c κs. (omega arith, omega arith))
     (λ c. omega arith)
     (λ c. omega arith)

@@ -2,7 +2,8 @@
 use mathlib.Core.Path.{sym, _∙_}
 use native.Mathlib.Omega.{arith}
 use borrow.Author.Needs.{needs}
-use Rattle.book.proofs.LogLaws.{place-long, keeps-short, keeps-long}
+use Rattle.entries.proofs.PlaceLaws.{place-long}
+use Rattle.book.proofs.LogLaws.{keeps-short, keeps-long}
 use Rattle.book.proofs.keeps.Statement.{statement}
 use Rattle.book.proofs.keeps.Tie as tie
 

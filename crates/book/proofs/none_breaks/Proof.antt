@@ -9,8 +9,9 @@ use Rattle.numbers.specs.Words.{_and_}
 use Rattle.entries.specs.Entries.{entryOf, entries}
 use Rattle.entries.specs.Rising.{follows, breaksAt}
 use Rattle.entries.proofs.RisingLaws.{fromAt, follows-next, follows-stop, from-end}
+use Rattle.entries.proofs.PlaceLaws.{entry-room}
 use Rattle.book.specs.Log.{noneBreaks}
-use Rattle.book.proofs.LogLaws.{entry-room, none-next}
+use Rattle.book.proofs.LogLaws.{none-next}
 use Rattle.book.proofs.none_breaks.Statement.{statement}
 use Rattle.book.proofs.none_breaks.Tie as tie
 
@@ -33,23 +34,23 @@ abbrev μ-pairs : tie.MeasureT-pairs
 pairs-holds : tie.Need-pairs-holds Inv-loop μ-loop Inv-pairs μ-pairs
 pairs-holds c = (omega arith, refl, rw sub-zero)
 
-entry-requires : tie.Need-entry-requires Inv-loop μ-loop Inv-pairs μ-pairs
-entry-requires c κs =
+entry-in-requires : tie.Need-entry-in-requires Inv-loop μ-loop Inv-pairs μ-pairs
+entry-in-requires c κs =
     let s = c .before .before .before .before in
-    entry-room (s .args .n) (s .pre .0) (s .pre .1 .0) (c .pairs-test .taken)
+    entry-room (s .args .n) (s .pre .1 .0) (c .pairs-test .taken)
 
 loop-holds : tie.Need-loop-holds Inv-loop μ-loop Inv-pairs μ-pairs
 loop-holds c =
     let a = c .before .before .before .before .before .args in
     let p = c .before .before .pairs in
     let t = c .before .pairs-test .taken in
-    let e = none-next (a .n) (a .log .now) (p .i) (c .entry .result) (entries (a .k) (a .part .now)) t (c .entry .ensures) in
+    let e = none-next (a .n) (a .log .now) (p .i) (c .entry-in .result) (entries (a .k) (a .part .now)) t (c .entry-in .ensures) in
     (omega arith, p .inv .1, rw (sub-zero, ← e) (p .inv .2))
 
 loop-again : tie.Need-loop-again Inv-loop μ-loop Inv-pairs μ-pairs
 loop-again c =
     let l = c .before .before .before .loop in
-    let e = c .before .before .before .before .entry .result in
+    let e = c .before .before .before .before .entry-in .result in
     let a = c .before .before .before .before .before .before .before .before .before .args in
     let f : breaksAt e (entryOf (drop (32 * l .j) (a .part .now))) ≡ false =
     sym (c .before .breaks .ensures) ∙ c .if1 .left in
@@ -75,7 +76,7 @@ returns-2 : tie.Need-returns-2 Inv-loop μ-loop Inv-pairs μ-pairs
 unfolding _and_
 returns-2 c =
     let l = c .before .before .before .loop in
-    let e = c .before .before .before .before .entry .result in
+    let e = c .before .before .before .before .entry-in .result in
     let a = c .before .before .before .before .before .before .before .before .before .args in
     let f : breaksAt e (entryOf (drop (32 * l .j) (a .part .now))) ≡ true =
     sym (c .before .breaks .ensures) ∙ c .if1 .taken in
@@ -90,7 +91,7 @@ none-breaks-spec =
     Inv-pairs
     μ-pairs
     pairs-holds
-    entry-requires
+    entry-in-requires
     loop-holds
     (λ c. omega arith)
     (λ c κs. omega arith)

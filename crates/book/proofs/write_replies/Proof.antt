@@ -5,8 +5,8 @@ use native.Mathlib.Omega.{arith}
 use borrow.Author.Needs.{needs}
 use lib.ListN.{length, length-take, length-drop}
 use Rattle.numbers.specs.Numbers.{over}
+use Rattle.entries.proofs.PlaceLaws.{entry-room}
 use Rattle.book.specs.Runs.{replies}
-use Rattle.book.proofs.LogLaws.{entry-room}
 use Rattle.book.proofs.RunLaws.{replies-none, replies-more}
 use Rattle.book.proofs.write_replies.Statement.{statement}
 use Rattle.book.proofs.write_replies.Tie as tie
@@ -23,10 +23,10 @@ loop-holds c =
     let a = c .before .before .before .args in
     (omega arith, refl, replies-none (a .v) (a .log .now) (a .results .now) (a .from) (a .area .now))
 
-entry-requires : tie.Need-entry-requires Inv-loop μ-loop
-entry-requires c κs =
+entry-in-requires : tie.Need-entry-in-requires Inv-loop μ-loop
+entry-in-requires c κs =
     let s = c .before .before .before .before .before in
-    entry-room (s .args .from + s .args .count) (s .pre .0) (s .pre .1 .1 .1) (omega arith)
+    entry-room (s .args .from + s .args .count) (s .pre .1 .1 .1) (omega arith)
 
 write-reply-requires : tie.Need-write-reply-requires Inv-loop μ-loop
 write-reply-requires c κs = simp (length-take, length-drop) (omega arith)
@@ -35,8 +35,8 @@ loop-again : tie.Need-loop-again Inv-loop μ-loop
 loop-again c =
     let a = c .before .before .before .before .before .before .before .before .before .before .before .args in
     let l = c .before .before .before .before .before .before .before .loop in
-    let e = c .before .before .before .before .before .entry in
-    let o = c .before .before .before .before .result-at in
+    let e = c .before .before .before .before .before .entry-in in
+    let o = c .before .before .before .before .result-in in
     let m = replies-more (a .v) (a .log .now) (a .results .now) (a .from) (l .k) (a .area .now) (l .area) (e .result) (o .result) in
     (omega arith, search needs, m (l .inv .2) (e .ensures) (o .ensures) (c .before .before .write-reply .ensures .bytes))
 
@@ -55,8 +55,7 @@ write-replies-spec =
     μ-loop
     loop-holds
     (λ c. omega arith)
-    entry-requires
-    (λ c. omega arith)
+    entry-in-requires
     (λ c κs. omega arith)
     (λ c. omega arith)
     (λ c. omega arith)

@@ -39,18 +39,18 @@ put-requires c κs =
 loop-again : tie.Need-loop-again Inv-loop μ-loop
 loop-again c =
     let loop-test = c .before .before .before .before .before .before .loop-test in
-    let entry-at = c .before .before .before .before .entry-at in
+    let entry-in = c .before .before .before .before .entry-in in
     let fresh = c .before .before .before .fresh in
     let l = c .before .before .before .before .before .before .before .loop in
     let a = c .before .before .before .before .before .before .before .before .before .before .args in
     let p = c .before .before .put .ensures in
-    let e = entry-at .result in (
+    let e = entry-in .result in (
       omega arith,
       omega arith,
       left-now (left-then (l .inv .2) p),
       l .inv .3 ∙ append-turn byteRow (rowsOf (a .n) (l .table)) _ e (fresh .result)
           (entries (a .to - l .k) (drop (32 * l .k) (a .log .now))) _
-          (cells-next 32 entryOf (a .to) (a .log .now) (l .k) e (loop-test .taken) (entry-at .ensures)) (fresh .ensures) (p .rows),
+          (cells-next 32 entryOf (a .to) (a .log .now) (l .k) e (loop-test .taken) (entry-in .ensures)) (fresh .ensures) (p .rows),
     )
 
 same-length : tie.Need-same-length Inv-loop μ-loop
@@ -72,7 +72,6 @@ follow-append-spec =
     Inv-loop
     μ-loop
     loop-holds
-    (λ c. omega arith)
     (λ c κs. omega arith)
     (λ c κs. search needs)
     put-requires

@@ -44,20 +44,20 @@ reply-requires c κs =
 loop-again : tie.Need-loop-again Inv-loop μ-loop
 loop-again c =
     let loop-test = c .before .before .before .before .before .before .loop-test in
-    let entry-at = c .before .before .before .before .before .entry-at in
-    let result-at = c .before .before .before .before .result-at in
+    let entry-in = c .before .before .before .before .before .entry-in in
+    let result-in = c .before .before .before .before .result-in in
     let l = c .before .before .before .before .before .before .before .loop in
     let a = c .before .before .before .before .before .before .before .before .before .before .before .args in
     let p = c .before .before .reply .ensures in
-    let e = entry-at .result in
-    let o = result-at .result in (
+    let e = entry-in .result in
+    let o = result-in .result in (
       omega arith,
       omega arith,
       left-now (left-then (l .inv .2) p),
       l .inv .3 ∙ commit-turn byteRow (rowsOf (a .n) (l .table)) _ e o (entries (a .to - l .k) (drop (32 * l .k) (a .log .now))) _
           (outcomes (a .to - l .k) (drop (9 * l .k) (a .results .now))) _
-          (cells-next 32 entryOf (a .to) (a .log .now) (l .k) e (loop-test .taken) (entry-at .ensures))
-          (cells-next 9 resultOf (a .to) (a .results .now) (l .k) o (loop-test .taken) (result-at .ensures)) (p .rows),
+          (cells-next 32 entryOf (a .to) (a .log .now) (l .k) e (loop-test .taken) (entry-in .ensures))
+          (cells-next 9 resultOf (a .to) (a .results .now) (l .k) o (loop-test .taken) (result-in .ensures)) (p .rows),
     )
 
 same-length : tie.Need-same-length Inv-loop μ-loop
@@ -80,9 +80,7 @@ follow-commit-spec =
     Inv-loop
     μ-loop
     loop-holds
-    (λ c. omega arith)
     (λ c κs. omega arith)
-    (λ c. omega arith)
     (λ c κs. omega arith)
     reply-requires
     (λ c. omega arith)

@@ -22,7 +22,7 @@ put-found-requires c κs =
     let pre = c .before .before .before .before .before .before .before .before .before .pre in
     let if1 = c .before .before .before .before .if1 in (
       pre .0,
-      found-client (pre .1 .1 .1 .1) (if1 .taken) (c .before .before .entry-at .ensures) (c .fresh .ensures),
+      found-client (pre .1 .1 .1 .1) (if1 .taken) (c .before .before .entry-in .ensures) (c .fresh .ensures),
     )
 
 -- the rows after the entry, if there was one
@@ -84,7 +84,6 @@ pub follow-found-spec : {M : Type 1} → statement M
 follow-found-spec =
     tie.close
     (tie.spec
-    (λ c. search needs)
     (λ c. search needs)
     (λ c κs. search needs)
     (λ c κs. search needs)

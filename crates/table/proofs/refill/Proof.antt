@@ -43,19 +43,19 @@ put-requires c κs =
 loop-again : tie.Need-loop-again Inv-loop μ-loop
 loop-again c =
     let loop-test = c .before .before .before .before .before .before .before .loop-test in
-    let entry-at = c .before .before .before .before .before .before .entry-at in
+    let entry-in = c .before .before .before .before .before .before .entry-in in
     let left-of = c .before .before .before .before .left-of in
     let kept = c .before .before .before .kept in
     let l = c .before .before .before .before .before .before .before .before .loop in
     let a = c .before .before .before .before .before .before .before .before .before .before .before .before .args in
     let p = c .before .before .put .ensures in
-    let e = entry-at .result in
+    let e = entry-in .result in
     let old = rowsOf (a .n) (a .old .now) in (
       omega arith,
       left-now (left-then (l .inv .1) p),
       l .inv .2 ∙ rebuild-turn byteRow old (rowsOf (a .n) (l .table)) _ (a .commit - l .k) (a .commit - (l .k + 1)) e (kept .result)
           (entries (a .op - l .k) (drop (32 * l .k) (a .log .now))) _
-          (cells-next 32 entryOf (a .op) (a .log .now) (l .k) e (loop-test .taken) (entry-at .ensures)) (omega arith)
+          (cells-next 32 entryOf (a .op) (a .log .now) (l .k) e (loop-test .taken) (entry-in .ensures)) (omega arith)
           (kept .ensures ∙ ap (λ (z : ℕ). keptRow byteRow old z e) (left-of .ensures)) (p .rows),
     )
 
@@ -78,7 +78,6 @@ refill-spec =
     Inv-loop
     μ-loop
     loop-holds
-    (λ c. omega arith)
     (λ c κs. omega arith)
     (λ c κs. search needs)
     kept-requires

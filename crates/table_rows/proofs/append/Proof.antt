@@ -1,4 +1,4 @@
--- `table_rows::append` meets its contract: a walk of its MIR, by hand: a loop whose body calls `entry_at`, `fresh` and `put`.
+-- `table_rows::append` meets its contract: a walk of its MIR, by hand: a loop whose body calls `entry_in`, `fresh` and `put`.
 -- The invariant: what the whole run of entries would leave is what the rest of it would leave of the rows that are there now. Assumes nothing.
 use mathlib.Core.Path.{_≡_, refl, sym, _∙_, ap, subst}
 use Prim.Native.Nat.{ℕ, _+_, _-_, _*_, _<_, _≤_, _^_}
@@ -45,10 +45,10 @@ use Rattle.walks.proofs.Calling.{ref, calls-fn}
 use Rattle.walks.proofs.Handing.{uintE, unitE, Arg, arg, plainly, Lent, lent, owned, items, alive, takes, gives, hands, bare, told, leaves}
 use Rattle.table_rows.specs.declared.Row.{Row}
 use Rattle.table_rows.specs.Shape.{structRow}
-use Rattle.table_rows.proofs.Asking.{EntryAt, asks-entry, Put, puts-row}
+use Rattle.table_rows.proofs.Asking.{EntryIn, asks-entry, Put, puts-row}
 use Rattle.table_rows.proofs.Rowed.{rowE, entryE}
-use Rattle.entries.proofs.entry_at.Symbol as entry-at-def
-use Rattle.entries.proofs.entry_at.Met as entry-at-thm
+use Rattle.entries.proofs.entry_in.Symbol as entry-in-def
+use Rattle.entries.proofs.entry_in.Met as entry-in-thm
 use Rattle.table_rows.proofs.cell.fresh as fresh
 use Rattle.table_rows.proofs.cell.fresh.Symbol as fresh-def
 use Rattle.table_rows.proofs.cell.fresh.Met as fresh-thm
@@ -123,16 +123,16 @@ module _ {M : Type 1} (𝓤 : URA M) (H : Heap 𝓤) (A : Atoms 𝓤) (W : Given
   abbrev to-fresh : Entry → Fresh 𝓤 H A mem run .Ghost
   to-fresh e = ((tt, tt, tt, (e, tt), (entryE .val e ∷ [], tt)), tt)
 
-  module _ (𝓣 : Tables 𝓤 H) (known-entry-at : Triple 𝓤 (𝓣 .C entry-at-def.name) (EntryAt 𝓤 H A mem run)) (known-fresh : Triple 𝓤 (𝓣 .C fresh-def.name) (Fresh 𝓤 H A mem run)) (known-put : Triple 𝓤 (𝓣 .C put-def.name) (Put 𝓤 H A mem run))
-      (l₀ l₁ l₂ l₃ l₄ l₅ l₆ l₇ l₈ l₉ l₁₀ l₁₁ l₁₂ : ℕ) where
+  module _ (𝓣 : Tables 𝓤 H) (known-entry-in : Triple 𝓤 (𝓣 .C entry-in-def.name) (EntryIn 𝓤 H A mem run)) (known-fresh : Triple 𝓤 (𝓣 .C fresh-def.name) (Fresh 𝓤 H A mem run)) (known-put : Triple 𝓤 (𝓣 .C put-def.name) (Put 𝓤 H A mem run))
+      (l₀ l₁ l₂ l₃ l₄ l₅ l₆ l₇ l₈ l₉ l₁₀ l₁₁ : ℕ) where
     abbrev at : List ℕ
-    at = l₀ ∷ l₁ ∷ l₂ ∷ l₃ ∷ l₄ ∷ l₅ ∷ l₆ ∷ l₇ ∷ l₈ ∷ l₉ ∷ l₁₀ ∷ l₁₁ ∷ l₁₂ ∷ []
+    at = l₀ ∷ l₁ ∷ l₂ ∷ l₃ ∷ l₄ ∷ l₅ ∷ l₆ ∷ l₇ ∷ l₈ ∷ l₉ ∷ l₁₀ ∷ l₁₁ ∷ []
 
     abbrev En : Env 𝓤 H
     En = env-at piece.locals at
 
     abbrev I : Turn → List (Item 𝓤)
-    I t = items (slices (t .zs)) ++ locals-at piece.locals at (none ∷ some s₀ ∷ some s₁ ∷ some (vint w64 m) ∷ some (vint w64 n) ∷ some (vint w64 (t .k)) ∷ none ∷ none ∷ none ∷ none ∷ none ∷ none ∷ none ∷ []) []
+    I t = items (slices (t .zs)) ++ locals-at piece.locals at (none ∷ some s₀ ∷ some s₁ ∷ some (vint w64 m) ∷ some (vint w64 n) ∷ some (vint w64 (t .k)) ∷ none ∷ none ∷ none ∷ none ∷ none ∷ none ∷ []) []
 
     abbrev left : Turn → ℕ
     left t = n - t .k
@@ -143,31 +143,30 @@ module _ {M : Type 1} (𝓤 : URA M) (H : Heap 𝓤) (A : Atoms 𝓤) (W : Given
     turn : (t : Turn) → Sq W (I t) (runs (𝓣 .C) (𝓣 .Λ) En piece.turn-1 (anyQ (afterTurn 𝓤 H (Below 𝓤 H A (Less left) I t) Left)))
     unfolding afterTurn
     turn t =
-        -- [the rows; their token; the log; its token; _12; …; … _0; …]: local j stands at 4 + 2 · (12 − j)
-        assigns ! (bin ! (load ! (from ! (stop !)) (look ! 18 refl)) (load ! (from ! (stop !)) (look ! 20 refl)) tt) (from ! (stop !)) (init ! 16 refl (tt, tt)) $
-        tests ! (load ! (from ! (stop !)) (look ! 16 refl))
+        -- [the rows; their token; the log; its token; _11; …; … _0; …]: local j stands at 4 + 2 · (11 − j)
+        assigns ! (bin ! (load ! (from ! (stop !)) (look ! 16 refl)) (load ! (from ! (stop !)) (look ! 18 refl)) tt) (from ! (stop !)) (init ! 14 refl (tt, tt)) $
+        tests ! (load ! (from ! (stop !)) (look ! 14 refl))
         (λ h.
-        assigns ! (addr ! (from ! (fld ! refl (hop ! (look-in ! 26 (sub ! 0 refl (whole !))) (stop !))))) (from ! (stop !)) (init ! 12 refl (tt, tt)) $
-        assigns ! (agg ! (and-then ! (load ! (from ! (stop !)) (look ! 12 refl)) (and-then ! (load ! (from ! (fld ! refl (stop !))) (look-in ! 26 (sub ! 1 refl (whole !)))) (no-more !)))) (from ! (stop !)) (init ! 10 refl (tt, (tt, (record { fits = room₀ .0 }, tt)))) $
-        assigns ! (bin ! (lit ! tt) (load ! (from ! (stop !)) (look ! 18 refl)) (record { fits = spot-fits h })) (from ! (stop !)) (init ! 4 refl (tt, record { fits = spot-fits h })) $
-        move ! (2 ∷ 3 ∷ []) $ asks-entry mem run ! (fmOf 𝓤 H (W .laws) 𝓣) known-entry-at (named 1) κ₁ q₁ γ₁ b₁ o₁ ls (32 * t .k) (omega (arith, lt h, enough)) (spot-fits h) (and-then ! (load ! (from ! (stop !)) (look ! 24 refl)) (and-then ! (load ! (from ! (stop !)) (look ! 4 refl)) (no-more !)))
-        4 refl refl (λ e p is.
+        assigns ! (addr ! (from ! (fld ! refl (hop ! (look-in ! 24 (sub ! 0 refl (whole !))) (stop !))))) (from ! (stop !)) (init ! 10 refl (tt, tt)) $
+        assigns ! (agg ! (and-then ! (load ! (from ! (stop !)) (look ! 10 refl)) (and-then ! (load ! (from ! (fld ! refl (stop !))) (look-in ! 24 (sub ! 1 refl (whole !)))) (no-more !)))) (from ! (stop !)) (init ! 8 refl (tt, (tt, (record { fits = room₀ .0 }, tt)))) $
+        move ! (2 ∷ 3 ∷ []) $ asks-entry mem run ! (fmOf 𝓤 H (W .laws) 𝓣) known-entry-in (named 1) κ₁ q₁ γ₁ b₁ o₁ ls (t .k) (omega (arith, lt h, enough)) (k-fits h) (and-then ! (load ! (from ! (stop !)) (look ! 22 refl)) (and-then ! (load ! (from ! (stop !)) (look ! 16 refl)) (no-more !)))
+        2 refl refl (λ e p is.
         gives W [] (Fresh 𝓤 H A mem run .pre (to-fresh e)) (bare ! $ hands ! [] (arg entryE e is ∷ [])) $
-        calls-fn ! (fmOf 𝓤 H (W .laws) 𝓣) fresh.ended (fresh.clauses 𝓤 H A mem run) known-fresh (to-fresh e) (and-then ! (load ! (from ! (stop !)) (look ! 7 refl)) (no-more !)) (λ v y ws.
-        heard ! (y ≡ structRow .fresh e) (λ p′. told rowE ! [] 8 y v refl refl (λ is′.
-        move ! (2 ∷ 3 ∷ []) $ puts-row mem run ! (fmOf 𝓤 H (W .laws) 𝓣) known-put (named 0) γ₀ b₀ o₀ (t .zs) s₀ (ap (λ (j : ℕ). sliceVal (b₀, o₀) j ∷ []) (sym (t .long))) (subst (Room R) (sym (t .long)) room₀) y is′ (λ ν δ. (and-then ! (load ! (from ! (stop !)) (look ! 10 refl)) (and-then ! (load ! (from ! (stop !)) (look ! 8 refl)) (no-more !))))
-        12 refl refl (λ zs p″ l.
-        assigns-last ! (bin ! (load ! (from ! (stop !)) (look ! 18 refl)) (lit ! tt) (record { fits = next-fits h })) (from ! (stop !)) (store ! 18 refl (tt, record { fits = next-fits h })) $
-        forget ! 4 refl $ forget ! 6 refl $ forget ! 8 refl $ forget ! 10 refl $ forget ! 12 refl $ forget ! 14 refl $ forget ! 16 refl $ again ! (Less left) I t (next h e y zs p p′ p″ l) (omega (arith, lt h))))))))
+        calls-fn ! (fmOf 𝓤 H (W .laws) 𝓣) fresh.ended (fresh.clauses 𝓤 H A mem run) known-fresh (to-fresh e) (and-then ! (load ! (from ! (stop !)) (look ! 5 refl)) (no-more !)) (λ v y ws.
+        heard ! (y ≡ structRow .fresh e) (λ p′. told rowE ! [] 6 y v refl refl (λ is′.
+        move ! (2 ∷ 3 ∷ []) $ puts-row mem run ! (fmOf 𝓤 H (W .laws) 𝓣) known-put (named 0) γ₀ b₀ o₀ (t .zs) s₀ (ap (λ (j : ℕ). sliceVal (b₀, o₀) j ∷ []) (sym (t .long))) (subst (Room R) (sym (t .long)) room₀) y is′ (λ ν δ. (and-then ! (load ! (from ! (stop !)) (look ! 8 refl)) (and-then ! (load ! (from ! (stop !)) (look ! 6 refl)) (no-more !))))
+        10 refl refl (λ zs p″ l.
+        assigns-last ! (bin ! (load ! (from ! (stop !)) (look ! 16 refl)) (lit ! tt) (record { fits = next-fits h })) (from ! (stop !)) (store ! 16 refl (tt, record { fits = next-fits h })) $
+        forget ! 4 refl $ forget ! 6 refl $ forget ! 8 refl $ forget ! 10 refl $ forget ! 12 refl $ forget ! 14 refl $ again ! (Less left) I t (next h e y zs p p′ p″ l) (omega (arith, lt h))))))))
         (λ h. exec ! (𝓣 .C) (𝓣 .Λ) En piece.t-3 (atRet En Post) $
-        assigns ! (of-opd ! (unit-lit !)) (from ! (stop !)) (init ! 28 refl (tt, tt)) $
-        returns ! (look ! 28 refl) $ gone ! 28 refl refl $ gone ! 26 refl refl $ gone ! 24 refl refl $ gone ! 22 refl refl $ gone ! 20 refl refl $ gone ! 18 refl refl $ gone ! 16 refl refl $ gone-room ! 14 refl refl $ gone-room ! 12 refl refl $ gone-room ! 10 refl refl $ gone-room ! 8 refl refl $ gone-room ! 6 refl refl $ gone-room ! 4 refl refl $ free0 ! $ by ! (exits t (nltb→le (t .k) n h)))
+        assigns ! (of-opd ! (unit-lit !)) (from ! (stop !)) (init ! 26 refl (tt, tt)) $
+        returns ! (look ! 26 refl) $ gone ! 26 refl refl $ gone ! 24 refl refl $ gone ! 22 refl refl $ gone ! 20 refl refl $ gone ! 18 refl refl $ gone ! 16 refl refl $ gone ! 14 refl refl $ gone-room ! 12 refl refl $ gone-room ! 10 refl refl $ gone-room ! 8 refl refl $ gone-room ! 6 refl refl $ gone-room ! 4 refl refl $ free0 ! $ by ! (exits t (nltb→le (t .k) n h)))
       where
         lt : T (ltb (t .k) n) → t .k < n
         lt h = ltb→lt (t .k) n h
 
-        spot-fits : T (ltb (t .k) n) → 32 * t .k < 2 ^ 64
-        spot-fits h = omega (arith, lt h, enough, room₁ .0)
+        k-fits : T (ltb (t .k) n) → t .k < 2 ^ 64
+        k-fits h = omega (arith, lt h, are .1 .0 .1)
 
         next-fits : T (ltb (t .k) n) → t .k + 1 < 2 ^ 64
         next-fits h = omega (arith, lt h, are .1 .0 .1)
@@ -181,28 +180,28 @@ module _ {M : Type 1} (𝓤 : URA M) (H : Heap 𝓤) (A : Atoms 𝓤) (W : Given
           is = t .is ∙ append-turn structRow (t .zs) zs e y (rest (t .k)) (rest (t .k + 1)) (cells-next 32 entryOf n ls (t .k) e (lt h) p) p′ p″;
         }
 
-  walk : (𝓣 : Tables 𝓤 H) → Triple 𝓤 (𝓣 .C entry-at-def.name) (EntryAt 𝓤 H A mem run) → Triple 𝓤 (𝓣 .C fresh-def.name) (Fresh 𝓤 H A mem run) → Triple 𝓤 (𝓣 .C put-def.name) (Put 𝓤 H A mem run)
+  walk : (𝓣 : Tables 𝓤 H) → Triple 𝓤 (𝓣 .C entry-in-def.name) (EntryIn 𝓤 H A mem run) → Triple 𝓤 (𝓣 .C fresh-def.name) (Fresh 𝓤 H A mem run) → Triple 𝓤 (𝓣 .C put-def.name) (Put 𝓤 H A mem run)
       → ent 𝓤 (onEntry 𝓤 H A append.signature (κ₀, (κ₁, tt)) (q₀, (q₁, tt)) a vals) (WpFn 𝓤 H (𝓣 .C) (𝓣 .Λ) code.function (s₀ ∷ s₁ ∷ vint w64 m ∷ vint w64 n ∷ []) Post)
-  walk 𝓣 known-entry-at known-fresh known-put =
+  walk 𝓣 known-entry-in known-fresh known-put =
       qed W (raw (alive 𝓤 A (slices ys)) ∷ ‵ (owned (slices ys) (plainly params)) ∷ []) ∵ takes W (slices ys) (plainly params) $
       enter ! (𝓣 .C) (𝓣 .Λ) code.function (s₀ ∷ s₁ ∷ vint w64 m ∷ vint w64 n ∷ []) _ $
-      alloc1 ! (λ l₀. alloc1 ! (λ l₁. alloc1 ! (λ l₂. alloc1 ! (λ l₃. alloc1 ! (λ l₄. alloc1 ! (λ l₅. alloc1 ! (λ l₆. alloc1 ! (λ l₇. alloc1 ! (λ l₈. alloc1 ! (λ l₉. alloc1 ! (λ l₁₀. alloc1 ! (λ l₁₁. alloc1 ! (λ l₁₂. alloc0 ! $ params1 ! $
-      pass1 ! (init ! 22 refl (tt, (tt, (record { fits = room₀ .0 }, tt)))) $ pass1 ! (init ! 20 refl (tt, (tt, (record { fits = room₁ .0 }, tt)))) $ pass1 ! (init ! 18 refl (tt, record { fits = are .0 .1 })) $ pass1 ! (init ! 16 refl (tt, record { fits = are .1 .0 .1 })) $ pass0 ! $
-      assigns ! (of-opd ! (load ! (from ! (stop !)) (look ! 18 refl))) (from ! (stop !)) (init ! 14 refl (tt, record { fits = are .0 .1 })) $
-      move ! (26 ∷ 27 ∷ 28 ∷ 29 ∷ []) $ first ! $ blocks ! $ while-loop ! 𝓣 (left 𝓣 known-entry-at known-fresh known-put l₀ l₁ l₂ l₃ l₄ l₅ l₆ l₇ l₈ l₉ l₁₀ l₁₁ l₁₂) (I 𝓣 known-entry-at known-fresh known-put l₀ l₁ l₂ l₃ l₄ l₅ l₆ l₇ l₈ l₉ l₁₀ l₁₁ l₁₂) (turn 𝓣 known-entry-at known-fresh known-put l₀ l₁ l₂ l₃ l₄ l₅ l₆ l₇ l₈ l₉ l₁₀ l₁₁ l₁₂)
-      (record { k = m; zs = ys; below = upward; long = refl; is = refl }))))))))))))))
+      alloc1 ! (λ l₀. alloc1 ! (λ l₁. alloc1 ! (λ l₂. alloc1 ! (λ l₃. alloc1 ! (λ l₄. alloc1 ! (λ l₅. alloc1 ! (λ l₆. alloc1 ! (λ l₇. alloc1 ! (λ l₈. alloc1 ! (λ l₉. alloc1 ! (λ l₁₀. alloc1 ! (λ l₁₁. alloc0 ! $ params1 ! $
+      pass1 ! (init ! 20 refl (tt, (tt, (record { fits = room₀ .0 }, tt)))) $ pass1 ! (init ! 18 refl (tt, (tt, (record { fits = room₁ .0 }, tt)))) $ pass1 ! (init ! 16 refl (tt, record { fits = are .0 .1 })) $ pass1 ! (init ! 14 refl (tt, record { fits = are .1 .0 .1 })) $ pass0 ! $
+      assigns ! (of-opd ! (load ! (from ! (stop !)) (look ! 16 refl))) (from ! (stop !)) (init ! 12 refl (tt, record { fits = are .0 .1 })) $
+      move ! (24 ∷ 25 ∷ 26 ∷ 27 ∷ []) $ first ! $ blocks ! $ while-loop ! 𝓣 (left 𝓣 known-entry-in known-fresh known-put l₀ l₁ l₂ l₃ l₄ l₅ l₆ l₇ l₈ l₉ l₁₀ l₁₁) (I 𝓣 known-entry-in known-fresh known-put l₀ l₁ l₂ l₃ l₄ l₅ l₆ l₇ l₈ l₉ l₁₀ l₁₁) (turn 𝓣 known-entry-in known-fresh known-put l₀ l₁ l₂ l₃ l₄ l₅ l₆ l₇ l₈ l₉ l₁₀ l₁₁)
+      (record { k = m; zs = ys; below = upward; long = refl; is = refl })))))))))))))
 
 append-meets : {M : Type 1} (𝓤 : URA M) (H : Heap 𝓤) (A : Atoms 𝓤) (W : Given 𝓤 H A) (mem : Memory → SProp 𝓤) (run : Routine → Fun 𝓤) (𝓣 : Tables 𝓤 H)
-    → Triple 𝓤 (𝓣 .C entry-at-def.name) (EntryAt 𝓤 H A mem run) → Triple 𝓤 (𝓣 .C fresh-def.name) (Fresh 𝓤 H A mem run) → Triple 𝓤 (𝓣 .C put-def.name) (Put 𝓤 H A mem run)
+    → Triple 𝓤 (𝓣 .C entry-in-def.name) (EntryIn 𝓤 H A mem run) → Triple 𝓤 (𝓣 .C fresh-def.name) (Fresh 𝓤 H A mem run) → Triple 𝓤 (𝓣 .C put-def.name) (Put 𝓤 H A mem run)
     → Meets 𝓤 H A append.signature (WpFn 𝓤 H (𝓣 .C) (𝓣 .Λ) code.function) (append.spec 𝓤 H A mem run)
-append-meets 𝓤 H A W mem run 𝓣 known-entry-at known-fresh known-put =
+append-meets 𝓤 H A W mem run 𝓣 known-entry-in known-fresh known-put =
     met-by 𝓤 H A W append.ended stayed (append.clauses 𝓤 H A mem run) 𝓣 code.function
     (goes-slice 𝓤 H A W 2 0 tt (plain (λ _. R)), (goes-none-slice 𝓤 H A W 2 (1 ∷ []) tt (plain (λ _. u8)) yes, (goes-none 𝓤 H A W 2 (λ _. usize) yes (λ κs x f. refl), (goes-none 𝓤 H A W 2 (λ _. usize) yes (λ κs x f. refl), tt))))
     (λ κs. (slice-vals, (slice-vals, (uint-vals w64, (uint-vals w64, tt)))))
     (λ κs. (mut-slice-tells (named 0) (κs .0) R, (shr-slice-tells (named 1) (κs .1 .0) u8, (uint-tells w64, (uint-tells w64, tt)))))
     (λ κs qs bounds a g are. needs 𝓤 ((32 * a .1 .1 .1 .0 ≤ length (a .1 .0 .now)) × (a .1 .1 .0 ≤ a .1 .1 .1 .0)) _ (λ pre.
     walk 𝓤 H A W mem run (κs .0) (κs .1 .0) (qs .0) (qs .1 .0) (a .0 .ptr .0) (a .0 .ptr .1) (a .1 .0 .ptr .0) (a .1 .0 .ptr .1) (a .0 .name) (a .1 .0 .name)
-    (a .0 .now) (a .1 .0 .now) (a .1 .1 .0) (a .1 .1 .1 .0) (are .1 .1) (are .0 .0 .1) (are .1 .0 .0 .1) (pre .0) (pre .1) 𝓣 known-entry-at known-fresh known-put))
+    (a .0 .now) (a .1 .0 .now) (a .1 .1 .0) (a .1 .1 .1 .0) (are .1 .1) (are .0 .0 .1) (are .1 .0 .0 .1) (pre .0) (pre .1) 𝓣 known-entry-in known-fresh known-put))
 
 pub append-spec : {M : Type 1} → stated.statement M
 unfolding code.routine tablesOf
@@ -210,6 +209,6 @@ append-spec 𝓤 H 𝓜 𝓖 𝓡 =
     entered 𝓤 H (tripleOf 𝓤 H (𝓖 .A) append.signature (append.spec 𝓤 H (𝓖 .A) (𝓜 .mem) (𝓡 .run)))
     (tables 𝓤 H 𝓜 𝓡 code.env .C) (tables 𝓤 H 𝓜 𝓡 code.env .Λ) #append code.function (code.unfolded 𝓤 H 𝓜 𝓡)
     (append-meets 𝓤 H (𝓖 .A) (givenOf 𝓤 H 𝓜 𝓖) (𝓜 .mem) (𝓡 .run) (tablesOf 𝓤 H 𝓜 (tables 𝓤 H 𝓜 𝓡 code.env))
-    (cited 𝓤 H (EntryAt 𝓤 H (𝓖 .A) (𝓜 .mem) (𝓡 .run)) 𝓜 𝓡 code.env entry-at-def.name entry-at-def.routine code.calls-entries·entry-at (entry-at-thm.met 𝓤 H 𝓜 𝓖 𝓡))
+    (cited 𝓤 H (EntryIn 𝓤 H (𝓖 .A) (𝓜 .mem) (𝓡 .run)) 𝓜 𝓡 code.env entry-in-def.name entry-in-def.routine code.calls-entries·entry-in (entry-in-thm.met 𝓤 H 𝓜 𝓖 𝓡))
     (cited 𝓤 H (Fresh 𝓤 H (𝓖 .A) (𝓜 .mem) (𝓡 .run)) 𝓜 𝓡 code.env fresh-def.name fresh-def.routine code.calls-table-rows·cell·fresh (fresh-thm.met 𝓤 H 𝓜 𝓖 𝓡))
     (cited 𝓤 H (Put 𝓤 H (𝓖 .A) (𝓜 .mem) (𝓡 .run)) 𝓜 𝓡 code.env put-def.name put-def.routine code.calls-table-rows·put (put-thm.met 𝓤 H 𝓜 𝓖 𝓡)))

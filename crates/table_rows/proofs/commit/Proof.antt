@@ -1,4 +1,4 @@
--- `table_rows::commit` meets its contract: a walk of its MIR, by hand: a loop whose body calls `entry_at`, `result_at` and `keep_reply`.
+-- `table_rows::commit` meets its contract: a walk of its MIR, by hand: a loop whose body calls `entry_in`, `result_in` and `keep_reply`.
 -- The invariant: what the whole run of entries would leave is what the rest of it would leave of the rows that are there now. Assumes nothing.
 use mathlib.Core.Path.{_≡_, refl, sym, _∙_, ap, subst}
 use Prim.Native.Nat.{ℕ, _+_, _-_, _*_, _<_, _≤_, _^_}
@@ -48,13 +48,13 @@ use Rattle.walks.proofs.Calling.{ref, calls-fn}
 use Rattle.walks.proofs.Handing.{uintE, unitE, Arg, arg, plainly, Lent, lent, owned, items, alive, takes, gives, hands, bare, last-of, told, leaves, lend-new, back-new, shared-too}
 use Rattle.table_rows.specs.declared.Row.{Row}
 use Rattle.table_rows.specs.Shape.{structRow}
-use Rattle.table_rows.proofs.Asking.{EntryAt, asks-entry}
+use Rattle.table_rows.proofs.Asking.{EntryIn, asks-entry}
 use Rattle.table_rows.proofs.Rowed.{rowE, entryE, outcomeE}
-use Rattle.entries.proofs.entry_at.Symbol as entry-at-def
-use Rattle.entries.proofs.entry_at.Met as entry-at-thm
-use Rattle.fees.proofs.result_at as result-at
-use Rattle.fees.proofs.result_at.Symbol as result-at-def
-use Rattle.fees.proofs.result_at.Met as result-at-thm
+use Rattle.entries.proofs.entry_in.Symbol as entry-in-def
+use Rattle.entries.proofs.entry_in.Met as entry-in-thm
+use Rattle.fees.proofs.result_in as result-in
+use Rattle.fees.proofs.result_in.Symbol as result-in-def
+use Rattle.fees.proofs.result_in.Met as result-in-thm
 use Rattle.table_rows.proofs.keep_reply as keep-reply
 use Rattle.table_rows.proofs.keep_reply.Symbol as keep-reply-def
 use Rattle.table_rows.proofs.keep_reply.Met as keep-reply-thm
@@ -71,8 +71,8 @@ abbrev stayed : Stays (commit.ended .signature .params) (commit.ended .kept)
 stayed = (stay-slice (0 ∷ []) tt (plain (λ _. R)), (stay-none-slice (1 ∷ []) tt (plain (λ _. u8)) yes, (stay-none-slice (2 ∷ []) tt (plain (λ _. u8)) yes, (stay-none (λ _. usize) yes, (stay-none (λ _. usize) yes, tt)))))
 
 module _ {M : Type 1} (𝓤 : URA M) (H : Heap 𝓤) (A : Atoms 𝓤) (mem : Memory → SProp 𝓤) (run : Routine → Fun 𝓤) where
-  abbrev ResultAt : Contract 𝓤
-  ResultAt = tripleOf 𝓤 H A result-at.signature (result-at.spec 𝓤 H A mem run)
+  abbrev ResultIn : Contract 𝓤
+  ResultIn = tripleOf 𝓤 H A result-in.signature (result-in.spec 𝓤 H A mem run)
 
   abbrev KeepReply : Contract 𝓤
   KeepReply = tripleOf 𝓤 H A keep-reply.signature (keep-reply.spec 𝓤 H A mem run)
@@ -136,8 +136,8 @@ module _ {M : Type 1} (𝓤 : URA M) (H : Heap 𝓤) (A : Atoms 𝓤) (W : Given
       says ! (sym (t .is ∙ commit-nothing structRow (t .zs) (rest (t .k)) (gave (t .k)) (cells-none 9 resultOf n (past (9 * t .k) rs) (t .k) l))) $ leaves ! (slices (t .zs)) params (arg unitE tt refl)
 
   -- what each callee's triple binds outside
-  abbrev to-result-at : ℕ → ResultAt 𝓤 H A mem run .Ghost
-  to-result-at i = (((κ₂, tt), (q₂, tt), tt, (ref γ₂ b₂ o₂ rs, (i, tt)), (s₂ ∷ [], (vint w64 i ∷ [], tt))), tt)
+  abbrev to-result-in : ℕ → ResultIn 𝓤 H A mem run .Ghost
+  to-result-in i = (((κ₂, tt), (q₂, tt), tt, (ref γ₂ b₂ o₂ rs, (i, tt)), (s₂ ∷ [], (vint w64 i ∷ [], tt))), tt)
 
   abbrev to-keep-reply : ℕ → GName → List Row → Entry → Outcome → KeepReply 𝓤 H A mem run .Ghost
   to-keep-reply ν δ zs e o = (((ν ∷ [], tt), (fullShare, tt), tt, (ref δ b₀ o₀ zs, (e, (o, tt))), (s₀ ∷ [], (entryE .val e ∷ [], (outcomeE .val o ∷ [], tt)))), tt)
@@ -145,16 +145,16 @@ module _ {M : Type 1} (𝓤 : URA M) (H : Heap 𝓤) (A : Atoms 𝓤) (W : Given
   abbrev lent-rows : ℕ → GName → List Row → List Lent
   lent-rows ν δ zs = lent (ν ∷ []) fullShare (MutSlice (named 0) (ν ∷ []) R .own (ref δ b₀ o₀ zs) (s₀ ∷ [])) ∷ []
 
-  module _ (𝓣 : Tables 𝓤 H) (known-entry-at : Triple 𝓤 (𝓣 .C entry-at-def.name) (EntryAt 𝓤 H A mem run)) (known-result-at : Triple 𝓤 (𝓣 .C result-at-def.name) (ResultAt 𝓤 H A mem run)) (known-keep-reply : Triple 𝓤 (𝓣 .C keep-reply-def.name) (KeepReply 𝓤 H A mem run))
-      (l₀ l₁ l₂ l₃ l₄ l₅ l₆ l₇ l₈ l₉ l₁₀ l₁₁ l₁₂ l₁₃ l₁₄ : ℕ) where
+  module _ (𝓣 : Tables 𝓤 H) (known-entry-in : Triple 𝓤 (𝓣 .C entry-in-def.name) (EntryIn 𝓤 H A mem run)) (known-result-in : Triple 𝓤 (𝓣 .C result-in-def.name) (ResultIn 𝓤 H A mem run)) (known-keep-reply : Triple 𝓤 (𝓣 .C keep-reply-def.name) (KeepReply 𝓤 H A mem run))
+      (l₀ l₁ l₂ l₃ l₄ l₅ l₆ l₇ l₈ l₉ l₁₀ l₁₁ l₁₂ : ℕ) where
     abbrev at : List ℕ
-    at = l₀ ∷ l₁ ∷ l₂ ∷ l₃ ∷ l₄ ∷ l₅ ∷ l₆ ∷ l₇ ∷ l₈ ∷ l₉ ∷ l₁₀ ∷ l₁₁ ∷ l₁₂ ∷ l₁₃ ∷ l₁₄ ∷ []
+    at = l₀ ∷ l₁ ∷ l₂ ∷ l₃ ∷ l₄ ∷ l₅ ∷ l₆ ∷ l₇ ∷ l₈ ∷ l₉ ∷ l₁₀ ∷ l₁₁ ∷ l₁₂ ∷ []
 
     abbrev En : Env 𝓤 H
     En = env-at piece.locals at
 
     abbrev I : Turn → List (Item 𝓤)
-    I t = items (slices (t .zs)) ++ locals-at piece.locals at (none ∷ some s₀ ∷ some s₁ ∷ some s₂ ∷ some (vint w64 m) ∷ some (vint w64 n) ∷ some (vint w64 (t .k)) ∷ none ∷ none ∷ none ∷ none ∷ none ∷ none ∷ none ∷ none ∷ []) []
+    I t = items (slices (t .zs)) ++ locals-at piece.locals at (none ∷ some s₀ ∷ some s₁ ∷ some s₂ ∷ some (vint w64 m) ∷ some (vint w64 n) ∷ some (vint w64 (t .k)) ∷ none ∷ none ∷ none ∷ none ∷ none ∷ none ∷ []) []
 
     abbrev left : Turn → ℕ
     left t = n - t .k
@@ -165,38 +165,33 @@ module _ {M : Type 1} (𝓤 : URA M) (H : Heap 𝓤) (A : Atoms 𝓤) (W : Given
     turn : (t : Turn) → Sq W (I t) (runs (𝓣 .C) (𝓣 .Λ) En piece.turn-1 (anyQ (afterTurn 𝓤 H (Below 𝓤 H A (Less left) I t) Left)))
     unfolding afterTurn
     turn t =
-        -- [the rows; their token; the log; its token; the results; their token; _14; …; … _0; …]: local j stands at 6 + 2 · (14 − j)
-        assigns ! (bin ! (load ! (from ! (stop !)) (look ! 22 refl)) (load ! (from ! (stop !)) (look ! 24 refl)) tt) (from ! (stop !)) (init ! 20 refl (tt, tt)) $
-        tests ! (load ! (from ! (stop !)) (look ! 20 refl))
+        -- [the rows; their token; the log; its token; the results; their token; _12; …; … _0; …]: local j stands at 6 + 2 · (12 − j)
+        assigns ! (bin ! (load ! (from ! (stop !)) (look ! 18 refl)) (load ! (from ! (stop !)) (look ! 20 refl)) tt) (from ! (stop !)) (init ! 16 refl (tt, tt)) $
+        tests ! (load ! (from ! (stop !)) (look ! 16 refl))
         (λ h.
-        assigns ! (addr ! (from ! (fld ! refl (hop ! (look-in ! 32 (sub ! 0 refl (whole !))) (stop !))))) (from ! (stop !)) (init ! 16 refl (tt, tt)) $
-        assigns ! (agg ! (and-then ! (load ! (from ! (stop !)) (look ! 16 refl)) (and-then ! (load ! (from ! (fld ! refl (stop !))) (look-in ! 32 (sub ! 1 refl (whole !)))) (no-more !)))) (from ! (stop !)) (init ! 14 refl (tt, (tt, (record { fits = room₀ .0 }, tt)))) $
-        assigns ! (bin ! (lit ! tt) (load ! (from ! (stop !)) (look ! 22 refl)) (record { fits = spot-fits h })) (from ! (stop !)) (init ! 10 refl (tt, record { fits = spot-fits h })) $
-        move ! (2 ∷ 3 ∷ []) $ asks-entry mem run ! (fmOf 𝓤 H (W .laws) 𝓣) known-entry-at (named 1) κ₁ q₁ γ₁ b₁ o₁ ls (32 * t .k) (omega (arith, lt h, enough)) (spot-fits h) (and-then ! (load ! (from ! (stop !)) (look ! 30 refl)) (and-then ! (load ! (from ! (stop !)) (look ! 10 refl)) (no-more !)))
-        10 refl refl (λ e p is.
-        assigns ! (bin ! (lit ! tt) (load ! (from ! (stop !)) (look ! 22 refl)) (record { fits = place-fits h })) (from ! (stop !)) (init ! 6 refl (tt, record { fits = place-fits h })) $
-        move ! (4 ∷ []) $ shared-too u8 ! (named 2) (ref γ₂ b₂ o₂ rs) (s₂ ∷ []) $ move ! (0 ∷ 6 ∷ []) $ gives W results (ResultAt 𝓤 H A mem run .pre (to-result-at (9 * t .k)))
-        (says ! (omega (arith, lt h, enough′)) $ hands ! results (arg (uintE w64) (9 * t .k) (refl, place-fits h) ∷ [])) $
-        calls-fn ! (fmOf 𝓤 H (W .laws) 𝓣) result-at.ended (result-at.clauses 𝓤 H A mem run) known-result-at (to-result-at (9 * t .k)) (and-then ! (load ! (from ! (stop !)) (look ! 28 refl)) (and-then ! (load ! (from ! (stop !)) (look ! 6 refl)) (no-more !))) (λ v o ws.
-        heard ! (o ≡ resultOf (past (9 * t .k) rs)) (λ p′. told outcomeE ! results 7 o v refl refl (λ is′.
+        assigns ! (addr ! (from ! (fld ! refl (hop ! (look-in ! 28 (sub ! 0 refl (whole !))) (stop !))))) (from ! (stop !)) (init ! 12 refl (tt, tt)) $
+        assigns ! (agg ! (and-then ! (load ! (from ! (stop !)) (look ! 12 refl)) (and-then ! (load ! (from ! (fld ! refl (stop !))) (look-in ! 28 (sub ! 1 refl (whole !)))) (no-more !)))) (from ! (stop !)) (init ! 10 refl (tt, (tt, (record { fits = room₀ .0 }, tt)))) $
+        move ! (2 ∷ 3 ∷ []) $ asks-entry mem run ! (fmOf 𝓤 H (W .laws) 𝓣) known-entry-in (named 1) κ₁ q₁ γ₁ b₁ o₁ ls (t .k) (omega (arith, lt h, enough)) (k-fits h) (and-then ! (load ! (from ! (stop !)) (look ! 26 refl)) (and-then ! (load ! (from ! (stop !)) (look ! 18 refl)) (no-more !)))
+        6 refl refl (λ e p is.
+        move ! (4 ∷ []) $ shared-too u8 ! (named 2) (ref γ₂ b₂ o₂ rs) (s₂ ∷ []) $ move ! (0 ∷ 6 ∷ []) $ gives W results (ResultIn 𝓤 H A mem run .pre (to-result-in (t .k)))
+        (says ! (omega (arith, lt h, enough′)) $ hands ! results (arg (uintE w64) (t .k) (refl, k-fits h) ∷ [])) $
+        calls-fn ! (fmOf 𝓤 H (W .laws) 𝓣) result-in.ended (result-in.clauses 𝓤 H A mem run) known-result-in (to-result-in (t .k)) (and-then ! (load ! (from ! (stop !)) (look ! 24 refl)) (and-then ! (load ! (from ! (stop !)) (look ! 18 refl)) (no-more !))) (λ v o ws.
+        heard ! (o ≡ resultOf (past (9 * t .k) rs)) (λ p′. told outcomeE ! results 5 o v refl refl (λ is′.
         move ! (4 ∷ 5 ∷ []) $ lend-new R ! tt (named 0) (named 0) γ₀ b₀ o₀ (t .zs) (s₀ ∷ []) (λ ν δ. gives W (lent-rows ν δ (t .zs)) (KeepReply 𝓤 H A mem run .pre (to-keep-reply ν δ (t .zs) e o)) (bare ! $ hands ! (lent-rows ν δ (t .zs)) (arg entryE e is ∷ arg outcomeE o is′ ∷ [])) $
-        calls-fn ! (fmOf 𝓤 H (W .laws) 𝓣) keep-reply.ended (keep-reply.clauses 𝓤 H A mem run) known-keep-reply (to-keep-reply ν δ (t .zs) e o) (and-then ! (load ! (from ! (stop !)) (look ! 14 refl)) (and-then ! (load ! (from ! (stop !)) (look ! 12 refl)) (and-then ! (load ! (from ! (stop !)) (look ! 8 refl)) (no-more !)))) (λ u x ws′.
-        heard ! (ws′ .0 ≡ replied structRow (t .zs) e o) (λ p″. last-of ! (λ l. told unitE ! (lent-rows ν δ (t .zs)) 18 x u refl refl (λ _.
+        calls-fn ! (fmOf 𝓤 H (W .laws) 𝓣) keep-reply.ended (keep-reply.clauses 𝓤 H A mem run) known-keep-reply (to-keep-reply ν δ (t .zs) e o) (and-then ! (load ! (from ! (stop !)) (look ! 10 refl)) (and-then ! (load ! (from ! (stop !)) (look ! 8 refl)) (and-then ! (load ! (from ! (stop !)) (look ! 6 refl)) (no-more !)))) (λ u x ws′.
+        heard ! (ws′ .0 ≡ replied structRow (t .zs) e o) (λ p″. last-of ! (λ l. told unitE ! (lent-rows ν δ (t .zs)) 14 x u refl refl (λ _.
         back-new R ! tt (named 0) γ₀ δ b₀ o₀ (t .zs) (ws′ .0) (s₀ ∷ []) l (ap (λ (j : ℕ). sliceVal (b₀, o₀) j ∷ []) (sym (t .long))) (subst (Room R) (sym (t .long)) room₀) $ move ! (0 ∷ 1 ∷ 4 ∷ 5 ∷ 3 ∷ 2 ∷ []) $
-        assigns-last ! (bin ! (load ! (from ! (stop !)) (look ! 22 refl)) (lit ! tt) (record { fits = next-fits h })) (from ! (stop !)) (store ! 22 refl (tt, record { fits = next-fits h })) $
-        forget ! 6 refl $ forget ! 8 refl $ forget ! 10 refl $ forget ! 12 refl $ forget ! 14 refl $ forget ! 16 refl $ forget ! 18 refl $ forget ! 20 refl $ again ! (Less left) I t (next h e o (ws′ .0) p p′ p″ l) (omega (arith, lt h))))))))))))
+        assigns-last ! (bin ! (load ! (from ! (stop !)) (look ! 18 refl)) (lit ! tt) (record { fits = next-fits h })) (from ! (stop !)) (store ! 18 refl (tt, record { fits = next-fits h })) $
+        forget ! 6 refl $ forget ! 8 refl $ forget ! 10 refl $ forget ! 12 refl $ forget ! 14 refl $ forget ! 16 refl $ again ! (Less left) I t (next h e o (ws′ .0) p p′ p″ l) (omega (arith, lt h))))))))))))
         (λ h. exec ! (𝓣 .C) (𝓣 .Λ) En piece.t-3 (atRet En Post) $
-        assigns ! (of-opd ! (unit-lit !)) (from ! (stop !)) (init ! 34 refl (tt, tt)) $
-        returns ! (look ! 34 refl) $ gone ! 34 refl refl $ gone ! 32 refl refl $ gone ! 30 refl refl $ gone ! 28 refl refl $ gone ! 26 refl refl $ gone ! 24 refl refl $ gone ! 22 refl refl $ gone ! 20 refl refl $ gone-room ! 18 refl refl $ gone-room ! 16 refl refl $ gone-room ! 14 refl refl $ gone-room ! 12 refl refl $ gone-room ! 10 refl refl $ gone-room ! 8 refl refl $ gone-room ! 6 refl refl $ free0 ! $ by ! (exits t (nltb→le (t .k) n h)))
+        assigns ! (of-opd ! (unit-lit !)) (from ! (stop !)) (init ! 30 refl (tt, tt)) $
+        returns ! (look ! 30 refl) $ gone ! 30 refl refl $ gone ! 28 refl refl $ gone ! 26 refl refl $ gone ! 24 refl refl $ gone ! 22 refl refl $ gone ! 20 refl refl $ gone ! 18 refl refl $ gone ! 16 refl refl $ gone-room ! 14 refl refl $ gone-room ! 12 refl refl $ gone-room ! 10 refl refl $ gone-room ! 8 refl refl $ gone-room ! 6 refl refl $ free0 ! $ by ! (exits t (nltb→le (t .k) n h)))
       where
         lt : T (ltb (t .k) n) → t .k < n
         lt h = ltb→lt (t .k) n h
 
-        spot-fits : T (ltb (t .k) n) → 32 * t .k < 2 ^ 64
-        spot-fits h = omega (arith, lt h, enough, room₁ .0)
-
-        place-fits : T (ltb (t .k) n) → 9 * t .k < 2 ^ 64
-        place-fits h = omega (arith, lt h, enough′, room₂ .0)
+        k-fits : T (ltb (t .k) n) → t .k < 2 ^ 64
+        k-fits h = omega (arith, lt h, are .1 .0 .1)
 
         next-fits : T (ltb (t .k) n) → t .k + 1 < 2 ^ 64
         next-fits h = omega (arith, lt h, are .1 .0 .1)
@@ -210,28 +205,28 @@ module _ {M : Type 1} (𝓤 : URA M) (H : Heap 𝓤) (A : Atoms 𝓤) (W : Given
           is = t .is ∙ commit-turn structRow (t .zs) zs e o (rest (t .k)) (rest (t .k + 1)) (gave (t .k)) (gave (t .k + 1)) (cells-next 32 entryOf n ls (t .k) e (lt h) p) (cells-next 9 resultOf n rs (t .k) o (lt h) p′) p″;
         }
 
-  walk : (𝓣 : Tables 𝓤 H) → Triple 𝓤 (𝓣 .C entry-at-def.name) (EntryAt 𝓤 H A mem run) → Triple 𝓤 (𝓣 .C result-at-def.name) (ResultAt 𝓤 H A mem run) → Triple 𝓤 (𝓣 .C keep-reply-def.name) (KeepReply 𝓤 H A mem run)
+  walk : (𝓣 : Tables 𝓤 H) → Triple 𝓤 (𝓣 .C entry-in-def.name) (EntryIn 𝓤 H A mem run) → Triple 𝓤 (𝓣 .C result-in-def.name) (ResultIn 𝓤 H A mem run) → Triple 𝓤 (𝓣 .C keep-reply-def.name) (KeepReply 𝓤 H A mem run)
       → ent 𝓤 (onEntry 𝓤 H A commit.signature (κ₀, (κ₁, (κ₂, tt))) (q₀, (q₁, (q₂, tt))) a vals) (WpFn 𝓤 H (𝓣 .C) (𝓣 .Λ) code.function (s₀ ∷ s₁ ∷ s₂ ∷ vint w64 m ∷ vint w64 n ∷ []) Post)
-  walk 𝓣 known-entry-at known-result-at known-keep-reply =
+  walk 𝓣 known-entry-in known-result-in known-keep-reply =
       qed W (raw (alive 𝓤 A (slices ys)) ∷ ‵ (owned (slices ys) (plainly params)) ∷ []) ∵ takes W (slices ys) (plainly params) $
       enter ! (𝓣 .C) (𝓣 .Λ) code.function (s₀ ∷ s₁ ∷ s₂ ∷ vint w64 m ∷ vint w64 n ∷ []) _ $
-      alloc1 ! (λ l₀. alloc1 ! (λ l₁. alloc1 ! (λ l₂. alloc1 ! (λ l₃. alloc1 ! (λ l₄. alloc1 ! (λ l₅. alloc1 ! (λ l₆. alloc1 ! (λ l₇. alloc1 ! (λ l₈. alloc1 ! (λ l₉. alloc1 ! (λ l₁₀. alloc1 ! (λ l₁₁. alloc1 ! (λ l₁₂. alloc1 ! (λ l₁₃. alloc1 ! (λ l₁₄. alloc0 ! $ params1 ! $
-      pass1 ! (init ! 26 refl (tt, (tt, (record { fits = room₀ .0 }, tt)))) $ pass1 ! (init ! 24 refl (tt, (tt, (record { fits = room₁ .0 }, tt)))) $ pass1 ! (init ! 22 refl (tt, (tt, (record { fits = room₂ .0 }, tt)))) $ pass1 ! (init ! 20 refl (tt, record { fits = are .0 .1 })) $ pass1 ! (init ! 18 refl (tt, record { fits = are .1 .0 .1 })) $ pass0 ! $
-      assigns ! (of-opd ! (load ! (from ! (stop !)) (look ! 20 refl))) (from ! (stop !)) (init ! 16 refl (tt, record { fits = are .0 .1 })) $
-      move ! (30 ∷ 31 ∷ 32 ∷ 33 ∷ 34 ∷ 35 ∷ []) $ first ! $ blocks ! $ while-loop ! 𝓣 (left 𝓣 known-entry-at known-result-at known-keep-reply l₀ l₁ l₂ l₃ l₄ l₅ l₆ l₇ l₈ l₉ l₁₀ l₁₁ l₁₂ l₁₃ l₁₄) (I 𝓣 known-entry-at known-result-at known-keep-reply l₀ l₁ l₂ l₃ l₄ l₅ l₆ l₇ l₈ l₉ l₁₀ l₁₁ l₁₂ l₁₃ l₁₄) (turn 𝓣 known-entry-at known-result-at known-keep-reply l₀ l₁ l₂ l₃ l₄ l₅ l₆ l₇ l₈ l₉ l₁₀ l₁₁ l₁₂ l₁₃ l₁₄)
-      (record { k = m; zs = ys; below = upward; long = refl; is = refl }))))))))))))))))
+      alloc1 ! (λ l₀. alloc1 ! (λ l₁. alloc1 ! (λ l₂. alloc1 ! (λ l₃. alloc1 ! (λ l₄. alloc1 ! (λ l₅. alloc1 ! (λ l₆. alloc1 ! (λ l₇. alloc1 ! (λ l₈. alloc1 ! (λ l₉. alloc1 ! (λ l₁₀. alloc1 ! (λ l₁₁. alloc1 ! (λ l₁₂. alloc0 ! $ params1 ! $
+      pass1 ! (init ! 22 refl (tt, (tt, (record { fits = room₀ .0 }, tt)))) $ pass1 ! (init ! 20 refl (tt, (tt, (record { fits = room₁ .0 }, tt)))) $ pass1 ! (init ! 18 refl (tt, (tt, (record { fits = room₂ .0 }, tt)))) $ pass1 ! (init ! 16 refl (tt, record { fits = are .0 .1 })) $ pass1 ! (init ! 14 refl (tt, record { fits = are .1 .0 .1 })) $ pass0 ! $
+      assigns ! (of-opd ! (load ! (from ! (stop !)) (look ! 16 refl))) (from ! (stop !)) (init ! 12 refl (tt, record { fits = are .0 .1 })) $
+      move ! (26 ∷ 27 ∷ 28 ∷ 29 ∷ 30 ∷ 31 ∷ []) $ first ! $ blocks ! $ while-loop ! 𝓣 (left 𝓣 known-entry-in known-result-in known-keep-reply l₀ l₁ l₂ l₃ l₄ l₅ l₆ l₇ l₈ l₉ l₁₀ l₁₁ l₁₂) (I 𝓣 known-entry-in known-result-in known-keep-reply l₀ l₁ l₂ l₃ l₄ l₅ l₆ l₇ l₈ l₉ l₁₀ l₁₁ l₁₂) (turn 𝓣 known-entry-in known-result-in known-keep-reply l₀ l₁ l₂ l₃ l₄ l₅ l₆ l₇ l₈ l₉ l₁₀ l₁₁ l₁₂)
+      (record { k = m; zs = ys; below = upward; long = refl; is = refl }))))))))))))))
 
 commit-meets : {M : Type 1} (𝓤 : URA M) (H : Heap 𝓤) (A : Atoms 𝓤) (W : Given 𝓤 H A) (mem : Memory → SProp 𝓤) (run : Routine → Fun 𝓤) (𝓣 : Tables 𝓤 H)
-    → Triple 𝓤 (𝓣 .C entry-at-def.name) (EntryAt 𝓤 H A mem run) → Triple 𝓤 (𝓣 .C result-at-def.name) (ResultAt 𝓤 H A mem run) → Triple 𝓤 (𝓣 .C keep-reply-def.name) (KeepReply 𝓤 H A mem run)
+    → Triple 𝓤 (𝓣 .C entry-in-def.name) (EntryIn 𝓤 H A mem run) → Triple 𝓤 (𝓣 .C result-in-def.name) (ResultIn 𝓤 H A mem run) → Triple 𝓤 (𝓣 .C keep-reply-def.name) (KeepReply 𝓤 H A mem run)
     → Meets 𝓤 H A commit.signature (WpFn 𝓤 H (𝓣 .C) (𝓣 .Λ) code.function) (commit.spec 𝓤 H A mem run)
-commit-meets 𝓤 H A W mem run 𝓣 known-entry-at known-result-at known-keep-reply =
+commit-meets 𝓤 H A W mem run 𝓣 known-entry-in known-result-in known-keep-reply =
     met-by 𝓤 H A W commit.ended stayed (commit.clauses 𝓤 H A mem run) 𝓣 code.function
     (goes-slice 𝓤 H A W 3 0 tt (plain (λ _. R)), (goes-none-slice 𝓤 H A W 3 (1 ∷ []) tt (plain (λ _. u8)) yes, (goes-none-slice 𝓤 H A W 3 (2 ∷ []) tt (plain (λ _. u8)) yes, (goes-none 𝓤 H A W 3 (λ _. usize) yes (λ κs x f. refl), (goes-none 𝓤 H A W 3 (λ _. usize) yes (λ κs x f. refl), tt)))))
     (λ κs. (slice-vals, (slice-vals, (slice-vals, (uint-vals w64, (uint-vals w64, tt))))))
     (λ κs. (mut-slice-tells (named 0) (κs .0) R, (shr-slice-tells (named 1) (κs .1 .0) u8, (shr-slice-tells (named 2) (κs .1 .1 .0) u8, (uint-tells w64, (uint-tells w64, tt))))))
     (λ κs qs bounds a g are. needs 𝓤 ((32 * a .1 .1 .1 .1 .0 ≤ length (a .1 .0 .now)) × ((9 * a .1 .1 .1 .1 .0 ≤ length (a .1 .1 .0 .now)) × (a .1 .1 .1 .0 ≤ a .1 .1 .1 .1 .0))) _ (λ pre.
     walk 𝓤 H A W mem run (κs .0) (κs .1 .0) (κs .1 .1 .0) (qs .0) (qs .1 .0) (qs .1 .1 .0) (a .0 .ptr .0) (a .0 .ptr .1) (a .1 .0 .ptr .0) (a .1 .0 .ptr .1) (a .1 .1 .0 .ptr .0) (a .1 .1 .0 .ptr .1) (a .0 .name) (a .1 .0 .name) (a .1 .1 .0 .name)
-    (a .0 .now) (a .1 .0 .now) (a .1 .1 .0 .now) (a .1 .1 .1 .0) (a .1 .1 .1 .1 .0) (are .1 .1 .1) (are .0 .0 .1) (are .1 .0 .0 .1) (are .1 .1 .0 .0 .1) (pre .0) (pre .1 .0) (pre .1 .1) 𝓣 known-entry-at known-result-at known-keep-reply))
+    (a .0 .now) (a .1 .0 .now) (a .1 .1 .0 .now) (a .1 .1 .1 .0) (a .1 .1 .1 .1 .0) (are .1 .1 .1) (are .0 .0 .1) (are .1 .0 .0 .1) (are .1 .1 .0 .0 .1) (pre .0) (pre .1 .0) (pre .1 .1) 𝓣 known-entry-in known-result-in known-keep-reply))
 
 pub commit-spec : {M : Type 1} → stated.statement M
 unfolding code.routine tablesOf
@@ -239,6 +234,6 @@ commit-spec 𝓤 H 𝓜 𝓖 𝓡 =
     entered 𝓤 H (tripleOf 𝓤 H (𝓖 .A) commit.signature (commit.spec 𝓤 H (𝓖 .A) (𝓜 .mem) (𝓡 .run)))
     (tables 𝓤 H 𝓜 𝓡 code.env .C) (tables 𝓤 H 𝓜 𝓡 code.env .Λ) #commit code.function (code.unfolded 𝓤 H 𝓜 𝓡)
     (commit-meets 𝓤 H (𝓖 .A) (givenOf 𝓤 H 𝓜 𝓖) (𝓜 .mem) (𝓡 .run) (tablesOf 𝓤 H 𝓜 (tables 𝓤 H 𝓜 𝓡 code.env))
-    (cited 𝓤 H (EntryAt 𝓤 H (𝓖 .A) (𝓜 .mem) (𝓡 .run)) 𝓜 𝓡 code.env entry-at-def.name entry-at-def.routine code.calls-entries·entry-at (entry-at-thm.met 𝓤 H 𝓜 𝓖 𝓡))
-    (cited 𝓤 H (ResultAt 𝓤 H (𝓖 .A) (𝓜 .mem) (𝓡 .run)) 𝓜 𝓡 code.env result-at-def.name result-at-def.routine code.calls-fees·result-at (result-at-thm.met 𝓤 H 𝓜 𝓖 𝓡))
+    (cited 𝓤 H (EntryIn 𝓤 H (𝓖 .A) (𝓜 .mem) (𝓡 .run)) 𝓜 𝓡 code.env entry-in-def.name entry-in-def.routine code.calls-entries·entry-in (entry-in-thm.met 𝓤 H 𝓜 𝓖 𝓡))
+    (cited 𝓤 H (ResultIn 𝓤 H (𝓖 .A) (𝓜 .mem) (𝓡 .run)) 𝓜 𝓡 code.env result-in-def.name result-in-def.routine code.calls-fees·result-in (result-in-thm.met 𝓤 H 𝓜 𝓖 𝓡))
     (cited 𝓤 H (KeepReply 𝓤 H (𝓖 .A) (𝓜 .mem) (𝓡 .run)) 𝓜 𝓡 code.env keep-reply-def.name keep-reply-def.routine code.calls-table-rows·keep-reply (keep-reply-thm.met 𝓤 H 𝓜 𝓖 𝓡)))

@@ -1,4 +1,4 @@
--- `table_rows::refill` meets its contract: a walk of its MIR, by hand: a loop whose body calls `entry_at`, `find`, `left_of`, `kept` and `put`.
+-- `table_rows::refill` meets its contract: a walk of its MIR, by hand: a loop whose body calls `entry_in`, `find`, `left_of`, `kept` and `put`.
 -- The invariant: what the whole log would leave is what the rest of it would leave of the rows that are there now. Assumes nothing.
 use mathlib.Core.Path.{_≡_, refl, sym, _∙_, ap, subst}
 use Prim.Native.Nat.{ℕ, _+_, _-_, _*_, _<_, _≤_, _^_}
@@ -47,13 +47,13 @@ use Rattle.walks.proofs.Handing.{uintE, unitE, Arg, arg, plainly, Lent, lent, o
 use Rattle.table_rows.specs.declared.Row.{Row}
 use Rattle.table_rows.specs.declared.Found.{Found}
 use Rattle.table_rows.specs.Shape.{structRow, foundIn, keptAt}
-use Rattle.table_rows.proofs.Asking.{EntryAt, asks-entry, Put, puts-row}
+use Rattle.table_rows.proofs.Asking.{EntryIn, asks-entry, Put, puts-row}
 use Rattle.table_rows.proofs.FollowLaws.{kept-found}
 use Rattle.table_rows.proofs.Lending.{Find}
 use Rattle.table_rows.proofs.Passed.{client-fits}
 use Rattle.table_rows.proofs.Rowed.{rowE, entryE, foundE}
-use Rattle.entries.proofs.entry_at.Symbol as entry-at-def
-use Rattle.entries.proofs.entry_at.Met as entry-at-thm
+use Rattle.entries.proofs.entry_in.Symbol as entry-in-def
+use Rattle.entries.proofs.entry_in.Met as entry-in-thm
 use Rattle.table_rows.proofs.find as find
 use Rattle.table_rows.proofs.find.Symbol as find-def
 use Rattle.table_rows.proofs.find.Met as find-thm
@@ -149,7 +149,7 @@ module _ {M : Type 1} (𝓤 : URA M) (H : Heap 𝓤) (A : Atoms 𝓤) (W : Given
   abbrev to-kept : Found → ℕ → Entry → Kept 𝓤 H A mem run .Ghost
   to-kept f i e = ((tt, tt, tt, (f, (i, (e, tt))), (foundE .val f ∷ [], (vint w64 i ∷ [], (entryE .val e ∷ [], tt)))), tt)
 
-  module _ (𝓣 : Tables 𝓤 H) (known-entry-at : Triple 𝓤 (𝓣 .C entry-at-def.name) (EntryAt 𝓤 H A mem run)) (known-find : Triple 𝓤 (𝓣 .C find-def.name) (Find 𝓤 H A mem run))
+  module _ (𝓣 : Tables 𝓤 H) (known-entry-in : Triple 𝓤 (𝓣 .C entry-in-def.name) (EntryIn 𝓤 H A mem run)) (known-find : Triple 𝓤 (𝓣 .C find-def.name) (Find 𝓤 H A mem run))
       (known-left-of : Triple 𝓤 (𝓣 .C left-of-def.name) (LeftOf 𝓤 H A mem run)) (known-kept : Triple 𝓤 (𝓣 .C kept-def.name) (Kept 𝓤 H A mem run)) (known-put : Triple 𝓤 (𝓣 .C put-def.name) (Put 𝓤 H A mem run))
       (l₀ l₁ l₂ l₃ l₄ l₅ l₆ l₇ l₈ l₉ l₁₀ l₁₁ l₁₂ l₁₃ l₁₄ : ℕ) where
     abbrev at : List ℕ
@@ -174,22 +174,21 @@ module _ {M : Type 1} (𝓤 : URA M) (H : Heap 𝓤) (A : Atoms 𝓤) (W : Given
         assigns ! (bin ! (load ! (from ! (stop !)) (look ! 22 refl)) (load ! (from ! (stop !)) (look ! 26 refl)) tt) (from ! (stop !)) (init ! 18 refl (tt, tt)) $
         tests ! (load ! (from ! (stop !)) (look ! 18 refl))
         (λ h.
-        assigns ! (bin ! (lit ! tt) (load ! (from ! (stop !)) (look ! 22 refl)) (record { fits = spot-fits h })) (from ! (stop !)) (init ! 16 refl (tt, record { fits = spot-fits h })) $
-        move ! (4 ∷ 5 ∷ []) $ asks-entry mem run ! (fmOf 𝓤 H (W .laws) 𝓣) known-entry-at (named 2) κ₂ q₂ γ₂ b₂ o₂ ls (32 * t .k) (omega (arith, lt h, enough)) (spot-fits h) (and-then ! (load ! (from ! (stop !)) (look ! 28 refl)) (and-then ! (load ! (from ! (stop !)) (look ! 16 refl)) (no-more !)))
+        move ! (4 ∷ 5 ∷ []) $ asks-entry mem run ! (fmOf 𝓤 H (W .laws) 𝓣) known-entry-in (named 2) κ₂ q₂ γ₂ b₂ o₂ ls (t .k) (omega (arith, lt h, enough)) (k-fits h) (and-then ! (load ! (from ! (stop !)) (look ! 28 refl)) (and-then ! (load ! (from ! (stop !)) (look ! 22 refl)) (no-more !)))
         18 refl refl (λ e p is.
-        assigns ! (addr ! (from ! (fld ! refl (hop ! (look-in ! 32 (sub ! 0 refl (whole !))) (stop !))))) (from ! (stop !)) (init ! 12 refl (tt, tt)) $
-        assigns ! (agg ! (and-then ! (load ! (from ! (stop !)) (look ! 12 refl)) (and-then ! (load ! (from ! (fld ! refl (stop !))) (look-in ! 32 (sub ! 1 refl (whole !)))) (no-more !)))) (from ! (stop !)) (init ! 10 refl (tt, (tt, (record { fits = room₀ .0 }, tt)))) $
+        assigns ! (addr ! (from ! (fld ! refl (hop ! (look-in ! 32 (sub ! 0 refl (whole !))) (stop !))))) (from ! (stop !)) (init ! 14 refl (tt, tt)) $
+        assigns ! (agg ! (and-then ! (load ! (from ! (stop !)) (look ! 14 refl)) (and-then ! (load ! (from ! (fld ! refl (stop !))) (look-in ! 32 (sub ! 1 refl (whole !)))) (no-more !)))) (from ! (stop !)) (init ! 12 refl (tt, (tt, (record { fits = room₀ .0 }, tt)))) $
         move ! (4 ∷ []) $ shared-too R ! (named 1) (ref γ₁ b₁ o₁ os) (s₁ ∷ []) $ move ! (0 ∷ 6 ∷ []) $ gives W (before ∷ []) (Find 𝓤 H A mem run .pre (to-find (e .client))) (bare ! $ hands ! (before ∷ []) (arg (uintE w64) (e .client) (refl, client-fits e is) ∷ [])) $
         calls-fn ! (fmOf 𝓤 H (W .laws) 𝓣) find.ended (find.clauses 𝓤 H A mem run) known-find (to-find (e .client)) (and-then ! (load ! (from ! (stop !)) (look ! 30 refl)) (and-then ! (load ! (from ! (fld ! refl (stop !))) (look-in ! 20 (sub ! 0 refl (whole !)))) (no-more !))) (λ v f ws.
-        heard ! (f ≡ foundIn os (e .client)) (λ p₁. told foundE ! (before ∷ []) 5 f v refl refl (λ is₁.
+        heard ! (f ≡ foundIn os (e .client)) (λ p₁. told foundE ! (before ∷ []) 7 f v refl refl (λ is₁.
         gives W [] (LeftOf 𝓤 H A mem run .pre (to-left-of (t .k))) (bare ! $ hands ! [] (arg (uintE w64) c (are .1 .0) ∷ arg (uintE w64) (t .k) (refl, k-fits h) ∷ [])) $
         calls-fn ! (fmOf 𝓤 H (W .laws) 𝓣) left-of.ended (left-of.clauses 𝓤 H A mem run) known-left-of (to-left-of (t .k)) (and-then ! (load ! (from ! (stop !)) (look ! 25 refl)) (and-then ! (load ! (from ! (stop !)) (look ! 23 refl)) (no-more !))) (λ v₂ i ws₂.
-        heard ! (i ≡ c - t .k) (λ p₂. forget ! 19 refl $ told (uintE w64) ! [] 16 i v₂ refl refl (λ is₂.
+        heard ! (i ≡ c - t .k) (λ p₂. told (uintE w64) ! [] 6 i v₂ refl refl (λ is₂.
         gives W [] (Kept 𝓤 H A mem run .pre (to-kept f i e)) (bare ! $ hands ! [] (arg foundE f is₁ ∷ arg (uintE w64) i is₂ ∷ arg entryE e is ∷ [])) $
-        calls-fn ! (fmOf 𝓤 H (W .laws) 𝓣) kept.ended (kept.clauses 𝓤 H A mem run) known-kept (to-kept f i e) (and-then ! (load ! (from ! (stop !)) (look ! 7 refl)) (and-then ! (load ! (from ! (stop !)) (look ! 17 refl)) (and-then ! (load ! (from ! (stop !)) (look ! 21 refl)) (no-more !)))) (λ v₃ y ws₃.
-        heard ! (y ≡ keptAt f i e) (λ p₃. told rowE ! [] 8 y v₃ refl refl (λ is₃.
-        move ! (4 ∷ 5 ∷ []) $ puts-row mem run ! (fmOf 𝓤 H (W .laws) 𝓣) known-put (named 0) γ₀ b₀ o₀ (t .zs) s₀ (ap (λ (j : ℕ). sliceVal (b₀, o₀) j ∷ []) (sym (t .long))) (subst (Room R) (sym (t .long)) room₀) y is₃ (λ ν δ. (and-then ! (load ! (from ! (stop !)) (look ! 10 refl)) (and-then ! (load ! (from ! (stop !)) (look ! 8 refl)) (no-more !))))
-        12 refl refl (λ zs p₄ l. move ! (0 ∷ 1 ∷ 3 ∷ 2 ∷ 4 ∷ 5 ∷ []) $
+        calls-fn ! (fmOf 𝓤 H (W .laws) 𝓣) kept.ended (kept.clauses 𝓤 H A mem run) known-kept (to-kept f i e) (and-then ! (load ! (from ! (stop !)) (look ! 9 refl)) (and-then ! (load ! (from ! (stop !)) (look ! 7 refl)) (and-then ! (load ! (from ! (stop !)) (look ! 21 refl)) (no-more !)))) (λ v₃ y ws₃.
+        heard ! (y ≡ keptAt f i e) (λ p₃. told rowE ! [] 10 y v₃ refl refl (λ is₃.
+        move ! (4 ∷ 5 ∷ []) $ puts-row mem run ! (fmOf 𝓤 H (W .laws) 𝓣) known-put (named 0) γ₀ b₀ o₀ (t .zs) s₀ (ap (λ (j : ℕ). sliceVal (b₀, o₀) j ∷ []) (sym (t .long))) (subst (Room R) (sym (t .long)) room₀) y is₃ (λ ν δ. (and-then ! (load ! (from ! (stop !)) (look ! 12 refl)) (and-then ! (load ! (from ! (stop !)) (look ! 10 refl)) (no-more !))))
+        14 refl refl (λ zs p₄ l. move ! (0 ∷ 1 ∷ 3 ∷ 2 ∷ 4 ∷ 5 ∷ []) $
         assigns-last ! (bin ! (load ! (from ! (stop !)) (look ! 22 refl)) (lit ! tt) (record { fits = next-fits h })) (from ! (stop !)) (store ! 22 refl (tt, record { fits = next-fits h })) $
         forget ! 6 refl $ forget ! 8 refl $ forget ! 10 refl $ forget ! 12 refl $ forget ! 14 refl $ forget ! 16 refl $ forget ! 18 refl $ forget ! 20 refl $ again ! (Less left) I t (next h e f i y zs p p₁ p₂ p₃ p₄ l) (omega (arith, lt h))))))))))))))
         (λ h. exec ! (𝓣 .C) (𝓣 .Λ) En piece.t-3 (atRet En Post) $
@@ -201,9 +200,6 @@ module _ {M : Type 1} (𝓤 : URA M) (H : Heap 𝓤) (A : Atoms 𝓤) (W : Given
 
         k-fits : T (ltb (t .k) n) → t .k < 2 ^ 64
         k-fits h = omega (arith, lt h, are .0 .1)
-
-        spot-fits : T (ltb (t .k) n) → 32 * t .k < 2 ^ 64
-        spot-fits h = omega (arith, lt h, enough, room₂ .0)
 
         next-fits : T (ltb (t .k) n) → t .k + 1 < 2 ^ 64
         next-fits h = omega (arith, lt h, are .0 .1)
@@ -219,31 +215,31 @@ module _ {M : Type 1} (𝓤 : URA M) (H : Heap 𝓤) (A : Atoms 𝓤) (W : Given
               (kept-found os e f (c - t .k) y p₁ (p₃ ∙ ap (λ (j : ℕ). keptAt f j e) p₂)) p₄;
         }
 
-  walk : (𝓣 : Tables 𝓤 H) → Triple 𝓤 (𝓣 .C entry-at-def.name) (EntryAt 𝓤 H A mem run) → Triple 𝓤 (𝓣 .C find-def.name) (Find 𝓤 H A mem run) → Triple 𝓤 (𝓣 .C left-of-def.name) (LeftOf 𝓤 H A mem run) → Triple 𝓤 (𝓣 .C kept-def.name) (Kept 𝓤 H A mem run) → Triple 𝓤 (𝓣 .C put-def.name) (Put 𝓤 H A mem run)
+  walk : (𝓣 : Tables 𝓤 H) → Triple 𝓤 (𝓣 .C entry-in-def.name) (EntryIn 𝓤 H A mem run) → Triple 𝓤 (𝓣 .C find-def.name) (Find 𝓤 H A mem run) → Triple 𝓤 (𝓣 .C left-of-def.name) (LeftOf 𝓤 H A mem run) → Triple 𝓤 (𝓣 .C kept-def.name) (Kept 𝓤 H A mem run) → Triple 𝓤 (𝓣 .C put-def.name) (Put 𝓤 H A mem run)
       → ent 𝓤 (onEntry 𝓤 H A refill.signature (κ₀, (κ₁, (κ₂, tt))) (q₀, (q₁, (q₂, tt))) a vals) (WpFn 𝓤 H (𝓣 .C) (𝓣 .Λ) code.function (s₀ ∷ s₁ ∷ s₂ ∷ vint w64 n ∷ vint w64 c ∷ []) Post)
-  walk 𝓣 known-entry-at known-find known-left-of known-kept known-put =
+  walk 𝓣 known-entry-in known-find known-left-of known-kept known-put =
       qed W (raw (alive 𝓤 A (slices ys)) ∷ ‵ (owned (slices ys) (plainly params)) ∷ []) ∵ takes W (slices ys) (plainly params) $
       enter ! (𝓣 .C) (𝓣 .Λ) code.function (s₀ ∷ s₁ ∷ s₂ ∷ vint w64 n ∷ vint w64 c ∷ []) _ $
       alloc1 ! (λ l₀. alloc1 ! (λ l₁. alloc1 ! (λ l₂. alloc1 ! (λ l₃. alloc1 ! (λ l₄. alloc1 ! (λ l₅. alloc1 ! (λ l₆. alloc1 ! (λ l₇. alloc1 ! (λ l₈. alloc1 ! (λ l₉. alloc1 ! (λ l₁₀. alloc1 ! (λ l₁₁. alloc1 ! (λ l₁₂. alloc1 ! (λ l₁₃. alloc1 ! (λ l₁₄. alloc0 ! $ params1 ! $
       pass1 ! (init ! 26 refl (tt, (tt, (record { fits = room₀ .0 }, tt)))) $ pass1 ! (init ! 24 refl (tt, (tt, (record { fits = room₁ .0 }, tt)))) $ pass1 ! (init ! 22 refl (tt, (tt, (record { fits = room₂ .0 }, tt)))) $ pass1 ! (init ! 20 refl (tt, record { fits = are .0 .1 })) $ pass1 ! (init ! 18 refl (tt, record { fits = are .1 .0 .1 })) $ pass0 ! $
       assigns ! (of-opd ! (lit ! tt)) (from ! (stop !)) (init ! 16 refl (tt, record { fits = omega arith })) $
-      move ! (30 ∷ 31 ∷ 32 ∷ 33 ∷ 34 ∷ 35 ∷ []) $ first ! $ blocks ! $ while-loop ! 𝓣 (left 𝓣 known-entry-at known-find known-left-of known-kept known-put l₀ l₁ l₂ l₃ l₄ l₅ l₆ l₇ l₈ l₉ l₁₀ l₁₁ l₁₂ l₁₃ l₁₄) (I 𝓣 known-entry-at known-find known-left-of known-kept known-put l₀ l₁ l₂ l₃ l₄ l₅ l₆ l₇ l₈ l₉ l₁₀ l₁₁ l₁₂ l₁₃ l₁₄) (turn 𝓣 known-entry-at known-find known-left-of known-kept known-put l₀ l₁ l₂ l₃ l₄ l₅ l₆ l₇ l₈ l₉ l₁₀ l₁₁ l₁₂ l₁₃ l₁₄)
+      move ! (30 ∷ 31 ∷ 32 ∷ 33 ∷ 34 ∷ 35 ∷ []) $ first ! $ blocks ! $ while-loop ! 𝓣 (left 𝓣 known-entry-in known-find known-left-of known-kept known-put l₀ l₁ l₂ l₃ l₄ l₅ l₆ l₇ l₈ l₉ l₁₀ l₁₁ l₁₂ l₁₃ l₁₄) (I 𝓣 known-entry-in known-find known-left-of known-kept known-put l₀ l₁ l₂ l₃ l₄ l₅ l₆ l₇ l₈ l₉ l₁₀ l₁₁ l₁₂ l₁₃ l₁₄) (turn 𝓣 known-entry-in known-find known-left-of known-kept known-put l₀ l₁ l₂ l₃ l₄ l₅ l₆ l₇ l₈ l₉ l₁₀ l₁₁ l₁₂ l₁₃ l₁₄)
       (record { k = 0; zs = ys; below = omega arith; long = refl; is = begun }))))))))))))))))
     where
       begun : rebuilt structRow os c ys (entries n ls) ≡ rebuilt structRow os (c - 0) ys (rest 0)
       begun = simp sub-zero
 
 refill-meets : {M : Type 1} (𝓤 : URA M) (H : Heap 𝓤) (A : Atoms 𝓤) (W : Given 𝓤 H A) (mem : Memory → SProp 𝓤) (run : Routine → Fun 𝓤) (𝓣 : Tables 𝓤 H)
-    → Triple 𝓤 (𝓣 .C entry-at-def.name) (EntryAt 𝓤 H A mem run) → Triple 𝓤 (𝓣 .C find-def.name) (Find 𝓤 H A mem run) → Triple 𝓤 (𝓣 .C left-of-def.name) (LeftOf 𝓤 H A mem run) → Triple 𝓤 (𝓣 .C kept-def.name) (Kept 𝓤 H A mem run) → Triple 𝓤 (𝓣 .C put-def.name) (Put 𝓤 H A mem run)
+    → Triple 𝓤 (𝓣 .C entry-in-def.name) (EntryIn 𝓤 H A mem run) → Triple 𝓤 (𝓣 .C find-def.name) (Find 𝓤 H A mem run) → Triple 𝓤 (𝓣 .C left-of-def.name) (LeftOf 𝓤 H A mem run) → Triple 𝓤 (𝓣 .C kept-def.name) (Kept 𝓤 H A mem run) → Triple 𝓤 (𝓣 .C put-def.name) (Put 𝓤 H A mem run)
     → Meets 𝓤 H A refill.signature (WpFn 𝓤 H (𝓣 .C) (𝓣 .Λ) code.function) (refill.spec 𝓤 H A mem run)
-refill-meets 𝓤 H A W mem run 𝓣 known-entry-at known-find known-left-of known-kept known-put =
+refill-meets 𝓤 H A W mem run 𝓣 known-entry-in known-find known-left-of known-kept known-put =
     met-by 𝓤 H A W refill.ended stayed (refill.clauses 𝓤 H A mem run) 𝓣 code.function
     (goes-slice 𝓤 H A W 3 0 tt (plain (λ _. R)), (goes-none-slice 𝓤 H A W 3 (1 ∷ []) tt (plain (λ _. R)) yes, (goes-none-slice 𝓤 H A W 3 (2 ∷ []) tt (plain (λ _. u8)) yes, (goes-none 𝓤 H A W 3 (λ _. usize) yes (λ κs x f. refl), (goes-none 𝓤 H A W 3 (λ _. usize) yes (λ κs x f. refl), tt)))))
     (λ κs. (slice-vals, (slice-vals, (slice-vals, (uint-vals w64, (uint-vals w64, tt))))))
     (λ κs. (mut-slice-tells (named 0) (κs .0) R, (shr-slice-tells (named 1) (κs .1 .0) R, (shr-slice-tells (named 2) (κs .1 .1 .0) u8, (uint-tells w64, (uint-tells w64, tt))))))
     (λ κs qs bounds a g are. needs 𝓤 (32 * a .1 .1 .1 .0 ≤ length (a .1 .1 .0 .now)) _ (λ pre.
     walk 𝓤 H A W mem run (κs .0) (κs .1 .0) (κs .1 .1 .0) (qs .0) (qs .1 .0) (qs .1 .1 .0) (a .0 .ptr .0) (a .0 .ptr .1) (a .1 .0 .ptr .0) (a .1 .0 .ptr .1) (a .1 .1 .0 .ptr .0) (a .1 .1 .0 .ptr .1) (a .0 .name) (a .1 .0 .name) (a .1 .1 .0 .name)
-    (a .0 .now) (a .1 .0 .now) (a .1 .1 .0 .now) (a .1 .1 .1 .0) (a .1 .1 .1 .1 .0) (are .1 .1 .1) (are .0 .0 .1) (are .1 .0 .0 .1) (are .1 .1 .0 .0 .1) pre 𝓣 known-entry-at known-find known-left-of known-kept known-put))
+    (a .0 .now) (a .1 .0 .now) (a .1 .1 .0 .now) (a .1 .1 .1 .0) (a .1 .1 .1 .1 .0) (are .1 .1 .1) (are .0 .0 .1) (are .1 .0 .0 .1) (are .1 .1 .0 .0 .1) pre 𝓣 known-entry-in known-find known-left-of known-kept known-put))
 
 pub refill-spec : {M : Type 1} → stated.statement M
 unfolding code.routine tablesOf
@@ -251,7 +247,7 @@ refill-spec 𝓤 H 𝓜 𝓖 𝓡 =
     entered 𝓤 H (tripleOf 𝓤 H (𝓖 .A) refill.signature (refill.spec 𝓤 H (𝓖 .A) (𝓜 .mem) (𝓡 .run)))
     (tables 𝓤 H 𝓜 𝓡 code.env .C) (tables 𝓤 H 𝓜 𝓡 code.env .Λ) #refill code.function (code.unfolded 𝓤 H 𝓜 𝓡)
     (refill-meets 𝓤 H (𝓖 .A) (givenOf 𝓤 H 𝓜 𝓖) (𝓜 .mem) (𝓡 .run) (tablesOf 𝓤 H 𝓜 (tables 𝓤 H 𝓜 𝓡 code.env))
-    (cited 𝓤 H (EntryAt 𝓤 H (𝓖 .A) (𝓜 .mem) (𝓡 .run)) 𝓜 𝓡 code.env entry-at-def.name entry-at-def.routine code.calls-entries·entry-at (entry-at-thm.met 𝓤 H 𝓜 𝓖 𝓡))
+    (cited 𝓤 H (EntryIn 𝓤 H (𝓖 .A) (𝓜 .mem) (𝓡 .run)) 𝓜 𝓡 code.env entry-in-def.name entry-in-def.routine code.calls-entries·entry-in (entry-in-thm.met 𝓤 H 𝓜 𝓖 𝓡))
     (cited 𝓤 H (Find 𝓤 H (𝓖 .A) (𝓜 .mem) (𝓡 .run)) 𝓜 𝓡 code.env find-def.name find-def.routine code.calls-table-rows·find (find-thm.met 𝓤 H 𝓜 𝓖 𝓡))
     (cited 𝓤 H (LeftOf 𝓤 H (𝓖 .A) (𝓜 .mem) (𝓡 .run)) 𝓜 𝓡 code.env left-of-def.name left-of-def.routine code.calls-rows·left-of (left-of-thm.met 𝓤 H 𝓜 𝓖 𝓡))
     (cited 𝓤 H (Kept 𝓤 H (𝓖 .A) (𝓜 .mem) (𝓡 .run)) 𝓜 𝓡 code.env kept-def.name kept-def.routine code.calls-table-rows·cell·kept (kept-thm.met 𝓤 H 𝓜 𝓖 𝓡))

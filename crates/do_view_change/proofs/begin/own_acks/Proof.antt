@@ -8,15 +8,16 @@ use Rattle.do_view_change.proofs.begin.own_acks.Tie as tie
 
 insert-requires : tie.Need-insert-requires
 insert-requires c κs =
-    let t = c .before .before .before .before .before .before .before .before .before in
+    let t = c .before .before .before .before .before .before .before .before .before .before in
     let z = sized (t .args .u .setup) (t .pre .0) in
     omega (arith, z .own, z .seven)
 
 returns : tie.Need-returns
 returns c =
     let f = c .before .before .before .before .before .before .before in
-    let t = f .before .before .before .before .before .before in
-    acks-anew (t .args .u) (t .args .acks .now) (t .pre .1 .0) (t .pre .1 .1 .0) _ _ _
+    let t = f .before .before .before .before .before .before .before in
+    let p = f .before .before .before .before .ack-place .ensures in
+    acks-anew (t .args .u) (t .args .acks .now) (t .pre .1 .0) (t .pre .1 .1 .0) _ _ _ _ p
     (f .fill .ensures) (c .before .before .before .insert .ensures) (c .before .before .fill2 .ensures)
 
 pub own-acks-spec : {M : Type 1} → statement M
@@ -24,6 +25,7 @@ own-acks-spec =
     tie.close
     (tie.spec
     (λ c. search needs)
+    (λ c κs. search needs)
     (λ c. search needs)
     (λ c. search needs)
     (λ c. search needs)

@@ -7,8 +7,8 @@ use Rattle.normal.proofs.SendLaws.{prepare-asks}
 use Rattle.normal.proofs.tick.send_prepare.Statement.{statement}
 use Rattle.normal.proofs.tick.send_prepare.Tie as tie
 
-entry-requires : tie.Need-entry-requires
-entry-requires c κs =
+entry-in-requires : tie.Need-entry-in-requires
+entry-in-requires c κs =
     let t = c .before .before .before .before in
     let a = t .args in
     entry-asks (a .s) (a .log .now) (t .pre .0) (a .i) (t .pre .1 .0)
@@ -23,7 +23,7 @@ returns : tie.Need-returns
 returns c =
     let t = c .before .before .before .before .before .before .before .before .before in
     let a = t .args in
-    prepares-one (a .s) (a .log .now) (t .pre .0) (a .i) _ _ (a .out .now) _ (c .before .before .before .before .entry .ensures)
+    prepares-one (a .s) (a .log .now) (t .pre .0) (a .i) _ _ (a .out .now) _ (c .before .before .before .before .entry-in .ensures)
     (c .before .before .broadcast .ensures)
 
 pub send-prepare-spec : {M : Type 1} → statement M
@@ -31,7 +31,7 @@ send-prepare-spec =
     tie.close
     (tie.spec
     (λ c. search needs)
-    entry-requires
+    entry-in-requires
     broadcast-requires
     (λ c. c .before .before .broadcast .kept .0)
     returns)

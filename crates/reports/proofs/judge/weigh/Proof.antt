@@ -2,7 +2,7 @@
 use mathlib.Core.Path.{ap, sym, _∙_}
 use native.Mathlib.Omega.{arith}
 use lib.ListN.{length}
-use Rattle.book.proofs.LogLaws.{place-is}
+use Rattle.entries.proofs.PlaceLaws.{place-is}
 use Rattle.reports.proofs.JudgeLaws.{length-chosen, passes, shortens, alters, begins}
 use borrow.Author.Needs.{needs}
 use Rattle.reports.proofs.judge.weigh.Statement.{statement}

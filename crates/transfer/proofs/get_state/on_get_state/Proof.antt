@@ -25,23 +25,26 @@ returns-2 c =
     (ap not (sym (c .before .before .before .before .before .answers .ensures)) ∙ c .before .before .before .before .if1 .left)
     (c .before .if2 .taken) (c .refused .ensures)
 
-place-requires : tie.Need-place-requires
-place-requires c κs =
+entry-place-requires : tie.Need-entry-place-requires
+entry-place-requires c κs =
     let a = c .before .before .before .before .before .before .before .before .before .before .args in
-    starts (a .s) (a .o) (a .log .now) (c .before .before .before .before .before .before .before .before .before .before .pre)
-    (has (a .s) (a .v) (a .o) (ap not (sym (c .before .before .before .before .before .before .before .answers .ensures)) ∙ c .before .before .before .before .before .before .if1 .left)) .0
+    omega (
+      arith,
+      starts (a .s) (a .o) (a .log .now) (c .before .before .before .before .before .before .before .before .before .before .pre)
+          (has (a .s) (a .v) (a .o) (ap not (sym (c .before .before .before .before .before .before .before .answers .ensures)) ∙ c .before .before .before .before .before .before .if1 .left)) .0,
+    )
 
 sub-new-state : tie.Need-sub-new-state
 sub-new-state c =
     let a = c .before .before .before .before .before .before .before .before .before .before .before .before .args in
     omega
-    (arith, c .before .place .ensures, starts (a .s) (a .o) (a .log .now) (c .before .before .before .before .before .before .before .before .before .before .before .before .pre) (has (a .s) (a .v) (a .o) (ap not (sym (c .before .before .before .before .before .before .before .before .before .answers .ensures)) ∙ c .before .before .before .before .before .before .before .before .if1 .left)) .1)
+    (arith, c .before .entry-place .ensures, starts (a .s) (a .o) (a .log .now) (c .before .before .before .before .before .before .before .before .before .before .before .before .pre) (has (a .s) (a .v) (a .o) (ap not (sym (c .before .before .before .before .before .before .before .before .before .answers .ensures)) ∙ c .before .before .before .before .before .before .before .before .if1 .left)) .1)
 
 part-new-state-start : tie.Need-part-new-state-start
 part-new-state-start c =
     let a = c .before .before .before .before .before .before .before .before .before .before .before .before .args in
     omega
-    (arith, c .before .place .ensures, starts (a .s) (a .o) (a .log .now) (c .before .before .before .before .before .before .before .before .before .before .before .before .pre) (has (a .s) (a .v) (a .o) (ap not (sym (c .before .before .before .before .before .before .before .before .before .answers .ensures)) ∙ c .before .before .before .before .before .before .before .before .if1 .left)) .1)
+    (arith, c .before .entry-place .ensures, starts (a .s) (a .o) (a .log .now) (c .before .before .before .before .before .before .before .before .before .before .before .before .pre) (has (a .s) (a .v) (a .o) (ap not (sym (c .before .before .before .before .before .before .before .before .before .answers .ensures)) ∙ c .before .before .before .before .before .before .before .before .if1 .left)) .1)
 
 new-state-requires : tie.Need-new-state-requires
 new-state-requires c κs =
@@ -49,18 +52,18 @@ new-state-requires c κs =
     new-state-fits (a .s) (a .o) (a .log .now)
     (c .before .before .before .before .before .before .before .before .before .before .before .before .before .pre)
     (has (a .s) (a .v) (a .o) (ap not (sym (c .before .before .before .before .before .before .before .before .before .before .answers .ensures)) ∙ c .before .before .before .before .before .before .before .before .before .if1 .left))
-    (c .before .before .place .result) (a .out .now) (c .before .before .place .ensures)
+    (c .before .before .entry-place .result) (a .out .now) (c .before .before .entry-place .ensures)
     (c .before .before .before .before .before .before .if2 .left)
 
 returns-3 : tie.Need-returns-3
 returns-3 c =
     let a = c .before .before .before .before .before .before .before .before .before .before .before .before .before .before .before .before .before .args in
     answered (a .s) (a .from) (a .v) (a .o) (a .log .now) (a .out .now) _
-    (c .before .before .before .before .before .before .place .result) _ _
+    (c .before .before .before .before .before .before .entry-place .result) _ _
     (c .before .before .before .before .before .before .before .before .before .before .before .before .before .before .before .before .before .pre)
     (ap not (sym (c .before .before .before .before .before .before .before .before .before .before .before .before .before .before .answers .ensures)) ∙ c .before .before .before .before .before .before .before .before .before .before .before .before .before .if1 .left)
     (c .before .before .before .before .before .before .before .before .before .before .if2 .left)
-    (c .before .before .before .before .before .before .place .ensures) (c .before .before .before .new-state .ensures)
+    (c .before .before .before .before .before .before .entry-place .ensures) (c .before .before .before .new-state .ensures)
     (c .done2 .ensures)
 
 pub on-get-state-spec : {M : Type 1} → statement M
@@ -77,7 +80,7 @@ on-get-state-spec =
     (λ c κs. search needs)
     returns-2
     (λ c. search needs)
-    place-requires
+    entry-place-requires
     sub-new-state
     part-new-state-start
     (λ c. search needs)
