@@ -7,6 +7,7 @@ use lib.Dec.{eqb}
 use lib.ListN.{length}
 use Rattle.numbers.specs.Words.{if_then_else_, _and_}
 use Rattle.numbers.specs.Numbers.{num, viewAt, within}
+use Rattle.frames.specs.Kinds.{kindOf}
 use Rattle.client.specs.declared.Outcome.{Outcome}
 use Rattle.client.specs.declared.Outcome.the-variants.{Fee, Refund, Ask, NoMember, PastLimit, PastTotal}
 use Rattle.client.specs.declared.Read.{Read}
@@ -37,7 +38,7 @@ replyOk s =
     eqb (length s) 36
     and eqb (num 4 0 s) 32
     and eqb (num 1 4 s) 1
-    and eqb (num 1 5 s) 12
+    and eqb (kindOf s) 12
     and eqb (num 1 6 s) 0
     and within 1 6 (num 1 27 s)
 

@@ -327,7 +327,7 @@ fn reply_ok(frame: &[u8]) -> bool
     if numbers::read_u8(frame, 4) != 1 {
         return false;
     }
-    if numbers::read_u8(frame, 5) != 12 {
+    if frames::kind_of(frame) != 12 {
         return false;
     }
     if numbers::read_u8(frame, 6) != 0 {

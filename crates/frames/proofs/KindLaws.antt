@@ -1,7 +1,7 @@
 -- Laws of the kinds and of a well-formed frame.
 --     each-kind      what holds of each of the eleven kinds holds of every number from 1 to 11
 --     last-kind      a kind that is none of 1 to 10 is 11
---     least-room     the fields take at least `leastOf` bytes
+--     least-room     the fields take at least `fieldsEnd` bytes
 --     head-long      a frame whose head is right has 7 bytes
 --     well-formed, formed    a frame is well formed exactly where it keeps these facts
 -- Assumes nothing.
@@ -20,7 +20,7 @@ use Rattle.numbers.specs.Numbers.{num, within}
 use Rattle.numbers.proofs.WordLaws.{split, and-both}
 use Rattle.numbers.proofs.NumberLaws.{within-both, both-within}
 use Rattle.entries.specs.Entries.{entriesOk}
-use Rattle.frames.specs.Kinds.{leastOf, roomOf, fieldsOk, countOf, headOk, bodyOk, wellFormed}
+use Rattle.frames.specs.Kinds.{fieldsEnd, roomOf, fieldsOk, countOf, headOk, bodyOk, wellFormed}
 
 -- one number up
 up : {n k : ℕ} → n ≤ k → (k ≡ n → ⊥) → n + 1 ≤ k
@@ -54,12 +54,12 @@ each-kind P e k l h =
     from P 1 (e .k1) (from P 2 (e .k2) (from P 3 (e .k3) (from P 4 (e .k4) (from P 5 (e .k5) (from P 6 (e .k6) (from P 7 (e .k7) (from P 8 (e .k8)
     (from P 9 (e .k9) (from P 10 (e .k10) (from P 11 (e .k11) (λ g. absurd (omega arith)))))))))))) l
 
-pub least-room : (k : ℕ) (s : List ℕ) → leastOf k ≤ roomOf k s
-unfolding leastOf roomOf
+pub least-room : (k : ℕ) (s : List ℕ) → fieldsEnd k ≤ roomOf k s
+unfolding roomOf
 least-room k s =
-    split (λ (x : ℕ). leastOf k ≤ x) (eqb k 11) (if eqb (num 1 20 s) 1 then 29 else 21) (leastOf k)
+    split (λ (x : ℕ). fieldsEnd k ≤ x) (eqb k 11) (if eqb (num 1 20 s) 1 then 29 else 21) (fieldsEnd k)
     (λ e. rw (eqb-true k 11 e) (split (λ (x : ℕ). 21 ≤ x) (eqb (num 1 20 s) 1) 29 21 (λ f. lit≤ tt) (λ f. lit≤ tt)))
-    (λ e. le-refl (leastOf k))
+    (λ e. le-refl (fieldsEnd k))
 
 pub head-long : (s : List ℕ) → headOk s ≡ true → 7 ≤ length s
 unfolding headOk

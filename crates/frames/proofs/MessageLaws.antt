@@ -1,23 +1,25 @@
 -- Laws of what a frame says.
 --     parsed               what a parsed frame and its message keep: `Said`
 --     kind-low, kind-high  the kind of a message is 1 to 11
+--     bytes-none, bytes-are    the entries of a message's frame
 --     accepted, malformed-back, malformed-exactly     refusal 2 is given exactly where `wellFormed` is false
 -- Assumes nothing.
 use mathlib.Core.Path.{_≡_, refl, sym, ap, _∙_}
 use mathlib.Core.Bool.{Bool, true, false}
 use mathlib.Core.List.{List}
-use Prim.Native.Nat.{ℕ, _+_, _*_, _≤_}
+use Prim.Native.Nat.{ℕ, _+_, _-_, _*_, _≤_, _<_}
 use native.Mathlib.Nat.{le-refl}
 use native.Mathlib.Omega.{arith}
 use lib.Dec.{eqb, lit≤}
-use lib.ListN.{length}
+use lib.ListN.{length, take, drop, length-drop, drop-of-length-le}
+use lib.Seq.{take-all}
 use Rattle.numbers.specs.Words.{if_then_else_, _and_}
 use Rattle.numbers.specs.Numbers.{num, within, opAt}
 use Rattle.numbers.specs.declared.Op.{Op}
 use Rattle.numbers.proofs.WordLaws.{if-true, if-false}
 use Rattle.numbers.proofs.NumberLaws.{within-both}
-use Rattle.frames.specs.Kinds.{leastOf, roomOf, countOf, wellFormed}
-use Rattle.frames.specs.Messages.{stateOf, messageOf, parseFrame, parsedNumber, stateRow, carriedOf}
+use Rattle.frames.specs.Kinds.{roomOf, countOf, wellFormed}
+use Rattle.frames.specs.Messages.{stateOf, messageOf, parseFrame, parsedNumber, stateRow, carriedOf, carriedBytes}
 use Rattle.frames.specs.declared.RecoveryState.{RecoveryState}
 use Rattle.frames.specs.declared.RecoveryState.the-variants.{Absent, Present}
 use Rattle.frames.specs.declared.Message.{Message}
@@ -81,7 +83,7 @@ state-size r false o c = lit≤ tt
 
 -- of each kind
 size-said : (s : List ℕ) (k : ℕ) → 1 ≤ k → k ≤ 11 → carriedOf (messageOf k s) .start + 32 * carriedOf (messageOf k s) .whole ≤ roomOf k s + 32 * countOf k s
-unfolding messageOf stateOf carriedOf roomOf leastOf countOf if_then_else_
+unfolding messageOf stateOf carriedOf roomOf countOf if_then_else_
 size-said s =
     each-kind (λ k. carriedOf (messageOf k s) .start + 32 * carriedOf (messageOf k s) .whole ≤ roomOf k s + 32 * countOf k s)
     record {
@@ -97,6 +99,19 @@ size-said s =
       k10 = lit≤ tt;
       k11 = state-size (num 1 19 s) (eqb (num 1 20 s) 1) (opAt 21 s) (opAt 25 s);
     }
+
+-- ---- what follows the fields
+
+module _ (m : Message) (s : List ℕ) (at : ℕ) (e : at ≡ carriedOf m .start) where
+  pub bytes-none : length s < at → take (length s - length s) (drop (length s) s) ≡ carriedBytes m s
+  unfolding carriedBytes
+  bytes-none h =
+      take-all (length s - length s) (drop (length s) s) (omega (arith, length-drop (length s) s))
+      ∙ drop-of-length-le s {i = length s} (omega arith) ∙ sym (drop-of-length-le s {i = carriedOf m .start} (omega (arith, h, e)))
+
+  pub bytes-are : take (length s - at) (drop at s) ≡ carriedBytes m s
+  unfolding carriedBytes
+  bytes-are = rw (← e) (take-all (length s - at) (drop at s) (omega (arith, length-drop at s)))
 
 -- ---- refusal 2, in both directions
 

@@ -9,19 +9,32 @@ use Rattle.numbers.specs.Words.{if_then_else_, _and_}
 use Rattle.numbers.specs.Numbers.{num, within}
 use Rattle.entries.specs.Entries.{entriesOk}
 
--- by kind, how many bytes stand before the entries; of kind 11 those up to its 0 or 1
-unfoldable pub leastOf : ℕ → ℕ
-leastOf k = getD (0 ∷ 7 ∷ 19 ∷ 16 ∷ 15 ∷ 16 ∷ 23 ∷ 12 ∷ 24 ∷ 19 ∷ 20 ∷ 21 ∷ []) k 0
+-- the kind that a frame names
+abbrev pub kindOf : List ℕ → ℕ
+kindOf s = num 1 5 s
 
--- the same, with o and c of a RecoveryResponse that carries a log
+-- The table of kinds, from 0 on: where the fields end, counted from the frame's first byte (document 01's lengths count what follows the
+-- length's four bytes). There the entries begin; where there are none, the frame ends. Of kind 11 without a log.
+abbrev pub fieldsEnd : ℕ → ℕ
+fieldsEnd k = getD (0 ∷ 7 ∷ 19 ∷ 16 ∷ 15 ∷ 16 ∷ 23 ∷ 12 ∷ 24 ∷ 19 ∷ 20 ∷ 21 ∷ []) k 0
+
+-- the mark of kind 11: 1 with a log, 0 without
+abbrev pub markOf : List ℕ → ℕ
+markOf s = num 1 20 s
+
+-- where the fields of kind 11 end with a log: o and c follow the mark
+abbrev pub stateEnd : ℕ
+stateEnd = fieldsEnd 11 + 8
+
+-- where the fields of this frame end
 unfoldable pub roomOf : ℕ → List ℕ → ℕ
-roomOf k s = if eqb k 11 then (if eqb (num 1 20 s) 1 then 29 else 21) else leastOf k
+roomOf k s = if eqb k 11 then (if eqb (markOf s) 1 then stateEnd else fieldsEnd 11) else fieldsEnd k
 
 -- NewState: start is at most end. RecoveryResponse: its mark is 0 or 1.
 unfoldable pub fieldsOk : ℕ → List ℕ → Bool
 fieldsOk k s =
     if eqb k 6 then leb (num 4 11 s) (num 4 15 s) else
-    if eqb k 11 then leb (num 1 20 s) 1 else
+    if eqb k 11 then leb (markOf s) 1 else
     true
 
 -- how many entries the frame says that it carries
@@ -32,7 +45,7 @@ countOf k s =
     if eqb k 6 then num 4 15 s - num 4 11 s else
     if eqb k 8 then num 4 16 s else
     if eqb k 9 then num 4 11 s else
-    if eqb k 11 then (if eqb (num 1 20 s) 1 then num 4 21 s else 0) else
+    if eqb k 11 then (if eqb (markOf s) 1 then num 4 21 s else 0) else
     0
 
 -- the length says what follows it, and the version is 1
@@ -49,4 +62,4 @@ bodyOk k s =
 
 -- refusal 2 is given exactly where this is false
 unfoldable pub wellFormed : List ℕ → Bool
-wellFormed s = headOk s and bodyOk (num 1 5 s) s
+wellFormed s = headOk s and bodyOk (kindOf s) s

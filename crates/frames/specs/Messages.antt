@@ -8,7 +8,7 @@ use Rattle.numbers.specs.Words.{if_then_else_}
 use Rattle.numbers.specs.Numbers.{num, viewAt, opAt}
 use Rattle.numbers.specs.declared.Op.{Op}
 use Rattle.entries.specs.Entries.{entryOf}
-use Rattle.frames.specs.Kinds.{wellFormed}
+use Rattle.frames.specs.Kinds.{kindOf, fieldsEnd, markOf, stateEnd, wellFormed}
 use Rattle.frames.specs.declared.RecoveryState.{RecoveryState}
 use Rattle.frames.specs.declared.RecoveryState.the-variants.{Absent, Present}
 use Rattle.frames.specs.declared.Message.{Message}
@@ -19,13 +19,13 @@ use Rattle.frames.specs.declared.Parsed.the-variants.{Frame, Malformed}
 
 -- the end of a RecoveryResponse: 0, or 1 o c
 unfoldable pub stateOf : List ℕ → RecoveryState
-stateOf s = if eqb (num 1 20 s) 1 then Present (opAt 21 s) (opAt 25 s) else Absent
+stateOf s = if eqb (markOf s) 1 then Present (opAt 21 s) (opAt 25 s) else Absent
 
 -- the message of a frame of kind k
 unfoldable pub messageOf : ℕ → List ℕ → Message
 messageOf k s =
-    if eqb k 1 then Request (entryOf (drop 7 s)) else
-    if eqb k 2 then Prepare (viewAt 7 s) (opAt 11 s) (opAt 15 s) (entryOf (drop 19 s)) else
+    if eqb k 1 then Request (entryOf (drop (fieldsEnd 1) s)) else
+    if eqb k 2 then Prepare (viewAt 7 s) (opAt 11 s) (opAt 15 s) (entryOf (drop (fieldsEnd 2) s)) else
     if eqb k 3 then PrepareOk (viewAt 7 s) (opAt 11 s) (num 1 15 s) else
     if eqb k 4 then Commit (viewAt 7 s) (opAt 11 s) else
     if eqb k 5 then GetState (num 1 7 s) (viewAt 8 s) (opAt 12 s) else
@@ -38,7 +38,7 @@ messageOf k s =
 
 -- addressee and message, or refusal 2
 unfoldable pub parseFrame : List ℕ → Parsed
-parseFrame s = if wellFormed s then Frame (num 1 6 s) (messageOf (num 1 5 s) s) else Malformed
+parseFrame s = if wellFormed s then Frame (num 1 6 s) (messageOf (kindOf s) s) else Malformed
 
 -- the document's refusal number of a parse
 abbrev pub parsedNumber : Parsed → ℕ
@@ -48,27 +48,32 @@ parsedNumber Malformed = 2
 abbrev pub noOp : Op
 noOp = record { 0 = 0 }
 
-abbrev pub row : (kind sender : ℕ) (op commit : Op) (start whole : ℕ) → Carried
-row k r o c a n = record { kind = k; sender = r; op = o; commit = c; start = a; whole = n }
+-- a row by the table of kinds
+abbrev pub row : (kind sender : ℕ) (op commit : Op) (whole : ℕ) → Carried
+row k r o c n = record { kind = k; sender = r; op = o; commit = c; start = fieldsEnd k; whole = n }
 
 -- the row of a RecoveryResponse, without and with a log
 unfoldable pub stateRow : ℕ → RecoveryState → Carried
-stateRow r Absent = row 11 r noOp noOp 0 0
-stateRow r (Present o c) = row 11 r o c 29 (o .0)
+stateRow r Absent = row 11 r noOp noOp 0
+stateRow r (Present o c) = record { kind = 11; sender = r; op = o; commit = c; start = stateEnd; whole = o .0 }
 
 -- One row a kind, for what is judged of a frame alone. Columns: the document's number of the kind; the sender, 0 where the kind names none
 -- (0 is below every n); the carried o, or end, that L bounds, 0 where there is none; the carried c that this bounds, of kinds 6, 8, 9 and
--- 11 only (a Prepare's and a Commit's c are bounded by nothing); where in the frame the carried log begins; how many entries a whole
--- carried log has (a NewState carries a part of one).
+-- 11 only (a Prepare's and a Commit's c are bounded by nothing); how many entries a whole carried log has (a NewState carries a part of
+-- one). From `start` on the frame has its entries, of every kind: a carried log, or the one entry of a Request or Prepare, or nothing.
 unfoldable pub carriedOf : Message → Carried
-carriedOf (Request e) = row 1 0 noOp noOp 0 0
-carriedOf (Prepare v o c e) = row 2 0 o noOp 0 0
-carriedOf (PrepareOk v o r) = row 3 r o noOp 0 0
-carriedOf (Commit v c) = row 4 0 noOp noOp 0 0
-carriedOf (GetState r v o) = row 5 r o noOp 0 0
-carriedOf (NewState v a z c) = row 6 0 z c 23 0
-carriedOf (StartViewChange v r) = row 7 r noOp noOp 0 0
-carriedOf (DoViewChange v r l o c) = row 8 r o c 24 (o .0)
-carriedOf (StartView v o c) = row 9 0 o c 19 (o .0)
-carriedOf (Recovery r x v) = row 10 r noOp noOp 0 0
+carriedOf (Request e) = row 1 0 noOp noOp 0
+carriedOf (Prepare v o c e) = row 2 0 o noOp 0
+carriedOf (PrepareOk v o r) = row 3 r o noOp 0
+carriedOf (Commit v c) = row 4 0 noOp noOp 0
+carriedOf (GetState r v o) = row 5 r o noOp 0
+carriedOf (NewState v a z c) = row 6 0 z c 0
+carriedOf (StartViewChange v r) = row 7 r noOp noOp 0
+carriedOf (DoViewChange v r l o c) = row 8 r o c (o .0)
+carriedOf (StartView v o c) = row 9 0 o c (o .0)
+carriedOf (Recovery r x v) = row 10 r noOp noOp 0
 carriedOf (RecoveryResponse v x r t) = stateRow r t
+
+-- the entries of a message's frame, as bytes: all that follows its fields
+unfoldable pub carriedBytes : Message → List ℕ → List ℕ
+carriedBytes m s = drop (carriedOf m .start) s

@@ -2,7 +2,8 @@
 ghost use mathlib.Core.Path.{_≡_};
 ghost use Prim.Native.Nat.{_+_, _*_, _≤_};
 ghost use lib.ListN.{length};
-ghost use Rattle.frames.specs.Messages.{parseFrame, carriedOf};
+ghost use Rattle.frames.specs.Kinds.{kindOf};
+ghost use Rattle.frames.specs.Messages.{parseFrame, carriedOf, carriedBytes};
 ghost use Rattle.frames.specs.Refusals.{refusalOf, checkFrame};
 ghost use Rattle.frames.specs.Looks.{looksAt};
 use config::Setup;
@@ -109,6 +110,14 @@ pub enum Checked {
     Refused { number: u8 },
 }
 
+// The kind that a frame names, whether or not it is well formed.
+pub fn kind_of(frame: &[u8]) -> u8
+    requires { ⌜ 6 ≤ length (now frame) ⌝ }
+    ensures { λ r. ⌜ r ≡ kindOf (now (frame .entry)) ⌝ }
+{
+    numbers::read_u8(frame, 5)
+}
+
 // The addressee and the message of a frame, or that it is malformed: refusal 2.
 pub fn parse(frame: &[u8]) -> Parsed
     ensures { λ r. ⌜ r ≡ parseFrame (now (frame .entry)) ⌝ }
@@ -118,7 +127,7 @@ pub fn parse(frame: &[u8]) -> Parsed
     }
     Parsed::Frame {
         to: numbers::read_u8(frame, 6),
-        message: say::said(frame, numbers::read_u8(frame, 5)),
+        message: say::said(frame, kind_of(frame)),
     }
 }
 
@@ -160,6 +169,19 @@ pub fn check(u: Setup, frame: &[u8]) -> Checked
             Checked::Refused { number: k }
         }
     }
+}
+
+// The entries of a message's frame, as bytes; nothing where the frame ends before its fields do.
+pub fn carried_bytes(m: Message, frame: &[u8]) -> &[u8]
+    ensures { λ r. ⌜ now r ≡ carriedBytes m (now (frame .entry)) ⌝ }
+{
+    let x = row::carried(m);
+    let at = x.start;
+    if frame.len() < at {
+        let end = frame.len();
+        return &frame[end..];
+    }
+    &frame[at..]
 }
 
 // Whether a status looks at a message: by the table of statuses and kinds.

@@ -4,14 +4,14 @@ ghost use Prim.Native.Nat.{_+_, _*_, _≤_};
 ghost use lib.ListN.{length, drop};
 ghost use Rattle.numbers.specs.Numbers.{num, viewAt, opAt};
 ghost use Rattle.entries.specs.Entries.{entryOf};
-ghost use Rattle.frames.specs.Kinds.{roomOf, countOf};
+ghost use Rattle.frames.specs.Kinds.{fieldsEnd, roomOf, countOf};
 ghost use Rattle.frames.specs.Messages.{stateOf, messageOf};
 use crate::Message;
 use crate::RecoveryState;
 
 fn request(frame: &[u8]) -> Message
-    requires { ⌜ 39 ≤ length (now frame) ⌝ }
-    ensures { λ r. ⌜ r ≡ Message.Request (entryOf (drop 7 (now (frame .entry)))) ⌝ }
+    requires { ⌜ fieldsEnd 1 + 32 ≤ length (now frame) ⌝ }
+    ensures { λ r. ⌜ r ≡ Message.Request (entryOf (drop (fieldsEnd 1) (now (frame .entry)))) ⌝ }
 {
     Message::Request {
         entry: entries::entry_at(frame, 7),
@@ -19,8 +19,8 @@ fn request(frame: &[u8]) -> Message
 }
 
 fn prepare(frame: &[u8]) -> Message
-    requires { ⌜ 51 ≤ length (now frame) ⌝ }
-    ensures { λ r. ⌜ r ≡ Message.Prepare (viewAt 7 (now (frame .entry))) (opAt 11 (now (frame .entry))) (opAt 15 (now (frame .entry))) (entryOf (drop 19 (now (frame .entry)))) ⌝ }
+    requires { ⌜ fieldsEnd 2 + 32 ≤ length (now frame) ⌝ }
+    ensures { λ r. ⌜ r ≡ Message.Prepare (viewAt 7 (now (frame .entry))) (opAt 11 (now (frame .entry))) (opAt 15 (now (frame .entry))) (entryOf (drop (fieldsEnd 2) (now (frame .entry)))) ⌝ }
 {
     Message::Prepare {
         view: numbers::read_view(frame, 7),
@@ -31,7 +31,7 @@ fn prepare(frame: &[u8]) -> Message
 }
 
 fn prepare_ok(frame: &[u8]) -> Message
-    requires { ⌜ 16 ≤ length (now frame) ⌝ }
+    requires { ⌜ fieldsEnd 3 ≤ length (now frame) ⌝ }
     ensures { λ r. ⌜ r ≡ Message.PrepareOk (viewAt 7 (now (frame .entry))) (opAt 11 (now (frame .entry))) (num 1 15 (now (frame .entry))) ⌝ }
 {
     Message::PrepareOk {
@@ -42,7 +42,7 @@ fn prepare_ok(frame: &[u8]) -> Message
 }
 
 fn commit(frame: &[u8]) -> Message
-    requires { ⌜ 15 ≤ length (now frame) ⌝ }
+    requires { ⌜ fieldsEnd 4 ≤ length (now frame) ⌝ }
     ensures { λ r. ⌜ r ≡ Message.Commit (viewAt 7 (now (frame .entry))) (opAt 11 (now (frame .entry))) ⌝ }
 {
     Message::Commit {
@@ -52,7 +52,7 @@ fn commit(frame: &[u8]) -> Message
 }
 
 fn get_state(frame: &[u8]) -> Message
-    requires { ⌜ 16 ≤ length (now frame) ⌝ }
+    requires { ⌜ fieldsEnd 5 ≤ length (now frame) ⌝ }
     ensures { λ r. ⌜ r ≡ Message.GetState (num 1 7 (now (frame .entry))) (viewAt 8 (now (frame .entry))) (opAt 12 (now (frame .entry))) ⌝ }
 {
     Message::GetState {
@@ -63,7 +63,7 @@ fn get_state(frame: &[u8]) -> Message
 }
 
 fn new_state(frame: &[u8]) -> Message
-    requires { ⌜ 23 ≤ length (now frame) ⌝ }
+    requires { ⌜ fieldsEnd 6 ≤ length (now frame) ⌝ }
     ensures { λ r. ⌜ r ≡ Message.NewState (viewAt 7 (now (frame .entry))) (opAt 11 (now (frame .entry))) (opAt 15 (now (frame .entry))) (opAt 19 (now (frame .entry))) ⌝ }
 {
     Message::NewState {
@@ -75,7 +75,7 @@ fn new_state(frame: &[u8]) -> Message
 }
 
 fn start_view_change(frame: &[u8]) -> Message
-    requires { ⌜ 12 ≤ length (now frame) ⌝ }
+    requires { ⌜ fieldsEnd 7 ≤ length (now frame) ⌝ }
     ensures { λ r. ⌜ r ≡ Message.StartViewChange (viewAt 7 (now (frame .entry))) (num 1 11 (now (frame .entry))) ⌝ }
 {
     Message::StartViewChange {
@@ -85,7 +85,7 @@ fn start_view_change(frame: &[u8]) -> Message
 }
 
 fn do_view_change(frame: &[u8]) -> Message
-    requires { ⌜ 24 ≤ length (now frame) ⌝ }
+    requires { ⌜ fieldsEnd 8 ≤ length (now frame) ⌝ }
     ensures { λ r. ⌜ r ≡ Message.DoViewChange (viewAt 7 (now (frame .entry))) (num 1 11 (now (frame .entry))) (viewAt 12 (now (frame .entry))) (opAt 16 (now (frame .entry))) (opAt 20 (now (frame .entry))) ⌝ }
 {
     Message::DoViewChange {
@@ -98,7 +98,7 @@ fn do_view_change(frame: &[u8]) -> Message
 }
 
 fn start_view(frame: &[u8]) -> Message
-    requires { ⌜ 19 ≤ length (now frame) ⌝ }
+    requires { ⌜ fieldsEnd 9 ≤ length (now frame) ⌝ }
     ensures { λ r. ⌜ r ≡ Message.StartView (viewAt 7 (now (frame .entry))) (opAt 11 (now (frame .entry))) (opAt 15 (now (frame .entry))) ⌝ }
 {
     Message::StartView {
@@ -109,7 +109,7 @@ fn start_view(frame: &[u8]) -> Message
 }
 
 fn recovery(frame: &[u8]) -> Message
-    requires { ⌜ 20 ≤ length (now frame) ⌝ }
+    requires { ⌜ fieldsEnd 10 ≤ length (now frame) ⌝ }
     ensures { λ r. ⌜ r ≡ Message.Recovery (num 1 7 (now (frame .entry))) (num 8 8 (now (frame .entry))) (viewAt 16 (now (frame .entry))) ⌝ }
 {
     Message::Recovery {

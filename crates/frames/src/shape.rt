@@ -6,34 +6,37 @@ ghost use lib.Dec.{eqb};
 ghost use lib.ListN.{length};
 ghost use Rattle.numbers.specs.Words.{if_then_else_};
 ghost use Rattle.numbers.specs.Numbers.{num};
-ghost use Rattle.frames.specs.Kinds.{leastOf, roomOf, fieldsOk, countOf, headOk, bodyOk, wellFormed};
+ghost use Rattle.frames.specs.Kinds.{fieldsEnd, markOf, stateEnd, roomOf, fieldsOk, countOf, headOk, bodyOk, wellFormed};
 
-// By kind, the bytes before the entries; of kind 11 those up to its mark.
-const LEAST: [usize; 12] = [0, 7, 19, 16, 15, 16, 23, 12, 24, 19, 20, 21];
+// By kind, where the fields end and the entries begin; of kind 11 without a log.
+const FIELDS_END: [usize; 12] = [0, 7, 19, 16, 15, 16, 23, 12, 24, 19, 20, 21];
 
-fn least(kind: u8) -> usize
+// Of kind 11 with a log.
+pub const STATE_END: usize = 29;
+
+pub fn fields_end(kind: u8) -> usize
     requires { ⌜ kind ≤ 11 ⌝ }
-    ensures { λ r. ⌜ r ≡ leastOf kind ⌝ }
+    ensures { λ r. ⌜ r ≡ fieldsEnd kind ⌝ }
 {
     let k = kind as usize;
-    LEAST[k]
+    FIELDS_END[k]
 }
 
 fn room(frame: &[u8], kind: u8) -> usize
-    requires { ⌜ (kind ≤ 11) × (leastOf kind ≤ length (now frame)) ⌝ }
+    requires { ⌜ (kind ≤ 11) × (fieldsEnd kind ≤ length (now frame)) ⌝ }
     ensures { λ r. ⌜ r ≡ roomOf kind (now (frame .entry)) ⌝ }
 {
     if kind == 11 {
         if numbers::read_u8(frame, 20) == 1 {
-            return 29;
+            return STATE_END;
         }
-        return 21;
+        return fields_end(11);
     }
-    least(kind)
+    fields_end(kind)
 }
 
 fn fields_ok(frame: &[u8], kind: u8) -> bool
-    requires { ⌜ leastOf kind ≤ length (now frame) ⌝ }
+    requires { ⌜ fieldsEnd kind ≤ length (now frame) ⌝ }
     ensures { λ r. ⌜ r ≡ fieldsOk kind (now (frame .entry)) ⌝ }
 {
     match kind {
@@ -44,15 +47,15 @@ fn fields_ok(frame: &[u8], kind: u8) -> bool
 }
 
 fn count_new_state(frame: &[u8]) -> u32
-    requires { ⌜ (23 ≤ length (now frame)) × (num 4 11 (now frame) ≤ num 4 15 (now frame)) ⌝ }
+    requires { ⌜ (fieldsEnd 6 ≤ length (now frame)) × (num 4 11 (now frame) ≤ num 4 15 (now frame)) ⌝ }
     ensures { λ r. ⌜ r ≡ num 4 15 (now (frame .entry)) - num 4 11 (now (frame .entry)) ⌝ }
 {
     numbers::read_u32(frame, 15) - numbers::read_u32(frame, 11)
 }
 
 fn count_response(frame: &[u8]) -> u32
-    requires { ⌜ (21 ≤ length (now frame)) × (num 1 20 (now frame) ≡ 1 → 29 ≤ length (now frame)) ⌝ }
-    ensures { λ r. ⌜ r ≡ (if eqb (num 1 20 (now (frame .entry))) 1 then num 4 21 (now (frame .entry)) else 0) ⌝ }
+    requires { ⌜ (fieldsEnd 11 ≤ length (now frame)) × (markOf (now frame) ≡ 1 → stateEnd ≤ length (now frame)) ⌝ }
+    ensures { λ r. ⌜ r ≡ (if eqb (markOf (now (frame .entry))) 1 then num 4 21 (now (frame .entry)) else 0) ⌝ }
 {
     if numbers::read_u8(frame, 20) == 1 {
         return numbers::read_u32(frame, 21);
@@ -95,7 +98,7 @@ fn body_ok(frame: &[u8], kind: u8) -> bool
     if !numbers::within(1, 11, kind as u64) {
         return false;
     }
-    if n < least(kind) {
+    if n < fields_end(kind) {
         return false;
     }
     if !fields_ok(frame, kind) {
@@ -119,5 +122,5 @@ pub fn well_formed(frame: &[u8]) -> bool
     if !head_ok(frame) {
         return false;
     }
-    body_ok(frame, numbers::read_u8(frame, 5))
+    body_ok(frame, crate::kind_of(frame))
 }

@@ -13,6 +13,7 @@ use Rattle.entries.specs.declared.Entry.{Entry}
 use Rattle.clock.specs.Clock.{tickOf}
 use Rattle.clock.specs.declared.Ticked.{Ticked}
 use Rattle.clock.specs.declared.Duty.the-variants.{Change}
+use Rattle.frames.specs.Messages.{carriedBytes}
 use Rattle.frames.specs.declared.Message.{Message}
 use Rattle.frames.specs.declared.Message.the-variants.{Request, Prepare, PrepareOk, Commit, GetState, NewState, StartViewChange, DoViewChange, StartView, Recovery, RecoveryResponse}
 use Rattle.rows.specs.declared.Latest.{Latest}
@@ -48,6 +49,7 @@ use Rattle.recovery.specs.Recovery.{Collected, byResponse, recoveredBy, collect
 use Rattle.handlers.specs.Handlers.{ofServed, ofCounted, ofJoined, ofCollected, preparedBy, partOf, handled, messageStep, changingTick, idleStep}
 use Rattle.handlers.proofs.RunBytes.{RunBytes, entry-bytes, with-bytes, with-log, committed-bytes, settled-bytes}
 use Rattle.handlers.proofs.RunBytes.{acked-bytes, commit-bytes, prepare-bytes, new-state-bytes}
+use Rattle.handlers.proofs.FrameLaws.{carried-in-bytes}
 
 -- log, results, totals and the stored logs
 abbrev pub InBytes : Memory → Type 0
@@ -161,14 +163,14 @@ module _ (s : Replica) (m : Memory) (h : InBytes m) where
   handled-bytes (Commit v c) latest frame b = (commit-bytes s (m .runs) (h .0) (m .out) v c, h .1)
   handled-bytes (GetState r v o) latest frame b = h
   handled-bytes (NewState v a z c) latest frame b =
-      (new-state-bytes s (m .runs) (h .0) (m .out) v (partOf a z c) (drop 23 frame) (drop-bytes 23 frame b), h .1)
+      (new-state-bytes s (m .runs) (h .0) (m .out) v (partOf a z c) (carriedBytes (NewState v a z c) frame) (carried-in-bytes (NewState v a z c) frame b), h .1)
   handled-bytes (StartViewChange v r) latest frame b = start-view-change-bytes v r
-  handled-bytes (DoViewChange v r l o c) latest frame b = do-view-change-bytes v r l o c (drop 24 frame) (drop-bytes 24 frame b)
-  handled-bytes (StartView v o c) latest frame b = join-bytes _ v o c (drop 19 frame) (drop-bytes 19 frame b)
+  handled-bytes (DoViewChange v r l o c) latest frame b = do-view-change-bytes v r l o c (carriedBytes (DoViewChange v r l o c) frame) (carried-in-bytes (DoViewChange v r l o c) frame b)
+  handled-bytes (StartView v o c) latest frame b = join-bytes _ v o c (carriedBytes (StartView v o c) frame) (carried-in-bytes (StartView v o c) frame b)
   handled-bytes (Recovery r x v) latest frame b = h
   handled-bytes (RecoveryResponse v x r t) latest frame b =
       split (λ (d : Collected). After (ofCollected m d)) _ _ _ (λ _. h)
-      (λ _. response-bytes _ r (drop 29 frame) (drop-bytes 29 frame b))
+      (λ _. response-bytes _ r (carriedBytes (RecoveryResponse v x r t) frame) (carried-in-bytes (RecoveryResponse v x r t) frame b))
 
   repeated-bytes : (t : Ticked) → After (repeated s (t .clock) m)
   unfolding repeated

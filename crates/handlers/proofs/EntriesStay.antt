@@ -12,6 +12,7 @@ use Rattle.clock.specs.Clock.{tickOf}
 use Rattle.clock.specs.declared.Clock.{Clock}
 use Rattle.clock.specs.declared.Ticked.{Ticked}
 use Rattle.clock.specs.declared.Duty.the-variants.{Follow, Change}
+use Rattle.frames.specs.Messages.{carriedBytes}
 use Rattle.frames.specs.Refusals.{checkFrame}
 use Rattle.frames.specs.declared.Message.{Message}
 use Rattle.frames.specs.declared.Message.the-variants.{Request, Prepare, PrepareOk, Commit, GetState, NewState, StartViewChange, DoViewChange, StartView, Recovery, RecoveryResponse}
@@ -105,19 +106,19 @@ handled-ruled (Commit v c) s latest frame m g h b ok = commit-ruled s m h v c
 handled-ruled (GetState r v o) s latest frame m g h b ok = get-state-ruled s m h r v o
 handled-ruled (NewState v a z c) s latest frame m g h b ok =
     let f = new-state-fit (s .setup) frame v a z c ok in
-    new-state-ruled s m h v (partOf a z c) (drop 23 frame) (g .sound .commit-le) (f .0) (f .1 .0) (f .1 .1 .1)
+    new-state-ruled s m h v (partOf a z c) (carriedBytes (NewState v a z c) frame) (g .sound .commit-le) (f .0) (f .1 .0) (f .1 .1 .1)
     (new-state-ok (s .setup) frame v a z c ok)
 handled-ruled (StartViewChange v r) s latest frame m g h b ok = start-view-change-ruled s m h v r
 handled-ruled (DoViewChange v r l o c) s latest frame m g h b ok =
     let f = report-fit (s .setup) frame v r l o c ok in
-    do-view-change-ruled s m h v r l o c (drop 24 frame) (f .0) (f .1 .0) (f .1 .1 .1) (report-ok (s .setup) frame v r l o c ok)
+    do-view-change-ruled s m h v r l o c (carriedBytes (DoViewChange v r l o c) frame) (f .0) (f .1 .0) (f .1 .1 .1) (report-ok (s .setup) frame v r l o c ok)
 handled-ruled (StartView v o c) s latest frame m g h b ok =
     let f = start-view-fit (s .setup) frame v o c ok in
-    start-view-ruled s m h v o c (drop 19 frame) (f .0) (f .1 .1) (start-view-ok (s .setup) frame v o c ok)
+    start-view-ruled s m h v o c (carriedBytes (StartView v o c) frame) (f .0) (f .1 .1) (start-view-ok (s .setup) frame v o c ok)
 handled-ruled (Recovery r x v) s latest frame m g h b ok = recovery-ruled s m h r x v
 handled-ruled (RecoveryResponse v x r t) s latest frame m g h b ok =
     let f = response-fit (s .setup) frame v x r t ok in
-    response-ruled s m h v x r t (drop 29 frame) (f .0) (f .1 .0) (f .1 .1 .1) (response-ok (s .setup) frame v x r t ok)
+    response-ruled s m h v x r t (carriedBytes (RecoveryResponse v x r t) frame) (f .0) (f .1 .0) (f .1 .1 .1) (response-ok (s .setup) frame v x r t ok)
 
 pub message-ruled : (x : Message) (s : Replica) (latest : Latest) (frame : List ℕ) (m : Memory) → Gathering s m → Ruled s m → Bytes frame
     → checkFrame (s .setup) frame ≡ Passed x → RuledBy (messageStep x s latest frame m)

@@ -4,6 +4,7 @@
 --     new-state-fit, report-fit, start-view-fit, response-fit    numbers and log of a NewState, DoViewChange, StartView, RecoveryResponse
 --     request-ok, prepare-ok                                 the entry of a Request or Prepare: its fields fit, and it keeps the rules
 --     new-state-ok, report-ok, start-view-ok, response-ok    the rules of the entries that they carry
+--     carried-in-bytes                                       what follows the fields is bytes, as the frame is
 -- Assumes nothing.
 use mathlib.Core.Path.{_≡_, refl, sym, ap, _∙_, subst}
 use mathlib.Core.Bool.{true}
@@ -22,8 +23,8 @@ use Rattle.numbers.proofs.NumberLaws.{drop-bytes}
 use Rattle.entries.specs.Entries.{operationOk, entryOf, entriesOk, EntryFits}
 use Rattle.entries.specs.declared.Entry.{Entry}
 use Rattle.config.specs.declared.Setup.{Setup}
-use Rattle.frames.specs.Kinds.{leastOf, roomOf, fieldsOk, countOf}
-use Rattle.frames.specs.Messages.{stateOf, messageOf, stateRow, carriedOf}
+use Rattle.frames.specs.Kinds.{roomOf, fieldsOk, countOf}
+use Rattle.frames.specs.Messages.{stateOf, messageOf, stateRow, carriedOf, carriedBytes}
 use Rattle.frames.specs.Refusals.{checkFrame}
 use Rattle.frames.specs.declared.Message.{Message}
 use Rattle.frames.specs.declared.Message.the-variants.{Request, Prepare, PrepareOk, NewState, StartViewChange, DoViewChange, StartView, RecoveryResponse}
@@ -59,6 +60,10 @@ known u frame k x e h =
       commit = f .commit;
     }
 
+pub carried-in-bytes : (x : Message) (frame : List ℕ) → Bytes frame → Bytes (carriedBytes x frame)
+unfolding carriedBytes
+carried-in-bytes x frame b = drop-bytes (carriedOf x .start) frame b
+
 -- the first entry of `part`
 first-ok : (part : List ℕ) → Bytes part → entriesOk 1 part ≡ true
     → EntryFits (entryOf part) × (operationOk (entryOf part .operation) (entryOf part .cents) ≡ true)
@@ -78,7 +83,7 @@ module _ (u : Setup) (frame : List ℕ) where
     request-entry = let q = request-known .message in cc
 
     pub request-ok : Bytes frame → EntryFits e × (operationOk (e .operation) (e .cents) ≡ true)
-    unfolding roomOf leastOf countOf if_then_else_
+    unfolding roomOf countOf if_then_else_
     request-ok b = rw request-entry (first-ok (drop 7 frame) (drop-bytes 7 frame b) (request-known .log))
 
   module _ (v : View) (o c : Op) (e : Entry) (h : checkFrame u frame ≡ Passed (Prepare v o c e)) where
@@ -91,7 +96,7 @@ module _ (u : Setup) (frame : List ℕ) where
     prepare-entry = let q = prepare-known .message in cc
 
     pub prepare-ok : Bytes frame → EntryFits e × (operationOk (e .operation) (e .cents) ≡ true)
-    unfolding roomOf leastOf countOf if_then_else_
+    unfolding roomOf countOf if_then_else_
     prepare-ok b = rw prepare-entry (first-ok (drop 19 frame) (drop-bytes 19 frame b) (prepare-known .log))
 
   -- ---- PrepareOk, StartViewChange
@@ -121,8 +126,8 @@ module _ (u : Setup) (frame : List ℕ) where
     unfolding messageOf if_then_else_
     new-state-end = let e = new-state-known .message in cc
 
-    pub new-state-fit : (a .0 ≤ z .0) × ((z .0 ≤ u .room) × ((c .0 ≤ z .0) × (32 * (z .0 - a .0) ≤ length (drop 23 frame))))
-    unfolding carriedOf fieldsOk roomOf leastOf countOf if_then_else_
+    pub new-state-fit : (a .0 ≤ z .0) × ((z .0 ≤ u .room) × ((c .0 ≤ z .0) × (32 * (z .0 - a .0) ≤ length (carriedBytes (NewState v a z c) frame))))
+    unfolding carriedBytes carriedOf fieldsOk roomOf countOf if_then_else_
     new-state-fit =
         let f = new-state-known in
         let l : num 4 11 frame ≤ num 4 15 frame = leb-true (num 4 11 frame) (num 4 15 frame) (f .fields) in
@@ -131,8 +136,8 @@ module _ (u : Setup) (frame : List ℕ) where
           (f .op, (f .commit, rw (new-state-start, new-state-end, length-drop) (omega (arith, e)))),
         )
 
-    pub new-state-ok : entriesOk (z .0 - a .0) (drop 23 frame) ≡ true
-    unfolding roomOf leastOf countOf if_then_else_
+    pub new-state-ok : entriesOk (z .0 - a .0) (carriedBytes (NewState v a z c) frame) ≡ true
+    unfolding carriedBytes carriedOf roomOf countOf if_then_else_
     new-state-ok = rw (new-state-start, new-state-end) (new-state-known .log)
 
   -- ---- DoViewChange
@@ -146,15 +151,15 @@ module _ (u : Setup) (frame : List ℕ) where
     unfolding messageOf if_then_else_
     report-op = let e = report-known .message in cc
 
-    pub report-fit : (r < u .n) × ((o .0 ≤ u .room) × ((c .0 ≤ o .0) × (32 * o .0 ≤ length (drop 24 frame))))
-    unfolding carriedOf roomOf leastOf countOf if_then_else_
+    pub report-fit : (r < u .n) × ((o .0 ≤ u .room) × ((c .0 ≤ o .0) × (32 * o .0 ≤ length (carriedBytes (DoViewChange v r l o c) frame))))
+    unfolding carriedBytes carriedOf roomOf countOf if_then_else_
     report-fit =
         let f = report-known in
         let e : length frame ≡ 24 + 32 * num 4 16 frame = f .exact in
         (f .sender, (f .op, (f .commit, rw (report-op, length-drop) (omega (arith, e)))))
 
-    pub report-ok : entriesOk (o .0) (drop 24 frame) ≡ true
-    unfolding roomOf leastOf countOf if_then_else_
+    pub report-ok : entriesOk (o .0) (carriedBytes (DoViewChange v r l o c) frame) ≡ true
+    unfolding carriedBytes carriedOf roomOf countOf if_then_else_
     report-ok = rw report-op (report-known .log)
 
   -- ---- StartView
@@ -168,15 +173,15 @@ module _ (u : Setup) (frame : List ℕ) where
     unfolding messageOf if_then_else_
     start-view-op = let e = start-view-known .message in cc
 
-    pub start-view-fit : (o .0 ≤ u .room) × ((c .0 ≤ o .0) × (32 * o .0 ≤ length (drop 19 frame)))
-    unfolding carriedOf roomOf leastOf countOf if_then_else_
+    pub start-view-fit : (o .0 ≤ u .room) × ((c .0 ≤ o .0) × (32 * o .0 ≤ length (carriedBytes (StartView v o c) frame)))
+    unfolding carriedBytes carriedOf roomOf countOf if_then_else_
     start-view-fit =
         let f = start-view-known in
         let e : length frame ≡ 19 + 32 * num 4 11 frame = f .exact in
         (f .op, (f .commit, rw (start-view-op, length-drop) (omega (arith, e))))
 
-    pub start-view-ok : entriesOk (o .0) (drop 19 frame) ≡ true
-    unfolding roomOf leastOf countOf if_then_else_
+    pub start-view-ok : entriesOk (o .0) (carriedBytes (StartView v o c) frame) ≡ true
+    unfolding carriedBytes carriedOf roomOf countOf if_then_else_
     start-view-ok = rw start-view-op (start-view-known .log)
 
   -- ---- RecoveryResponse
@@ -202,23 +207,23 @@ module _ (u : Setup) (frame : List ℕ) where
     unfolding roomOf countOf if_then_else_
     response-long = rw (response-mark .0) at (response-known .exact) ∙ ap (λ (i : ℕ). 29 + 32 * i) (sym (response-mark .1))
 
-    response-log : entriesOk (o .0) (drop 29 frame) ≡ true
-    unfolding roomOf countOf if_then_else_
+    response-log : entriesOk (o .0) (carriedBytes (RecoveryResponse v x r (Present o c)) frame) ≡ true
+    unfolding carriedBytes carriedOf stateRow roomOf countOf if_then_else_
     response-log = rw (response-mark .1) (rw (response-mark .0) at (response-known .log))
 
   -- what is held of it
   pub response-fit : (v : View) (x r : ℕ) (t : RecoveryState) → checkFrame u frame ≡ Passed (RecoveryResponse v x r t)
       → (r < u .n)
       × ((responseOf v t .op .0 ≤ u .room)
-      × ((responseOf v t .commit .0 ≤ responseOf v t .op .0) × (32 * responseOf v t .op .0 ≤ length (drop 29 frame))))
-  unfolding carriedOf stateRow responseOf
+      × ((responseOf v t .commit .0 ≤ responseOf v t .op .0) × (32 * responseOf v t .op .0 ≤ length (carriedBytes (RecoveryResponse v x r t) frame))))
+  unfolding carriedBytes carriedOf stateRow responseOf
   response-fit v x r Absent h = (passed u frame (RecoveryResponse v x r Absent) h .sender, (omega arith, (omega arith, omega arith)))
   response-fit v x r (Present o c) h =
       let f = passed u frame (RecoveryResponse v x r (Present o c)) h in
       (f .sender, (f .op, (f .commit, rw length-drop (omega (arith, response-long v x r o c h)))))
 
   pub response-ok : (v : View) (x r : ℕ) (t : RecoveryState) → checkFrame u frame ≡ Passed (RecoveryResponse v x r t)
-      → entriesOk (responseOf v t .op .0) (drop 29 frame) ≡ true
+      → entriesOk (responseOf v t .op .0) (carriedBytes (RecoveryResponse v x r t) frame) ≡ true
   unfolding responseOf entriesOk
   response-ok v x r Absent h = refl
   response-ok v x r (Present o c) h = response-log v x r o c h

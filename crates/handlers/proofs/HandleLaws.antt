@@ -1,29 +1,23 @@
 -- Each arm of on_message's match, and each way out of on_message and on_idle, on plain variables, as the code's tests and calls give them.
---     rest-none, rest-is           what stands behind the fields of a frame
 --     request-is .. response-is    an arm, from what its handler promises
 --     looks-not, looks             on_message
 --     leads-on, follows-on         a Normal replica's tick
 --     up-follows, waits, up-asks, asks    a tick whose wait is over, and one whose isn't
 --     normal-is, transfer-is, change-is, recovering-is    on_idle, by status
 -- Assumes nothing.
-use mathlib.Core.Path.{_≡_, refl, sym, ap, _∙_}
+use mathlib.Core.Path.{_≡_, sym, ap, _∙_}
 use mathlib.Core.Bool.{Bool, true, false, not}
-use mathlib.Core.List.{List, []}
-use Prim.Native.Nat.{ℕ, _-_, _≤_, _<_}
-use native.Mathlib.Omega.{arith}
+use mathlib.Core.List.{List}
+use Prim.Native.Nat.{ℕ}
 use borrow.Author.Tests.{not-true, not-false}
-use lib.ListN.{length, take, drop, length-drop, drop-of-length-le}
-use lib.Seq.{take-all}
-use Rattle.numbers.specs.Words.{if_then_else_}
 use Rattle.numbers.specs.declared.View.{View}
 use Rattle.numbers.specs.declared.Op.{Op}
 use Rattle.numbers.proofs.WordLaws.{if-true, if-false}
 use Rattle.entries.specs.declared.Entry.{Entry}
 use Rattle.clock.specs.Clock.{tickOf}
-use Rattle.clock.specs.declared.Clock.{Clock}
 use Rattle.clock.specs.declared.Ticked.{Ticked}
 use Rattle.clock.specs.declared.Duty.the-variants.{Follow, Change}
-use Rattle.frames.specs.Messages.{carriedOf}
+use Rattle.frames.specs.Messages.{carriedOf, carriedBytes}
 use Rattle.frames.specs.Looks.{looksAt}
 use Rattle.frames.specs.declared.RecoveryState.{RecoveryState}
 use Rattle.frames.specs.declared.Message.{Message}
@@ -50,16 +44,6 @@ use Rattle.voting.specs.Votes.{startViewChangeStep}
 use Rattle.voting.specs.Tick.{nextView, nextViewAsking, changeTick}
 use Rattle.recovery.specs.Recovery.{collected, recoveringTick, recoveryStep, responseStep}
 use Rattle.handlers.specs.Handlers.{ofServed, ofLeft, ofCounted, ofJoined, ofCollected, preparedBy, partOf, handled, messageStep, followTick, normalTick, askTick, changingTick, idleStep}
-
--- ---- what stands behind the fields
-
-pub rest-none : (f : List ℕ) (at : ℕ) → length f < at → take (length f - length f) (drop (length f) f) ≡ drop at f
-rest-none f at h =
-    take-all (length f - length f) (drop (length f) f) (omega (arith, length-drop (length f) f))
-    ∙ drop-of-length-le f {i = length f} (omega arith) ∙ sym (drop-of-length-le f {i = at} (omega (arith, h)))
-
-pub rest-is : (f : List ℕ) (at : ℕ) → take (length f - at) (drop at f) ≡ drop at f
-rest-is f at = take-all (length f - at) (drop at f) (omega (arith, length-drop at f))
 
 module _ (s : Replica) (x : Message) (latest : Latest) (frame log results totals acks stored out reps : List ℕ) where
   abbrev m : Memory
@@ -102,37 +86,44 @@ module _ (s : Replica) (x : Message) (latest : Latest) (frame log results totals
   unfolding handled
   get-state-is r v o q p = arm (GetState r v o) q (ap (onlySent m) p)
 
-  pub new-state-is : (v : View) (a z c : Op) → x ≡ NewState v a z c → {b : Answer} {log′ results′ totals′ out′ : List ℕ}
-      → left b (runs log′ results′ totals′) out′ ≡ newStateStep s v (partOf a z c) (drop 23 frame) (runs log results totals) out
+  pub new-state-is : (v : View) (a z c : Op) → x ≡ NewState v a z c → {b : Answer} {part log′ results′ totals′ out′ : List ℕ} → part ≡ carriedBytes (NewState v a z c) frame
+      → left b (runs log′ results′ totals′) out′ ≡ newStateStep s v (partOf a z c) part (runs log results totals) out
       → recorded b (memory log′ results′ totals′ acks stored out′ reps) ≡ told
   unfolding handled
-  new-state-is v a z c q p = arm (NewState v a z c) q (ap (ofLeft m) p)
+  new-state-is v a z c q e p =
+      arm (NewState v a z c) q
+      (ap (ofLeft m) (p ∙ ap (λ (f : List ℕ). newStateStep s v (partOf a z c) f (runs log results totals) out) e))
 
   pub start-view-change-is : (v : View) (r : ℕ) → x ≡ StartViewChange v r → {d : Recorded} → d ≡ startViewChangeStep s v r m → d ≡ told
   unfolding handled
   start-view-change-is v r q p = arm (StartViewChange v r) q p
 
-  pub do-view-change-is : (v : View) (r : ℕ) (l : View) (o c : Op) → x ≡ DoViewChange v r l o c → {d : Recorded}
-      → d ≡ doViewChangeStep s v r l o c (drop 24 frame) m → d ≡ told
+  pub do-view-change-is : (v : View) (r : ℕ) (l : View) (o c : Op) → x ≡ DoViewChange v r l o c → {d : Recorded} {part : List ℕ} → part ≡ carriedBytes (DoViewChange v r l o c) frame
+      → d ≡ doViewChangeStep s v r l o c part m → d ≡ told
   unfolding handled
-  do-view-change-is v r l o c q p = arm (DoViewChange v r l o c) q p
+  do-view-change-is v r l o c q e p =
+      arm (DoViewChange v r l o c) q (p ∙ ap (λ (f : List ℕ). doViewChangeStep s v r l o c f m) e)
 
-  pub start-view-is : (v : View) (o c : Op) → x ≡ StartView v o c → {a : Answer} {log′ results′ totals′ acks′ out′ : List ℕ}
-      → joined a (runs log′ results′ totals′) acks′ out′ ≡ startViewStep s v o c (drop 19 frame) (runs log results totals) acks out
+  pub start-view-is : (v : View) (o c : Op) → x ≡ StartView v o c → {a : Answer} {part log′ results′ totals′ acks′ out′ : List ℕ} → part ≡ carriedBytes (StartView v o c) frame
+      → joined a (runs log′ results′ totals′) acks′ out′ ≡ startViewStep s v o c part (runs log results totals) acks out
       → recorded a (memory log′ results′ totals′ acks′ stored out′ reps) ≡ told
   unfolding handled
-  start-view-is v o c q p = arm (StartView v o c) q (ap (ofJoined m) p)
+  start-view-is v o c q e p =
+      arm (StartView v o c) q
+      (ap (ofJoined m) (p ∙ ap (λ (f : List ℕ). startViewStep s v o c f (runs log results totals) acks out) e))
 
   pub recovery-is : (r k : ℕ) (v : View) → x ≡ Recovery r k v → {a : Answer} {out′ : List ℕ} → spoke a out′ ≡ recoveryStep s r k v log out
       → recorded a (memory log results totals acks stored out′ reps) ≡ told
   unfolding handled
   recovery-is r k v q p = arm (Recovery r k v) q (ap (onlySent m) p)
 
-  pub response-is : (v : View) (k r : ℕ) (t : RecoveryState) → x ≡ RecoveryResponse v k r t → {a : Answer} {log′ results′ totals′ stored′ : List ℕ}
-      → collected a (runs log′ results′ totals′) stored′ ≡ responseStep s v k r t (drop 29 frame) (runs log results totals) stored
+  pub response-is : (v : View) (k r : ℕ) (t : RecoveryState) → x ≡ RecoveryResponse v k r t → {a : Answer} {part log′ results′ totals′ stored′ : List ℕ} → part ≡ carriedBytes (RecoveryResponse v k r t) frame
+      → collected a (runs log′ results′ totals′) stored′ ≡ responseStep s v k r t part (runs log results totals) stored
       → recorded a (memory log′ results′ totals′ acks stored′ out reps) ≡ told
   unfolding handled
-  response-is v k r t q p = arm (RecoveryResponse v k r t) q (ap (ofCollected m) p)
+  response-is v k r t q e p =
+      arm (RecoveryResponse v k r t) q
+      (ap (ofCollected m) (p ∙ ap (λ (f : List ℕ). responseStep s v k r t f (runs log results totals) stored) e))
 
   -- ---- on_message
 

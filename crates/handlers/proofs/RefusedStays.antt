@@ -2,11 +2,11 @@
 use Prim.Native.Nat.{ℕ}
 use mathlib.Core.Path.{refl}
 use mathlib.Core.List.{List}
-use lib.ListN.{drop}
 use Rattle.numbers.proofs.WordLaws.{split}
 use Rattle.clock.specs.Clock.{tickOf}
 use Rattle.clock.specs.declared.Ticked.{Ticked}
 use Rattle.clock.specs.declared.Duty.the-variants.{Follow, Change}
+use Rattle.frames.specs.Messages.{carriedBytes}
 use Rattle.frames.specs.declared.Message.{Message}
 use Rattle.frames.specs.declared.Message.the-variants.{Request, Prepare, PrepareOk, Commit, GetState, NewState, StartViewChange, DoViewChange, StartView, Recovery, RecoveryResponse}
 use Rattle.rows.specs.declared.Latest.{Latest}
@@ -27,12 +27,12 @@ handled-untouched (Prepare v o c e) s latest frame m = prepare-untouched s m v (
 handled-untouched (PrepareOk v o r) s latest frame m = prepare-ok-untouched s m v o r
 handled-untouched (Commit v c) s latest frame m = commit-untouched s m v c
 handled-untouched (GetState r v o) s latest frame m = get-state-untouched s m r v o
-handled-untouched (NewState v a z c) s latest frame m = new-state-untouched s m v (partOf a z c) (drop 23 frame)
+handled-untouched (NewState v a z c) s latest frame m = new-state-untouched s m v (partOf a z c) (carriedBytes (NewState v a z c) frame)
 handled-untouched (StartViewChange v r) s latest frame m = start-view-change-untouched s m v r
-handled-untouched (DoViewChange v r l o c) s latest frame m = do-view-change-untouched s m v r l o c (drop 24 frame)
-handled-untouched (StartView v o c) s latest frame m = start-view-untouched s m v o c (drop 19 frame)
+handled-untouched (DoViewChange v r l o c) s latest frame m = do-view-change-untouched s m v r l o c (carriedBytes (DoViewChange v r l o c) frame)
+handled-untouched (StartView v o c) s latest frame m = start-view-untouched s m v o c (carriedBytes (StartView v o c) frame)
 handled-untouched (Recovery r x v) s latest frame m = recovery-untouched s m r x v
-handled-untouched (RecoveryResponse v x r t) s latest frame m = response-untouched s m v x r t (drop 29 frame)
+handled-untouched (RecoveryResponse v x r t) s latest frame m = response-untouched s m v x r t (carriedBytes (RecoveryResponse v x r t) frame)
 
 pub message-untouched : (x : Message) (s : Replica) (latest : Latest) (frame : List ℕ) (m : Memory) → Untouched s m (messageStep x s latest frame m)
 unfolding messageStep

@@ -4,7 +4,7 @@ use Prim.Native.Nat.{ℕ}
 use mathlib.Core.Path.{_≡_, refl, sym, ap, _∙_, subst}
 use mathlib.Core.Bool.{true}
 use mathlib.Core.List.{List}
-use lib.ListN.{take, drop}
+use lib.ListN.{take}
 use Rattle.numbers.specs.declared.View.{View}
 use Rattle.numbers.specs.declared.Op.{Op}
 use Rattle.numbers.proofs.WordLaws.{split}
@@ -13,6 +13,7 @@ use Rattle.clock.specs.Clock.{tickOf}
 use Rattle.clock.specs.declared.Clock.{Clock}
 use Rattle.clock.specs.declared.Ticked.{Ticked}
 use Rattle.clock.specs.declared.Duty.the-variants.{Follow, Change}
+use Rattle.frames.specs.Messages.{carriedBytes}
 use Rattle.frames.specs.Refusals.{checkFrame}
 use Rattle.frames.specs.declared.Message.{Message}
 use Rattle.frames.specs.declared.Message.the-variants.{Request, Prepare, PrepareOk, Commit, GetState, NewState, StartViewChange, DoViewChange, StartView, Recovery, RecoveryResponse}
@@ -79,17 +80,17 @@ module _ (s : Replica) (m : Memory) (h : Gathering s m) where
   handled-kept (NewState v a z c) latest frame ok =
       let f = new-state-fit (s .setup) frame v a z c ok in
       left-kept h _
-      (new-state-held s (m .runs) here (m .out) v (partOf a z c) (drop 23 frame)
+      (new-state-held s (m .runs) here (m .out) v (partOf a z c) (carriedBytes (NewState v a z c) frame)
       (record { start-le = f .0; end-le = f .1 .0; commit-le = f .1 .1 .0 }) (f .1 .1 .1))
   handled-kept (StartViewChange v r) latest frame ok = start-view-change-kept s m h v r
   handled-kept (DoViewChange v r l o c) latest frame ok =
-      do-view-change-kept s m h v r l o c (drop 24 frame) (report-fit (s .setup) frame v r l o c ok)
+      do-view-change-kept s m h v r l o c (carriedBytes (DoViewChange v r l o c) frame) (report-fit (s .setup) frame v r l o c ok)
   handled-kept (StartView v o c) latest frame ok =
       let f = start-view-fit (s .setup) frame v o c ok in
-      start-view-kept s m h v o c (drop 19 frame) (record { op-le = f .0; commit-le = f .1 .0 }) (f .1 .1)
+      start-view-kept s m h v o c (carriedBytes (StartView v o c) frame) (record { op-le = f .0; commit-le = f .1 .0 }) (f .1 .1)
   handled-kept (Recovery r x v) latest frame ok = sent-kept h _ (recovery-held s m h r x v)
   handled-kept (RecoveryResponse v x r t) latest frame ok =
-      response-kept s m h v x r t (drop 29 frame) (response-fit (s .setup) frame v x r t ok)
+      response-kept s m h v x r t (carriedBytes (RecoveryResponse v x r t) frame) (response-fit (s .setup) frame v x r t ok)
 
   message-kept : (x : Message) (latest : Latest) (frame : List ℕ) → checkFrame (s .setup) frame ≡ Passed x
       → Kept (s .setup) (messageStep x s latest frame m)

@@ -4,7 +4,6 @@ use mathlib.Core.Path.{_≡_}
 use mathlib.Core.Bool.{Bool, true, false, not}
 use mathlib.Core.List.{List}
 use Prim.Native.Nat.{ℕ}
-use lib.ListN.{drop}
 use Rattle.numbers.specs.Words.{if_then_else_}
 use Rattle.numbers.specs.declared.View.{View}
 use Rattle.numbers.specs.declared.Op.{Op}
@@ -12,7 +11,7 @@ use Rattle.clock.specs.Clock.{tickOf}
 use Rattle.clock.specs.declared.Ticked.{Ticked}
 use Rattle.clock.specs.declared.Duty.the-variants.{Follow, Change}
 use Rattle.entries.specs.declared.Entry.{Entry}
-use Rattle.frames.specs.Messages.{carriedOf}
+use Rattle.frames.specs.Messages.{carriedOf, carriedBytes}
 use Rattle.frames.specs.Looks.{looksAt}
 use Rattle.frames.specs.declared.Message.{Message}
 use Rattle.frames.specs.declared.Message.the-variants.{Request, Prepare, PrepareOk, Commit, GetState, NewState, StartViewChange, DoViewChange, StartView, Recovery, RecoveryResponse}
@@ -81,19 +80,19 @@ preparedBy o c e latest = record { op = o; commit = c; entry = e; latest = lates
 abbrev pub partOf : (start end commit : Op) → Part
 partOf a z c = record { start = a; end = z; commit = c }
 
--- on_message, its match; a carried log begins where the fields of its kind end
+-- on_message, its match
 unfoldable pub handled : Message → Replica → Latest → (frame : List ℕ) → Memory → Recorded
 handled (Request e) s latest frame m = ofServed m (requestStep s e latest (m .runs .log) (m .acks) (m .out) (m .reps))
 handled (Prepare v o c e) s latest frame m = ofLeft m (prepareStep s v (preparedBy o c e latest) (m .runs) (m .out))
 handled (PrepareOk v o r) s latest frame m = ofCounted m (prepareOkStep s v o r (m .runs .log) (m .runs .money) (m .acks) (m .reps))
 handled (Commit v c) s latest frame m = ofLeft m (commitStep s v c (m .runs) (m .out))
 handled (GetState r v o) s latest frame m = onlySent m (getStateStep s r v o (m .runs .log) (m .out))
-handled (NewState v a z c) s latest frame m = ofLeft m (newStateStep s v (partOf a z c) (drop 23 frame) (m .runs) (m .out))
+handled (NewState v a z c) s latest frame m = ofLeft m (newStateStep s v (partOf a z c) (carriedBytes (NewState v a z c) frame) (m .runs) (m .out))
 handled (StartViewChange v r) s latest frame m = startViewChangeStep s v r m
-handled (DoViewChange v r l o c) s latest frame m = doViewChangeStep s v r l o c (drop 24 frame) m
-handled (StartView v o c) s latest frame m = ofJoined m (startViewStep s v o c (drop 19 frame) (m .runs) (m .acks) (m .out))
+handled (DoViewChange v r l o c) s latest frame m = doViewChangeStep s v r l o c (carriedBytes (DoViewChange v r l o c) frame) m
+handled (StartView v o c) s latest frame m = ofJoined m (startViewStep s v o c (carriedBytes (StartView v o c) frame) (m .runs) (m .acks) (m .out))
 handled (Recovery r x v) s latest frame m = onlySent m (recoveryStep s r x v (m .runs .log) (m .out))
-handled (RecoveryResponse v x r t) s latest frame m = ofCollected m (responseStep s v x r t (drop 29 frame) (m .runs) (m .stored))
+handled (RecoveryResponse v x r t) s latest frame m = ofCollected m (responseStep s v x r t (carriedBytes (RecoveryResponse v x r t) frame) (m .runs) (m .stored))
 
 -- on_message: a kind that the status doesn't look at is ignored
 unfoldable pub messageStep : Message → Replica → Latest → (frame : List ℕ) → Memory → Recorded

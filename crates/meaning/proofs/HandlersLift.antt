@@ -8,13 +8,12 @@ use mathlib.Core.Bool.{Bool, true, false, false≢true}
 use mathlib.Core.List.{List, []}
 use mathlib.Core.Option.{Option}
 use lib.Dec.{eqb}
-use lib.ListN.{length, drop}
+use lib.ListN.{length}
 use Rattle.numbers.specs.Words.{if_then_else_, _and_, _or_}
 use Rattle.numbers.specs.Numbers.{within, Bytes}
 use Rattle.numbers.specs.declared.View.{View}
 use Rattle.numbers.specs.declared.Op.{Op}
 use Rattle.numbers.proofs.WordLaws.{if-true, split, split₂}
-use Rattle.numbers.proofs.NumberLaws.{drop-bytes}
 use Rattle.entries.specs.Entries.{entries, entriesOk}
 use Rattle.entries.specs.Rising.{rising}
 use Rattle.entries.specs.declared.Entry.{Entry}
@@ -22,7 +21,7 @@ use Rattle.config.specs.declared.Setup.{Setup}
 use Rattle.clock.specs.Clock.{tickOf}
 use Rattle.clock.specs.declared.Ticked.{Ticked}
 use Rattle.clock.specs.declared.Duty.the-variants.{Follow, Change}
-use Rattle.frames.specs.Messages.{stateRow, carriedOf}
+use Rattle.frames.specs.Messages.{stateRow, carriedOf, carriedBytes}
 use Rattle.frames.specs.Refusals.{checkFrame}
 use Rattle.frames.specs.Looks.{changing, looksAt}
 use Rattle.frames.specs.declared.Status.{Status}
@@ -42,7 +41,7 @@ use Rattle.voting.specs.Tick.{nextView, nextViewAsking}
 use Rattle.recovery.specs.Recovery.{responseOf}
 use Rattle.handlers.specs.Handlers as H
 use Rattle.handlers.specs.Handlers.{preparedBy, partOf, handled, messageStep, normalTick, askTick, changingTick, idleStep}
-use Rattle.handlers.proofs.FrameLaws.{request-ok, prepare-ok, call-fit, new-state-fit, report-fit, report-ok, start-view-fit, start-view-ok, response-fit, response-ok}
+use Rattle.handlers.proofs.FrameLaws.{carried-in-bytes, request-ok, prepare-ok, call-fit, new-state-fit, report-fit, report-ok, start-view-fit, start-view-ok, response-fit, response-ok}
 use Rattle.meaning.specs.State.{Row, Held, State, Answer, ignored, opOf}
 use Rattle.meaning.specs.Sending.{primary, isPrimary, sendGetState}
 use Rattle.meaning.specs.Recovery.{onRecoveryResponse}
@@ -143,11 +142,11 @@ by-both false b x y z = refl
 -- ---- what a frame carries
 
 -- what a RecoveryResponse carries, as the handler reads it and as the model does
-held-same : (v : View) (t : RecoveryState) (frame : List ℕ)
-    → heldIn t (entries (responseOf v t .op .0) (drop 29 frame)) ≡ heldIn t (entries (stateSize t .entries) (drop (stateSize t .fields) frame))
+held-same : (v : View) (t : RecoveryState) (part : List ℕ)
+    → heldIn t (entries (responseOf v t .op .0) part) ≡ heldIn t (entries (stateSize t .entries) part)
 unfolding heldIn responseOf stateSize
-held-same v Absent frame = refl
-held-same v (Present o k) frame = refl
+held-same v Absent part = refl
+held-same v (Present o k) part = refl
 
 module _ (c : Given) (table : List Row) (applied : List Entry) (h : Fit c table) where
   abbrev m : State
@@ -239,7 +238,7 @@ module _ (c : Given) (table : List Row) (applied : List Entry) (h : Fit c table)
     unfolding handled onMessage carriedLog sizeOf
     on-new-state v a z k ok looks =
         let f = new-state-fit u frame v a z k ok in
-        new-state-shown c table applied v (partOf a z k) (drop 23 frame)
+        new-state-shown c table applied v (partOf a z k) (carriedBytes (NewState v a z k) frame)
         record {
           sound = sound;
           numbers = record { start-le = f .0; end-le = f .1 .0; commit-le = f .1 .1 .0 };
@@ -258,15 +257,15 @@ module _ (c : Given) (table : List Row) (applied : List Entry) (h : Fit c table)
     unfolding handled onMessage carriedLog sizeOf
     on-do-view-change v r l o k ok looks =
         let f = report-fit u frame v r l o k ok in
-        do-view-change-shown c table applied (changes looks) (h .stored) v r l o k (drop 24 frame)
+        do-view-change-shown c table applied (changes looks) (h .stored) v r l o k (carriedBytes (DoViewChange v r l o k) frame)
         (record { sender = f .0; op-le = f .1 .0; commit-le = f .1 .1 .0; long = f .1 .1 .1 })
-        (report-ok u frame v r l o k ok) (drop-bytes 24 frame bytes)
+        (report-ok u frame v r l o k ok) (carried-in-bytes (DoViewChange v r l o k) frame bytes)
 
     on-start-view : (v : View) (o k : Op) → Passes (StartView v o k) → Awake → Handles (StartView v o k)
     unfolding handled onMessage carriedLog sizeOf
     on-start-view v o k ok looks =
         let f = start-view-fit u frame v o k ok in
-        start-view-shown c table applied v o k (drop 19 frame)
+        start-view-shown c table applied v o k (carriedBytes (StartView v o k) frame)
         record {
           sound = sound;
           acks-long = h .gathering .acks-long;
@@ -276,7 +275,7 @@ module _ (c : Given) (table : List Row) (applied : List Entry) (h : Fit c table)
           log-ok = h .log-ok;
           log-bytes = h .log-bytes;
           part-ok = start-view-ok u frame v o k ok;
-          part-bytes = drop-bytes 19 frame bytes;
+          part-bytes = carried-in-bytes (StartView v o k) frame bytes;
           looks = looks;
         }
 
@@ -292,11 +291,11 @@ module _ (c : Given) (table : List Row) (applied : List Entry) (h : Fit c table)
         subst
         (λ (held : Option Held).
         Goal (handled (RecoveryResponse v x r t) (c .state) latest frame (memoryOf c)) (onRecoveryResponse u m (v .0) x r held))
-        (held-same v t frame)
-        (response-shown c table applied v x r t (drop 29 frame)
+        (held-same v t (carriedBytes (RecoveryResponse v x r t) frame))
+        (response-shown c table applied v x r t (carriedBytes (RecoveryResponse v x r t) frame)
         (record { sound = sound; reports = h .gathering .reports; stored-long = h .gathering .stored-long })
         (record { sender = f .0; op-le = f .1 .0; commit-le = f .1 .1 .0; long = f .1 .1 .1 })
-        recovering (h .totals) (h .stored) (h .log-ok) (h .log-bytes) (response-ok u frame v x r t ok) (drop-bytes 29 frame bytes))
+        recovering (h .totals) (h .stored) (h .log-ok) (h .log-bytes) (response-ok u frame v x r t ok) (carried-in-bytes (RecoveryResponse v x r t) frame bytes))
 
     -- each kind, where the status looks at it
     handles : (x : Message) → Passes x → RowTells table x latest → looksAt (c .state .status) (carriedOf x .kind) ≡ true → Handles x

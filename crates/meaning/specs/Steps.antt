@@ -16,8 +16,8 @@ use Rattle.config.specs.declared.Setup.{Setup}
 use Rattle.clock.specs.Clock.{freshClock, limitOf, waitedOf, stableTick, waitTick, tickOf}
 use Rattle.clock.specs.declared.Ticked.{Ticked}
 use Rattle.clock.specs.declared.Duty.the-variants.{Lead, Follow, Change}
-use Rattle.frames.specs.Kinds.{leastOf, roomOf, fieldsOk, countOf, headOk, bodyOk, wellFormed}
-use Rattle.frames.specs.Messages.{stateOf, messageOf, parseFrame, stateRow, carriedOf}
+use Rattle.frames.specs.Kinds.{roomOf, fieldsOk, countOf, headOk, bodyOk, wellFormed}
+use Rattle.frames.specs.Messages.{stateOf, messageOf, parseFrame, stateRow, carriedOf, carriedBytes}
 use Rattle.frames.specs.Refusals.{wholeLog, refusalOf, verdict, checkParsed, checkFrame}
 use Rattle.frames.specs.Looks.{changing, looksAt}
 use Rattle.frames.specs.declared.Status.{Status}
@@ -47,9 +47,9 @@ fitted a b (done m out rs) =
     if ltb b (length (repliesOut rs)) then refused 10 else
     done m out rs
 
--- the log that a frame carries: as many entries as its message says, from where its fields end
+-- the log that a frame carries: as many entries as its message says, of what follows its fields
 unfoldable pub carriedLog : Message → List ℕ → List Entry
-carriedLog x s = entries (sizeOf x .entries) (drop (sizeOf x .fields) s)
+carriedLog x s = entries (sizeOf x .entries) (carriedBytes x s)
 
 -- what a RecoveryResponse carries, with its log
 unfoldable pub heldIn : RecoveryState → List Entry → Option Held
@@ -171,7 +171,7 @@ module _ (u : Setup) where
 
 -- what a frame is read and checked by, and what the clock goes by
 unfoldable pub open-frames : Unit {0}
-unfolding num within cells operationOk entryOf entryOk entriesOk setupOk limitOf waitedOf stableTick waitTick tickOf leastOf roomOf fieldsOk countOf headOk bodyOk wellFormed stateOf messageOf parseFrame stateRow carriedOf wholeLog refusalOf verdict checkParsed checkFrame changing looksAt stateSize sizeOf
+unfolding num within cells operationOk entryOf entryOk entriesOk setupOk limitOf waitedOf stableTick waitTick tickOf roomOf fieldsOk countOf headOk bodyOk wellFormed stateOf messageOf parseFrame stateRow carriedOf carriedBytes wholeLog refusalOf verdict checkParsed checkFrame changing looksAt stateSize sizeOf
 open-frames = tt
 
 -- opens all of this file, and of those that it rests on: for a statement that antt computes

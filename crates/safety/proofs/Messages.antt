@@ -15,7 +15,7 @@ use Rattle.numbers.proofs.CellLaws.{cells-length}
 use Rattle.entries.specs.Entries.{entryOf, entries}
 use Rattle.config.specs.declared.Setup.{Setup}
 use Rattle.frames.specs.Kinds.{fieldsOk}
-use Rattle.frames.specs.Messages.{messageOf, stateRow, carriedOf}
+use Rattle.frames.specs.Messages.{messageOf, stateRow, carriedOf, carriedBytes}
 use Rattle.frames.specs.Refusals.{wholeLog, checkFrame}
 use Rattle.frames.specs.declared.RecoveryState.the-variants.{Absent, Present}
 use Rattle.frames.specs.declared.Message.{Message}
@@ -51,7 +51,7 @@ module _ (u : Setup) (m : State) (s : List ℕ) where
   many k a = cells-length 32 entryOf k (drop a s)
 
   message-good : (x : Message) → Fit u s x → Good u m (onMessage u m x (carriedLog x s))
-  unfolding onMessage carriedLog carriedOf stateRow sizeOf stateSize wholeLog heldIn
+  unfolding onMessage carriedLog carriedBytes carriedOf stateRow sizeOf stateSize wholeLog heldIn
   message-good (Request e) f = request-good u m e
   message-good (Prepare v o c e) f = prepare-good u m (v .0) (o .0) (c .0) e
   message-good (PrepareOk v o r) f = prepareOk-good u m (v .0) (o .0) r

@@ -30,7 +30,7 @@ use Rattle.frames.specs.declared.Message.the-variants.{Request, Prepare, Prepar
 use Rattle.frames.specs.declared.Checked.{Checked}
 use Rattle.frames.specs.declared.Checked.the-variants.{Passed, Refused}
 use Rattle.frames.proofs.RefusalLaws.{Fit, passed}
-use Rattle.writers.specs.Writers.{sizeOf}
+use Rattle.handlers.proofs.FrameLaws.{carried-in-bytes}
 use Rattle.meaning.specs.State.{Book, Held, Report, Response, State, Sent, Reply, Answer}
 use Rattle.meaning.specs.State.Answer.{refused, done}
 use Rattle.meaning.specs.State.{after, ignored, withBook, withStore, withVotes, withClock, withAcks, opOf}
@@ -417,7 +417,7 @@ module _ (u : Setup) (own : u .id < u .n) (m : State) where
   checked-fine s b (Passed x) e =
       let f : Fit u s x = passed u s x e in
       cases u own _ _ _ (λ _. ignored-fine u own)
-      (λ _. message-fine x _ (f .sender) (rw (f .said .message) (wire (num 1 5 s) s b)) (entries-fit _ _ (drop-bytes (sizeOf x .fields) s b)))
+      (λ _. message-fine x _ (f .sender) (rw (f .said .message) (wire (num 1 5 s) s b)) (entries-fit _ _ (carried-in-bytes x s b)))
 
   -- refusals 9 and 10
   fitted-fine : (a b : ℕ) (x : Answer) → Fine u m x → Fine u m (fitted a b x)

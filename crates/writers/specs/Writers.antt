@@ -8,6 +8,7 @@ use Rattle.numbers.specs.Numbers.{big}
 use Rattle.numbers.specs.declared.View.{View}
 use Rattle.numbers.specs.declared.Op.{Op}
 use Rattle.entries.specs.Entries.{encodeEntry}
+use Rattle.frames.specs.Kinds.{fieldsEnd, stateEnd}
 use Rattle.frames.specs.declared.RecoveryState.{RecoveryState}
 use Rattle.frames.specs.declared.RecoveryState.the-variants.{Absent, Present}
 use Rattle.frames.specs.declared.Message.{Message}
@@ -44,21 +45,21 @@ abbrev size : ℕ → ℕ → Size
 size k n = record { fields = k; entries = n }
 
 unfoldable pub stateSize : RecoveryState → Size
-stateSize Absent = size 21 0
-stateSize (Present o c) = size 29 (o .0)
+stateSize Absent = size (fieldsEnd 11) 0
+stateSize (Present o c) = size stateEnd (o .0)
 
--- by kind, the bytes before the carried log, the length's own four included, and how many entries it has
+-- by kind, the bytes before the carried log, and how many entries it has; the one entry of a Request or Prepare is no log, and counts as fields
 unfoldable pub sizeOf : Message → Size
-sizeOf (Request e) = size 39 0
-sizeOf (Prepare v o c e) = size 51 0
-sizeOf (PrepareOk v o r) = size 16 0
-sizeOf (Commit v c) = size 15 0
-sizeOf (GetState r v o) = size 16 0
-sizeOf (NewState v a z c) = size 23 (z .0 - a .0)
-sizeOf (StartViewChange v r) = size 12 0
-sizeOf (DoViewChange v r l o c) = size 24 (o .0)
-sizeOf (StartView v o c) = size 19 (o .0)
-sizeOf (Recovery r x v) = size 20 0
+sizeOf (Request e) = size (fieldsEnd 1 + 32) 0
+sizeOf (Prepare v o c e) = size (fieldsEnd 2 + 32) 0
+sizeOf (PrepareOk v o r) = size (fieldsEnd 3) 0
+sizeOf (Commit v c) = size (fieldsEnd 4) 0
+sizeOf (GetState r v o) = size (fieldsEnd 5) 0
+sizeOf (NewState v a z c) = size (fieldsEnd 6) (z .0 - a .0)
+sizeOf (StartViewChange v r) = size (fieldsEnd 7) 0
+sizeOf (DoViewChange v r l o c) = size (fieldsEnd 8) (o .0)
+sizeOf (StartView v o c) = size (fieldsEnd 9) (o .0)
+sizeOf (Recovery r x v) = size (fieldsEnd 10) 0
 sizeOf (RecoveryResponse v x r t) = stateSize t
 
 -- a frame's length

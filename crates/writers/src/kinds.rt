@@ -3,6 +3,7 @@ ghost use mathlib.Core.List.{[]};
 ghost use Prim.Native.Nat.{_+_, _-_, _*_, _≤_};
 ghost use lib.ListN.{length, take};
 ghost use Rattle.numbers.specs.Numbers.{Wrote};
+ghost use Rattle.frames.specs.Kinds.{fieldsEnd, stateEnd};
 ghost use Rattle.writers.specs.Writers.{encode};
 use crate::parts;
 use entries::Entry;
@@ -12,7 +13,7 @@ use numbers::Op;
 use numbers::View;
 
 pub fn prepare(area: &mut [u8], to: u8, v: View, o: Op, c: Op, e: Entry) -> usize
-    requires { ⌜ 51 ≤ length (now area) ⌝ }
+    requires { ⌜ fieldsEnd 2 + 32 ≤ length (now area) ⌝ }
     ensures { λ k. ⌜ Wrote (encode to (Message.Prepare v o c e) []) (now (area .entry)) (now (area .exit)) k ⌝ }
 {
     parts::write_viewed(area, 47, 2, to, v);
@@ -23,7 +24,7 @@ pub fn prepare(area: &mut [u8], to: u8, v: View, o: Op, c: Op, e: Entry) -> usiz
 }
 
 pub fn prepare_ok(area: &mut [u8], to: u8, v: View, o: Op, r: u8) -> usize
-    requires { ⌜ 16 ≤ length (now area) ⌝ }
+    requires { ⌜ fieldsEnd 3 ≤ length (now area) ⌝ }
     ensures { λ k. ⌜ Wrote (encode to (Message.PrepareOk v o r) []) (now (area .entry)) (now (area .exit)) k ⌝ }
 {
     parts::write_viewed(area, 12, 3, to, v);
@@ -33,7 +34,7 @@ pub fn prepare_ok(area: &mut [u8], to: u8, v: View, o: Op, r: u8) -> usize
 }
 
 pub fn commit(area: &mut [u8], to: u8, v: View, c: Op) -> usize
-    requires { ⌜ 15 ≤ length (now area) ⌝ }
+    requires { ⌜ fieldsEnd 4 ≤ length (now area) ⌝ }
     ensures { λ k. ⌜ Wrote (encode to (Message.Commit v c) []) (now (area .entry)) (now (area .exit)) k ⌝ }
 {
     parts::write_viewed(area, 11, 4, to, v);
@@ -42,7 +43,7 @@ pub fn commit(area: &mut [u8], to: u8, v: View, c: Op) -> usize
 }
 
 pub fn get_state(area: &mut [u8], to: u8, r: u8, v: View, o: Op) -> usize
-    requires { ⌜ 16 ≤ length (now area) ⌝ }
+    requires { ⌜ fieldsEnd 5 ≤ length (now area) ⌝ }
     ensures { λ k. ⌜ Wrote (encode to (Message.GetState r v o) []) (now (area .entry)) (now (area .exit)) k ⌝ }
 {
     parts::write_header(area, 12, 5, to);
@@ -54,7 +55,7 @@ pub fn get_state(area: &mut [u8], to: u8, r: u8, v: View, o: Op) -> usize
 
 // The entries after op number a, up to z; `log` begins with them.
 pub fn new_state(area: &mut [u8], to: u8, v: View, a: Op, z: Op, c: Op, log: &[u8]) -> usize
-    requires { ⌜ (z .0 - a .0 ≤ 4096) × ((32 * (z .0 - a .0) ≤ length (now log)) × (23 + 32 * (z .0 - a .0) ≤ length (now area))) ⌝ }
+    requires { ⌜ (z .0 - a .0 ≤ 4096) × ((32 * (z .0 - a .0) ≤ length (now log)) × (fieldsEnd 6 + 32 * (z .0 - a .0) ≤ length (now area))) ⌝ }
     ensures { λ k. ⌜ Wrote (encode to (Message.NewState v a z c) (take (32 * (z .0 - a .0)) (now (log .entry)))) (now (area .entry)) (now (area .exit)) k ⌝ }
 {
     let k = crate::span(a, z);
@@ -66,7 +67,7 @@ pub fn new_state(area: &mut [u8], to: u8, v: View, a: Op, z: Op, c: Op, log: &[u
 }
 
 pub fn start_view_change(area: &mut [u8], to: u8, v: View, r: u8) -> usize
-    requires { ⌜ 12 ≤ length (now area) ⌝ }
+    requires { ⌜ fieldsEnd 7 ≤ length (now area) ⌝ }
     ensures { λ k. ⌜ Wrote (encode to (Message.StartViewChange v r) []) (now (area .entry)) (now (area .exit)) k ⌝ }
 {
     parts::write_viewed(area, 8, 7, to, v);
@@ -84,7 +85,7 @@ pub fn do_view_change(
     c: Op,
     log: &[u8],
 ) -> usize
-    requires { ⌜ (o .0 ≤ 4096) × ((32 * o .0 ≤ length (now log)) × (24 + 32 * o .0 ≤ length (now area))) ⌝ }
+    requires { ⌜ (o .0 ≤ 4096) × ((32 * o .0 ≤ length (now log)) × (fieldsEnd 8 + 32 * o .0 ≤ length (now area))) ⌝ }
     ensures { λ k. ⌜ Wrote (encode to (Message.DoViewChange v r l o c) (take (32 * o .0) (now (log .entry)))) (now (area .entry)) (now (area .exit)) k ⌝ }
 {
     let n = 32 * (o.0 as usize);
@@ -96,7 +97,7 @@ pub fn do_view_change(
 }
 
 pub fn start_view(area: &mut [u8], to: u8, v: View, o: Op, c: Op, log: &[u8]) -> usize
-    requires { ⌜ (o .0 ≤ 4096) × ((32 * o .0 ≤ length (now log)) × (19 + 32 * o .0 ≤ length (now area))) ⌝ }
+    requires { ⌜ (o .0 ≤ 4096) × ((32 * o .0 ≤ length (now log)) × (fieldsEnd 9 + 32 * o .0 ≤ length (now area))) ⌝ }
     ensures { λ k. ⌜ Wrote (encode to (Message.StartView v o c) (take (32 * o .0) (now (log .entry)))) (now (area .entry)) (now (area .exit)) k ⌝ }
 {
     let n = 32 * (o.0 as usize);
@@ -108,7 +109,7 @@ pub fn start_view(area: &mut [u8], to: u8, v: View, o: Op, c: Op, log: &[u8]) ->
 }
 
 pub fn recovery(area: &mut [u8], to: u8, r: u8, x: u64, v: View) -> usize
-    requires { ⌜ 20 ≤ length (now area) ⌝ }
+    requires { ⌜ fieldsEnd 10 ≤ length (now area) ⌝ }
     ensures { λ k. ⌜ Wrote (encode to (Message.Recovery r x v) []) (now (area .entry)) (now (area .exit)) k ⌝ }
 {
     parts::write_header(area, 16, 10, to);
@@ -120,7 +121,7 @@ pub fn recovery(area: &mut [u8], to: u8, r: u8, x: u64, v: View) -> usize
 
 // A RecoveryResponse of a replica that does not lead.
 pub fn response_bare(area: &mut [u8], to: u8, v: View, x: u64, r: u8) -> usize
-    requires { ⌜ 21 ≤ length (now area) ⌝ }
+    requires { ⌜ fieldsEnd 11 ≤ length (now area) ⌝ }
     ensures { λ k. ⌜ Wrote (encode to (Message.RecoveryResponse v x r RecoveryState.Absent) []) (now (area .entry)) (now (area .exit)) k ⌝ }
 {
     parts::write_response(area, 17, to, v, x, r, 0);
@@ -138,7 +139,7 @@ pub fn response_full(
     c: Op,
     log: &[u8],
 ) -> usize
-    requires { ⌜ (o .0 ≤ 4096) × ((32 * o .0 ≤ length (now log)) × (29 + 32 * o .0 ≤ length (now area))) ⌝ }
+    requires { ⌜ (o .0 ≤ 4096) × ((32 * o .0 ≤ length (now log)) × (stateEnd + 32 * o .0 ≤ length (now area))) ⌝ }
     ensures { λ k. ⌜ Wrote (encode to (Message.RecoveryResponse v x r (RecoveryState.Present o c)) (take (32 * o .0) (now (log .entry)))) (now (area .entry)) (now (area .exit)) k ⌝ }
 {
     let n = 32 * (o.0 as usize);

@@ -6,6 +6,7 @@ ghost use Rattle.numbers.specs.Numbers.{Wrote};
 ghost use mathlib.Core.List.{[]};
 ghost use lib.Dec.{eqb};
 ghost use Rattle.numbers.specs.Words.{if_then_else_};
+ghost use Rattle.frames.specs.Kinds.{fieldsEnd};
 ghost use Rattle.writers.specs.Writers.{encode, reply, stateSize, sizeOf, lengthOf, Room, toOthers};
 use entries::Entry;
 use frames::Message;
@@ -24,7 +25,7 @@ pub struct Size {
 
 // A Request to replica `to`.
 pub fn write_request(area: &mut [u8], to: u8, e: Entry) -> usize
-    requires { ⌜ 39 ≤ length (now area) ⌝ }
+    requires { ⌜ fieldsEnd 1 + 32 ≤ length (now area) ⌝ }
     ensures { λ k. ⌜ Wrote (encode to (Message.Request e) []) (now (area .entry)) (now (area .exit)) k ⌝ }
 {
     parts::write_header(area, 35, 1, to);

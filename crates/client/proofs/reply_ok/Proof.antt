@@ -20,15 +20,15 @@ returns-3 c = rw (eq-eqb _ _ (c .before .before .before .before .if1 .left), ←
 
 returns-4 : tie.Need-returns-4
 unfolding replyOk _and_
-returns-4 c = rw (eq-eqb _ _ (c .before .before .before .before .before .before .if1 .left), ← c .before .before .before .before .before .read-u32 .ensures, eq-eqb _ _ (c .before .before .before .before .if2 .left), ← c .before .before .before .read-u8 .ensures, eq-eqb _ _ (c .before .before .if3 .left), ← c .before .read-u82 .ensures, ne-eqb _ _ (c .if4 .taken))
+returns-4 c = rw (eq-eqb _ _ (c .before .before .before .before .before .before .if1 .left), ← c .before .before .before .before .before .read-u32 .ensures, eq-eqb _ _ (c .before .before .before .before .if2 .left), ← c .before .before .before .read-u8 .ensures, eq-eqb _ _ (c .before .before .if3 .left), ← c .before .kind-of .ensures, ne-eqb _ _ (c .if4 .taken))
 
 returns-5 : tie.Need-returns-5
 unfolding replyOk _and_
-returns-5 c = rw (eq-eqb _ _ (c .before .before .before .before .before .before .before .before .if1 .left), ← c .before .before .before .before .before .before .before .read-u32 .ensures, eq-eqb _ _ (c .before .before .before .before .before .before .if2 .left), ← c .before .before .before .before .before .read-u8 .ensures, eq-eqb _ _ (c .before .before .before .before .if3 .left), ← c .before .before .before .read-u82 .ensures, eq-eqb _ _ (c .before .before .if4 .left), ← c .before .read-u83 .ensures, ne-eqb _ _ (c .if5 .taken))
+returns-5 c = rw (eq-eqb _ _ (c .before .before .before .before .before .before .before .before .if1 .left), ← c .before .before .before .before .before .before .before .read-u32 .ensures, eq-eqb _ _ (c .before .before .before .before .before .before .if2 .left), ← c .before .before .before .before .before .read-u8 .ensures, eq-eqb _ _ (c .before .before .before .before .if3 .left), ← c .before .before .before .kind-of .ensures, eq-eqb _ _ (c .before .before .if4 .left), ← c .before .read-u82 .ensures, ne-eqb _ _ (c .if5 .taken))
 
 returns-6 : tie.Need-returns-6
 unfolding replyOk _and_
-returns-6 c = rw (eq-eqb _ _ (c .before .before .before .before .before .before .before .before .before .before .if1 .left), ← c .before .before .before .before .before .before .before .before .before .read-u32 .ensures, eq-eqb _ _ (c .before .before .before .before .before .before .before .before .if2 .left), ← c .before .before .before .before .before .before .before .read-u8 .ensures, eq-eqb _ _ (c .before .before .before .before .before .before .if3 .left), ← c .before .before .before .before .before .read-u82 .ensures, eq-eqb _ _ (c .before .before .before .before .if4 .left), ← c .before .before .before .read-u83 .ensures, eq-eqb _ _ (c .before .before .if5 .left), ← c .before .read-u84 .ensures) (c .within .ensures)
+returns-6 c = rw (eq-eqb _ _ (c .before .before .before .before .before .before .before .before .before .before .if1 .left), ← c .before .before .before .before .before .before .before .before .before .read-u32 .ensures, eq-eqb _ _ (c .before .before .before .before .before .before .before .before .if2 .left), ← c .before .before .before .before .before .before .before .read-u8 .ensures, eq-eqb _ _ (c .before .before .before .before .before .before .if3 .left), ← c .before .before .before .before .before .kind-of .ensures, eq-eqb _ _ (c .before .before .before .before .if4 .left), ← c .before .before .before .read-u82 .ensures, eq-eqb _ _ (c .before .before .if5 .left), ← c .before .read-u83 .ensures) (c .within .ensures)
 
 pub reply-ok-spec : {M : Type 1} → statement M
 reply-ok-spec =

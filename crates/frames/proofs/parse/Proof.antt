@@ -21,19 +21,19 @@ returns c = rw (← c .before .well-formed .ensures, not-true (c .before .well-f
 read-u8-requires : tie.Need-read-u8-requires
 read-u8-requires c κs = omega (arith, facts c .long)
 
-read-u8-requires-2 : tie.Need-read-u8-requires-2
-read-u8-requires-2 c κs = omega (arith, facts (c .before) .long)
+kind-of-requires : tie.Need-kind-of-requires
+kind-of-requires c κs = omega (arith, facts (c .before) .long)
 
 said-requires : tie.Need-said-requires
 said-requires c κs =
     let f = facts (c .before .before) in
-    rw (c .read-u82 .ensures) (f .low, (f .high, omega (arith, f .exact)))
+    rw (c .kind-of .ensures) (f .low, (f .high, omega (arith, f .exact)))
 
 returns-2 : tie.Need-returns-2
 unfolding parseFrame if_then_else_
 returns-2 c =
     let h = c .before .before .before .before .well-formed in
-    rw (← h .ensures, not-false (h .result) (c .before .before .before .if1 .left), ← c .before .before .read-u8 .ensures, ← c .before .read-u82 .ensures, ← c .said .ensures)
+    rw (← h .ensures, not-false (h .result) (c .before .before .before .if1 .left), ← c .before .before .read-u8 .ensures, ← c .before .kind-of .ensures, ← c .said .ensures)
 
 pub parse-spec : {M : Type 1} → statement M
 parse-spec =
@@ -42,6 +42,6 @@ parse-spec =
     (λ c κs. search needs)
     returns
     read-u8-requires
-    read-u8-requires-2
+    kind-of-requires
     said-requires
     returns-2)

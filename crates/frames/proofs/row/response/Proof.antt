@@ -10,7 +10,7 @@ returns c = rw (c .before .enum-told .given .1) (c .row .ensures)
 
 returns-2 : tie.Need-returns-2
 unfolding stateRow
-returns-2 c = rw (c .before .before .state .given .1) (c .row2 .ensures)
+returns-2 c = rw (c .before .state .given .1)
 
 pub response-spec : {M : Type 1} → statement M
 response-spec =
@@ -18,6 +18,5 @@ response-spec =
     (λ c. search needs)
     (λ c κs. search needs)
     (λ c. search needs)
-    (λ c κs. search needs)
     returns
     returns-2)

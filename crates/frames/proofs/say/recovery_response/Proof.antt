@@ -1,21 +1,17 @@
 -- `frames::say::recovery_response` meets its contract. Assumes nothing.
 use native.Mathlib.Omega.{arith}
-use Rattle.frames.specs.Kinds.{leastOf}
 use Rattle.frames.proofs.KindLaws.{least-room}
 use borrow.Author.Needs.{needs}
 use Rattle.frames.proofs.say.recovery_response.Statement.{statement}
 use Rattle.frames.proofs.say.recovery_response.Tie as tie
 
 read-view-requires : tie.Need-read-view-requires
-unfolding leastOf
 read-view-requires c κs = omega (arith, least-room 11 (c .before .args .frame .now))
 
 read-u64-requires : tie.Need-read-u64-requires
-unfolding leastOf
 read-u64-requires c κs = omega (arith, least-room 11 (c .before .before .args .frame .now))
 
 read-u8-requires : tie.Need-read-u8-requires
-unfolding leastOf
 read-u8-requires c κs = omega (arith, least-room 11 (c .before .before .before .args .frame .now))
 
 pub recovery-response-spec : {M : Type 1} → statement M

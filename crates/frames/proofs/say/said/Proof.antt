@@ -2,7 +2,7 @@
 use mathlib.Core.Path.{_≡_}
 use native.Mathlib.Omega.{arith}
 use Rattle.numbers.specs.Words.{if_then_else_}
-use Rattle.frames.specs.Kinds.{leastOf, roomOf, countOf}
+use Rattle.frames.specs.Kinds.{roomOf, countOf}
 use Rattle.frames.specs.Messages.{messageOf}
 use Rattle.frames.proofs.KindLaws.{last-kind}
 use Rattle.frames.proofs.say.said.Statement.{statement}
@@ -17,43 +17,43 @@ last c =
     (r .0 .0 .0 .0 .0 .0 .0 .0 .0 .1) (r .0 .0 .0 .0 .0 .0 .0 .0 .1) (r .0 .0 .0 .0 .0 .0 .0 .1) (r .0 .0 .0 .0 .0 .0 .1) (r .0 .0 .0 .0 .0 .1) (r .0 .0 .0 .0 .1) (r .0 .0 .0 .1) (r .0 .0 .1) (r .0 .1) (r .1)
 
 request-requires : tie.Need-request-requires
-unfolding roomOf leastOf countOf if_then_else_
+unfolding roomOf countOf if_then_else_
 request-requires c κs = omega (arith, rw (c .match .keys1) at (c .before .before .pre .1 .1))
 
 prepare-requires : tie.Need-prepare-requires
-unfolding roomOf leastOf countOf if_then_else_
+unfolding roomOf countOf if_then_else_
 prepare-requires c κs = omega (arith, rw (c .match .keys2) at (c .before .before .pre .1 .1))
 
 prepare-ok-requires : tie.Need-prepare-ok-requires
-unfolding roomOf leastOf countOf if_then_else_
+unfolding roomOf countOf if_then_else_
 prepare-ok-requires c κs = omega (arith, rw (c .match .keys3) at (c .before .before .pre .1 .1))
 
 commit-requires : tie.Need-commit-requires
-unfolding roomOf leastOf countOf if_then_else_
+unfolding roomOf countOf if_then_else_
 commit-requires c κs = omega (arith, rw (c .match .keys4) at (c .before .before .pre .1 .1))
 
 get-state-requires : tie.Need-get-state-requires
-unfolding roomOf leastOf countOf if_then_else_
+unfolding roomOf countOf if_then_else_
 get-state-requires c κs = omega (arith, rw (c .match .keys5) at (c .before .before .pre .1 .1))
 
 new-state-requires : tie.Need-new-state-requires
-unfolding roomOf leastOf countOf if_then_else_
+unfolding roomOf countOf if_then_else_
 new-state-requires c κs = omega (arith, rw (c .match .keys6) at (c .before .before .pre .1 .1))
 
 start-view-change-requires : tie.Need-start-view-change-requires
-unfolding roomOf leastOf countOf if_then_else_
+unfolding roomOf countOf if_then_else_
 start-view-change-requires c κs = omega (arith, rw (c .match .keys7) at (c .before .before .pre .1 .1))
 
 do-view-change-requires : tie.Need-do-view-change-requires
-unfolding roomOf leastOf countOf if_then_else_
+unfolding roomOf countOf if_then_else_
 do-view-change-requires c κs = omega (arith, rw (c .match .keys8) at (c .before .before .pre .1 .1))
 
 start-view-requires : tie.Need-start-view-requires
-unfolding roomOf leastOf countOf if_then_else_
+unfolding roomOf countOf if_then_else_
 start-view-requires c κs = omega (arith, rw (c .match .keys9) at (c .before .before .pre .1 .1))
 
 recovery-requires : tie.Need-recovery-requires
-unfolding roomOf leastOf countOf if_then_else_
+unfolding roomOf countOf if_then_else_
 recovery-requires c κs = omega (arith, rw (c .match .keys10) at (c .before .before .pre .1 .1))
 
 recovery-response-requires : tie.Need-recovery-response-requires

@@ -2,14 +2,13 @@
 use native.Mathlib.Omega.{arith}
 use borrow.Author.Tests.{eq-eqb, ne-eqb}
 use Rattle.numbers.specs.Words.{if_then_else_}
-use Rattle.frames.specs.Kinds.{leastOf, roomOf}
+use Rattle.frames.specs.Kinds.{roomOf}
 use Rattle.frames.specs.Messages.{stateOf}
 use Rattle.frames.proofs.KindLaws.{least-room}
 use Rattle.frames.proofs.say.state.Statement.{statement}
 use Rattle.frames.proofs.say.state.Tie as tie
 
 read-u8-requires : tie.Need-read-u8-requires
-unfolding leastOf
 read-u8-requires c κs = omega (arith, least-room 11 (c .before .args .frame .now))
 
 read-op-requires : tie.Need-read-op-requires

@@ -35,8 +35,8 @@ returns : tie.Need-returns
 unfolding bodyOk _and_
 returns c = rw (← c .before .within .ensures, not-true (c .before .within .result) (c .if1 .taken))
 
-least-requires : tie.Need-least-requires
-least-requires c κs = within-both _ _ _ (kind-ok c) .1
+fields-end-requires : tie.Need-fields-end-requires
+fields-end-requires c κs = within-both _ _ _ (kind-ok c) .1
 
 returns-2 : tie.Need-returns-2
 unfolding bodyOk _and_
@@ -54,7 +54,7 @@ unfolding bodyOk _and_
 returns-3 c = rw (kind-ok (c .before .before .before .before), ← c .before .fields-ok .ensures, not-true (c .before .fields-ok .result) (c .if3 .taken))
 
 room-requires : tie.Need-room-requires
-room-requires c κs = (within-both _ _ _ (kind-ok (c .before .before .before .before)) .1, rw (← c .before .before .before .least .ensures) (c .before .before .if2 .left))
+room-requires c κs = (within-both _ _ _ (kind-ok (c .before .before .before .before)) .1, rw (← c .before .before .before .fields-end .ensures) (c .before .before .if2 .left))
 
 returns-4 : tie.Need-returns-4
 unfolding _and_
@@ -80,7 +80,7 @@ body-ok-spec =
     (tie.spec
     (λ c κs. search needs)
     returns
-    least-requires
+    fields-end-requires
     returns-2
     (λ c κs. search needs)
     returns-3

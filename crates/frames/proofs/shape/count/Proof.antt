@@ -2,25 +2,25 @@
 use native.Mathlib.Omega.{arith}
 use borrow.Author.Tests.{eq-eqb, ne-eqb, leb-true}
 use Rattle.numbers.specs.Words.{if_then_else_}
-use Rattle.frames.specs.Kinds.{leastOf, roomOf, fieldsOk, countOf}
+use Rattle.frames.specs.Kinds.{roomOf, fieldsOk, countOf}
 use Rattle.frames.proofs.KindLaws.{least-room}
 use Rattle.frames.proofs.shape.count.Statement.{statement}
 use Rattle.frames.proofs.shape.count.Tie as tie
 
 count-new-state-requires : tie.Need-count-new-state-requires
-unfolding roomOf leastOf fieldsOk if_then_else_
+unfolding roomOf fieldsOk if_then_else_
 count-new-state-requires c κs = (omega (arith, rw (c .match .keys3) at (c .before .before .pre .0)), leb-true _ _ (rw (c .match .keys3) at (c .before .before .pre .1)))
 
 read-u32-requires : tie.Need-read-u32-requires
-unfolding roomOf leastOf if_then_else_
+unfolding roomOf if_then_else_
 read-u32-requires c κs = omega (arith, rw (c .match .keys4) at (c .before .before .pre .0))
 
 read-u32-requires-2 : tie.Need-read-u32-requires-2
-unfolding roomOf leastOf if_then_else_
+unfolding roomOf if_then_else_
 read-u32-requires-2 c κs = omega (arith, rw (c .match .keys5) at (c .before .before .pre .0))
 
 count-response-requires : tie.Need-count-response-requires
-unfolding roomOf leastOf if_then_else_
+unfolding roomOf if_then_else_
 count-response-requires c κs =
     let a = c .before .before .args in
     let p = rw (c .match .keys6) at (c .before .before .pre .0) in

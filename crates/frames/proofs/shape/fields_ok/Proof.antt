@@ -2,20 +2,17 @@
 use native.Mathlib.Omega.{arith}
 use borrow.Author.Tests.{ne-eqb}
 use Rattle.numbers.specs.Words.{if_then_else_}
-use Rattle.frames.specs.Kinds.{leastOf, fieldsOk}
+use Rattle.frames.specs.Kinds.{fieldsOk}
 use Rattle.frames.proofs.shape.fields_ok.Statement.{statement}
 use Rattle.frames.proofs.shape.fields_ok.Tie as tie
 
 read-u32-requires : tie.Need-read-u32-requires
-unfolding leastOf
 read-u32-requires c κs = omega (arith, rw (c .match .keys1) at (c .before .before .pre))
 
 read-u32-requires-2 : tie.Need-read-u32-requires-2
-unfolding leastOf
 read-u32-requires-2 c κs = omega (arith, rw (c .before .match .keys1) at (c .before .before .before .pre))
 
 read-u8-requires : tie.Need-read-u8-requires
-unfolding leastOf
 read-u8-requires c κs = omega (arith, rw (c .match .keys2) at (c .before .before .pre))
 
 returns : tie.Need-returns

@@ -13,8 +13,8 @@ returns : tie.Need-returns
 unfolding wellFormed _and_
 returns c = rw (← c .before .head-ok .ensures, not-true (c .before .head-ok .result) (c .if1 .taken))
 
-read-u8-requires : tie.Need-read-u8-requires
-read-u8-requires c κs =
+kind-of-requires : tie.Need-kind-of-requires
+kind-of-requires c κs =
     let h = c .before .head-ok in
     omega (arith, head-long (c .before .before .before .args .frame .now) (sym (h .ensures) ∙ not-false (h .result) (c .if1 .left)))
 
@@ -22,13 +22,13 @@ returns-2 : tie.Need-returns-2
 unfolding wellFormed _and_
 returns-2 c =
     let h = c .before .before .before .head-ok in
-    rw (← h .ensures, not-false (h .result) (c .before .before .if1 .left), ← c .before .read-u8 .ensures) (c .body-ok .ensures)
+    rw (← h .ensures, not-false (h .result) (c .before .before .if1 .left), ← c .before .kind-of .ensures) (c .body-ok .ensures)
 
 pub well-formed-spec : {M : Type 1} → statement M
 well-formed-spec =
     tie.close (tie.spec
     (λ c κs. search needs)
     returns
-    read-u8-requires
+    kind-of-requires
     (λ c κs. search needs)
     returns-2)
