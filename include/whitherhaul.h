@@ -1,10 +1,12 @@
 /*
  * Whitherhaul: a replicated ledger of club fees (Viewstamped Replication), for owners in C.
  *
- * Every function returns document 01's number: 0 where it is done, else a refusal (WHITHERHAUL_REFUSED_..). A refused call
- * leaves every lent byte as it was and writes counts of 0. No call keeps a pointer, allocates memory, blocks or ends the
+ * Every function returns document 01's number: 0 where it is done, else a refusal (WHITHERHAUL_REFUSED_..). What it answers
+ * besides goes to one struct of numbers, to which the last argument points; a creation has none. A refused call leaves every
+ * byte of the lent runs as it was and writes zeros to the struct. No call keeps a pointer, allocates memory, blocks or ends the
  * program, whatever the bytes: what a caller owes is only that each pointer points to as many bytes as the length behind it
- * says, that no two runs of a call share a byte, and that every pointer is valid also for a length of 0 (never NULL).
+ * says, that neither two runs of a call nor a run and the struct share a byte, and that every pointer is valid also for a
+ * length of 0 (never NULL).
  *
  * A run is a pointer, then its length. Runs marked const are only read. The runs of a replica are its owner's memory: he
  * hands the same ones to each call and doesn't change them between calls. Their lengths follow from n (replicas), L (room of
@@ -111,6 +113,37 @@ extern "C" {
 #define WHITHERHAUL_OUTCOME_PAST_LIMIT 5    /* the total would pass 1,000,000,000 */
 #define WHITHERHAUL_OUTCOME_PAST_TOTAL 6    /* the refund exceeds the total */
 
+/* Bytes of `out` and of `reps` that a replica's call gave to send. */
+struct whitherhaul_counts {
+    uint64_t messages;
+    uint64_t replies;
+};
+
+/* What a client's request answers: its number, and how many bytes of the area are its frame. */
+struct whitherhaul_requested {
+    uint64_t number;
+    uint64_t written;
+};
+
+/* Whether a reply answers the request that waits, 1 or 0. */
+struct whitherhaul_replied {
+    uint64_t done;
+};
+
+/* How many bytes of the area are frames of the request that waits. */
+struct whitherhaul_idled {
+    uint64_t written;
+};
+
+/* What a Reply says. */
+struct whitherhaul_said {
+    uint64_t view;
+    uint64_t client;
+    uint64_t request;
+    uint64_t outcome;                       /* WHITHERHAUL_OUTCOME_FEE .. */
+    uint64_t total;
+};
+
 /*
  * A replica for the first time: Normal, in view 0, with an empty log. Totals, acks and table are zeroed, the state is written;
  * log, results, stored and old stay as they were. 0 or 1.
@@ -127,7 +160,7 @@ uint8_t whitherhaul_create(uint8_t n, uint8_t id, uint16_t timeout, uint32_t roo
 
 /*
  * A replica that lost its memory in a crash: Recovering, in the view that its owner kept, with a nonce that it never used
- * before. It asks all others: Recovery frames, *messages bytes of `out`, which takes 20 (n-1). 0, 1 or 9.
+ * before. It asks all others by Recovery frames, 20 (n-1) bytes of `out`; there are no replies. 0, 1 or 9.
  */
 uint8_t whitherhaul_recover(uint8_t n, uint8_t id, uint16_t timeout, uint32_t room, uint32_t members,
                             uint32_t view, uint64_t nonce,
@@ -140,12 +173,9 @@ uint8_t whitherhaul_recover(uint8_t n, uint8_t id, uint16_t timeout, uint32_t ro
                             uint8_t *table, size_t table_length,
                             const uint8_t *old, size_t old_length,
                             uint8_t *out, size_t out_length,
-                            size_t *messages);
+                            struct whitherhaul_counts *counts);
 
-/*
- * A frame has arrived, with its 4-byte length. What it gave to send: *messages bytes of `out`, *replies bytes of `reps`.
- * 0 to 10.
- */
+/* A frame has arrived, with its 4-byte length. 0 to 10. */
 uint8_t whitherhaul_on_message(uint8_t *state, size_t state_length,
                                const uint8_t *frame, size_t frame_length,
                                uint8_t *log, size_t log_length,
@@ -157,7 +187,7 @@ uint8_t whitherhaul_on_message(uint8_t *state, size_t state_length,
                                uint8_t *old, size_t old_length,
                                uint8_t *out, size_t out_length,
                                uint8_t *reps, size_t reps_length,
-                               size_t *messages, size_t *replies);
+                               struct whitherhaul_counts *counts);
 
 /* Time has passed: a tick, to be called at a regular interval. Answers as whitherhaul_on_message. */
 uint8_t whitherhaul_on_idle(uint8_t *state, size_t state_length,
@@ -170,33 +200,27 @@ uint8_t whitherhaul_on_idle(uint8_t *state, size_t state_length,
                             uint8_t *old, size_t old_length,
                             uint8_t *out, size_t out_length,
                             uint8_t *reps, size_t reps_length,
-                            size_t *messages, size_t *replies);
+                            struct whitherhaul_counts *counts);
 
 /* A new client of n replicas. Its id must be its own for ever. 0 or 1. */
 uint8_t whitherhaul_client_create(uint8_t n, uint64_t id, uint8_t *record, size_t record_length);
 
-/*
- * A request, in place of one that waits: *number is its number, and *written bytes of the area (39) are the frame for the
- * primary. Member is any number. 0, 1, 2, 9 or 11.
- */
+/* A request, in place of one that waits: its frame (39 bytes) is for the primary. Member is any number. 0, 1, 2, 9 or 11. */
 uint8_t whitherhaul_client_request(uint8_t *record, size_t record_length,
                                    uint8_t operation, uint32_t member, uint64_t cents,
                                    uint8_t *area, size_t area_length,
-                                   uint64_t *number, size_t *written);
+                                   struct whitherhaul_requested *answers);
 
-/*
- * A reply came for this request number, of this view: *done becomes 1 where it answers the request that waits, else 0. The record
- * follows the view also where it doesn't. 0 or 1.
- */
-uint8_t whitherhaul_client_reply(uint8_t *record, size_t record_length, uint64_t number, uint32_t view, uint8_t *done);
+/* A reply came for this request number, of this view. The record follows the view also where it isn't awaited. 0 or 1. */
+uint8_t whitherhaul_client_reply(uint8_t *record, size_t record_length, uint64_t number, uint32_t view,
+                                 struct whitherhaul_replied *answers);
 
 /* No reply came for a while: the request that waits, for every replica (39 n bytes); none where nothing waits. 0, 1 or 9. */
 uint8_t whitherhaul_client_idle(const uint8_t *record, size_t record_length,
-                                uint8_t *area, size_t area_length, size_t *written);
+                                uint8_t *area, size_t area_length, struct whitherhaul_idled *answers);
 
-/* What a Reply says. 0, or 2 where the bytes are no well-formed one, and then all five are 0. */
-uint8_t whitherhaul_read_reply(const uint8_t *frame, size_t frame_length,
-                               uint32_t *view, uint64_t *client, uint64_t *request, uint8_t *outcome, uint64_t *total);
+/* A Reply, read. 0, or 2 where the bytes are no well-formed one. */
+uint8_t whitherhaul_read_reply(const uint8_t *frame, size_t frame_length, struct whitherhaul_said *answers);
 
 #ifdef __cplusplus
 }

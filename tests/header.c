@@ -21,8 +21,7 @@ struct replica {
     uint8_t old[WHITHERHAUL_OLD_BYTES(ROOM)];
     uint8_t out[WHITHERHAUL_OUT_BYTES(ROOM, N)];
     uint8_t reps[WHITHERHAUL_REPS_BYTES(ROOM)];
-    size_t messages;
-    size_t replies;
+    struct whitherhaul_counts counts;
 };
 
 static int failures;
@@ -52,13 +51,12 @@ static uint8_t create(struct replica *r, uint8_t n, uint8_t id)
 
 static uint8_t idle(struct replica *r, size_t out_length)
 {
-    return whitherhaul_on_idle(RUN(r, state), RUNS(r), r->out, out_length, RUN(r, reps), &r->messages, &r->replies);
+    return whitherhaul_on_idle(RUN(r, state), RUNS(r), r->out, out_length, RUN(r, reps), &r->counts);
 }
 
 static uint8_t message(struct replica *r, const uint8_t *frame, size_t length)
 {
-    return whitherhaul_on_message(RUN(r, state), frame, length, RUNS(r), RUN(r, out), RUN(r, reps), &r->messages,
-                                  &r->replies);
+    return whitherhaul_on_message(RUN(r, state), frame, length, RUNS(r), RUN(r, out), RUN(r, reps), &r->counts);
 }
 
 /* Two Commits of a fresh primary. */
@@ -84,23 +82,24 @@ static void marked_examples(void)
     expect(r.state[WHITHERHAUL_STATE_STATUS_AT] == WHITHERHAUL_NORMAL, "a fresh replica is Normal");
     expect(r.log[0] == 0xA5 && r.totals[0] == 0, "creation zeroes totals and leaves the log");
 
-    r.messages = r.replies = 77;
+    r.counts.messages = r.counts.replies = 77;
     before = r;
-    before.messages = before.replies = 0;
+    before.counts.messages = before.counts.replies = 0;
     expect(idle(&r, 29) == WHITHERHAUL_REFUSED_MESSAGES, "an area one byte short");
     expect(memcmp(&r, &before, sizeof r) == 0, "a refused tick changes nothing");
-    expect(idle(&r, 30) == WHITHERHAUL_DONE && r.messages == 30 && r.replies == 0, "the first tick");
+    expect(idle(&r, 30) == WHITHERHAUL_DONE && r.counts.messages == 30 && r.counts.replies == 0, "the first tick");
     expect(memcmp(r.out, first_tick, 30) == 0 && r.out[30] == 0xA5, "the first tick's bytes, and the byte past them");
 
-    expect(message(&r, request, sizeof request) == WHITHERHAUL_DONE && r.messages == 102, "a Request gives two Prepares");
+    expect(message(&r, request, sizeof request) == WHITHERHAUL_DONE && r.counts.messages == 102,
+           "a Request gives two Prepares");
     expect(number_at(r.state, WHITHERHAUL_STATE_OP_AT) == 1, "op number 1");
     expect(number_at(r.state, WHITHERHAUL_STATE_COMMIT_AT) == 0, "commit number 0");
     expect(message(&r, prepare_ok, sizeof prepare_ok) == WHITHERHAUL_DONE, "a PrepareOk");
-    expect(r.messages == 0 && r.replies == 36 && memcmp(r.reps, reply, 36) == 0, "the reply's bytes");
+    expect(r.counts.messages == 0 && r.counts.replies == 36 && memcmp(r.reps, reply, 36) == 0, "the reply's bytes");
     expect(number_at(r.state, WHITHERHAUL_STATE_COMMIT_AT) == 1, "commit number 1");
     expect(number_at(r.totals, 8 * 3 + 4) == 4500, "the total of member 3");
     memset(r.reps, 0, sizeof r.reps);
-    expect(message(&r, request, sizeof request) == WHITHERHAUL_DONE && r.replies == 36, "the same Request again");
+    expect(message(&r, request, sizeof request) == WHITHERHAUL_DONE && r.counts.replies == 36, "the same Request again");
     expect(memcmp(r.reps, reply, 36) == 0, "gives that reply again");
 }
 
@@ -114,7 +113,7 @@ static void refusals(void)
     expect(memcmp(&r, &before, sizeof r) == 0, "a refused creation changes nothing");
     expect(create(&r, N, 0) == WHITHERHAUL_DONE, "creation");
     before = r;
-    before.messages = before.replies = 0;
+    before.counts.messages = before.counts.replies = 0;
     expect(message(&r, r.old, 0) == WHITHERHAUL_REFUSED_MALFORMED, "an empty frame");
     memcpy(frame, prepare_ok, sizeof frame);
     frame[15] = 3;
@@ -131,10 +130,14 @@ static void recovery(void)
 {
     static struct replica r;
     static const uint8_t asked[20] = {0, 0, 0, 16, 1, 10, 0, 1, 0, 0, 0, 0, 0, 0, 0, 9, 0, 0, 0, 4};
-    uint8_t code = whitherhaul_recover(N, 1, 3, ROOM, MEMBERS, 4, 9, RUN(&r, state), RUNS(&r), r.out, 39, &r.messages);
-    expect(code == WHITHERHAUL_REFUSED_MESSAGES && r.messages == 0, "a recovery whose frames don't fit");
-    code = whitherhaul_recover(N, 1, 3, ROOM, MEMBERS, 4, 9, RUN(&r, state), RUNS(&r), r.out, 40, &r.messages);
-    expect(code == WHITHERHAUL_DONE && r.messages == 40, "a recovery");
+    uint8_t code;
+
+    r.counts.replies = 77;
+    code = whitherhaul_recover(N, 1, 3, ROOM, MEMBERS, 4, 9, RUN(&r, state), RUNS(&r), r.out, 39, &r.counts);
+    expect(code == WHITHERHAUL_REFUSED_MESSAGES && r.counts.messages == 0 && r.counts.replies == 0,
+           "a recovery whose frames don't fit");
+    code = whitherhaul_recover(N, 1, 3, ROOM, MEMBERS, 4, 9, RUN(&r, state), RUNS(&r), r.out, 40, &r.counts);
+    expect(code == WHITHERHAUL_DONE && r.counts.messages == 40 && r.counts.replies == 0, "a recovery");
     expect(memcmp(r.out, asked, 20) == 0 && r.out[26] == 2, "its Recovery frames");
     expect(r.state[WHITHERHAUL_STATE_STATUS_AT] == WHITHERHAUL_RECOVERING, "it is Recovering");
     expect(number_at(r.state, WHITHERHAUL_STATE_VIEW_AT) == 4, "in the view that was kept");
@@ -168,50 +171,63 @@ static void layout(void)
 static void client(void)
 {
     uint8_t record[WHITHERHAUL_CLIENT_BYTES], before[sizeof record], area[N * WHITHERHAUL_REQUEST_BYTES];
-    uint64_t number = 5, of, asked, total;
-    uint32_t view;
-    uint8_t outcome;
-    size_t written;
-    uint8_t done = 0x5A;
+    struct whitherhaul_requested asked = {5, 5};
+    struct whitherhaul_idled resent = {5};
+    struct whitherhaul_replied heard = {5};
+    struct whitherhaul_said said = {5, 5, 5, 5, 5};
+    static const struct whitherhaul_said nothing;
 
     memset(record, 0x5A, sizeof record);
     expect(whitherhaul_client_create(8, 7, record, sizeof record) == WHITHERHAUL_REFUSED_SIZES, "a client of 8 replicas");
     expect(whitherhaul_client_create(N, 7, record, sizeof record) == WHITHERHAUL_DONE, "a client");
-    expect(whitherhaul_client_idle(record, sizeof record, area, 0, &written) == WHITHERHAUL_DONE && written == 0,
+    expect(whitherhaul_client_idle(record, sizeof record, area, 0, &resent) == WHITHERHAUL_DONE && resent.written == 0,
            "a client that waits for nothing");
     memcpy(before, record, sizeof record);
-    expect(whitherhaul_client_request(record, sizeof record, WHITHERHAUL_FEE, 3, 0, area, sizeof area, &number,
-                                      &written) == WHITHERHAUL_REFUSED_MALFORMED && number == 0 && written == 0,
+    expect(whitherhaul_client_request(record, sizeof record, WHITHERHAUL_FEE, 3, 0, area, sizeof area, &asked) ==
+                   WHITHERHAUL_REFUSED_MALFORMED &&
+               asked.number == 0 && asked.written == 0,
            "a fee of nothing");
-    expect(whitherhaul_client_request(record, sizeof record, WHITHERHAUL_FEE, 3, 4500, area, 38, &number, &written) ==
+    expect(whitherhaul_client_request(record, sizeof record, WHITHERHAUL_FEE, 3, 4500, area, 38, &asked) ==
                WHITHERHAUL_REFUSED_MESSAGES,
            "a request's area one byte short");
     expect(memcmp(record, before, sizeof record) == 0, "a refused request changes nothing");
-    expect(whitherhaul_client_request(record, sizeof record, WHITHERHAUL_FEE, 3, 4500, area, sizeof area, &number,
-                                      &written) == WHITHERHAUL_DONE && number == 0 && written == 39,
+    expect(whitherhaul_client_request(record, sizeof record, WHITHERHAUL_FEE, 3, 4500, area, sizeof area, &asked) ==
+                   WHITHERHAUL_DONE &&
+               asked.number == 0 && asked.written == 39,
            "a request");
     expect(memcmp(area, request, 39) == 0, "the request's bytes");
-    expect(whitherhaul_client_idle(record, sizeof record, area, sizeof area, &written) == WHITHERHAUL_DONE && written == 117,
+    expect(whitherhaul_client_idle(record, sizeof record, area, sizeof area, &resent) == WHITHERHAUL_DONE &&
+               resent.written == 117,
            "the request again, to every replica");
     expect(area[WHITHERHAUL_FRAME_ADDRESSEE_AT] == 0 && area[39 + WHITHERHAUL_FRAME_ADDRESSEE_AT] == 1 &&
                area[78 + WHITHERHAUL_FRAME_ADDRESSEE_AT] == 2,
            "one for each");
 
-    expect(whitherhaul_read_reply(reply, sizeof reply, &view, &of, &asked, &outcome, &total) == WHITHERHAUL_DONE, "a Reply");
-    expect(view == 0 && of == 7 && asked == 0 && outcome == WHITHERHAUL_OUTCOME_FEE && total == 4500, "what it says");
-    expect(whitherhaul_read_reply(request, sizeof request, &view, &of, &asked, &outcome, &total) ==
-               WHITHERHAUL_REFUSED_MALFORMED && of == 0 && total == 0,
+    expect(whitherhaul_read_reply(reply, sizeof reply, &said) == WHITHERHAUL_DONE, "a Reply");
+    expect(said.view == 0 && said.client == 7 && said.request == 0 && said.outcome == WHITHERHAUL_OUTCOME_FEE &&
+               said.total == 4500,
+           "what it says");
+    expect(whitherhaul_read_reply(request, sizeof request, &said) == WHITHERHAUL_REFUSED_MALFORMED &&
+               memcmp(&said, &nothing, sizeof said) == 0,
            "a Request is no Reply");
-    expect(whitherhaul_client_reply(record, sizeof record, 1, 4, &done) == WHITHERHAUL_DONE && done == 0, "another number");
+    expect(whitherhaul_client_reply(record, sizeof record, 1, 4, &heard) == WHITHERHAUL_DONE && heard.done == 0,
+           "another number");
     expect(number_at(record, WHITHERHAUL_CLIENT_VIEW_AT) == 4, "the view is followed");
-    expect(whitherhaul_client_reply(record, sizeof record, 0, 2, &done) == WHITHERHAUL_DONE && done == 1, "the pending number");
+    expect(whitherhaul_client_reply(record, sizeof record, 0, 2, &heard) == WHITHERHAUL_DONE && heard.done == 1,
+           "the pending number");
     expect(record[WHITHERHAUL_CLIENT_PENDING_AT] == 0, "nothing waits");
 
+    expect(whitherhaul_client_request(record, sizeof record, WHITHERHAUL_ASK, 3, 0, area, sizeof area, &asked) ==
+                   WHITHERHAUL_DONE &&
+               asked.number == 1 && asked.written == 39,
+           "a second request, number 1");
     memset(record + WHITHERHAUL_CLIENT_NEXT_AT, 0xFF, 8);
-    expect(whitherhaul_client_request(record, sizeof record, WHITHERHAUL_ASK, 3, 0, area, sizeof area, &number, &written) ==
-               WHITHERHAUL_REFUSED_NUMBERS,
+    expect(whitherhaul_client_request(record, sizeof record, WHITHERHAUL_ASK, 3, 0, area, sizeof area, &asked) ==
+                   WHITHERHAUL_REFUSED_NUMBERS &&
+               asked.number == 0 && asked.written == 0,
            "no number is left");
-    expect(whitherhaul_client_idle(record, sizeof record - 1, area, sizeof area, &written) == WHITHERHAUL_REFUSED_SIZES,
+    expect(whitherhaul_client_idle(record, sizeof record - 1, area, sizeof area, &resent) == WHITHERHAUL_REFUSED_SIZES &&
+               resent.written == 0,
            "a record of another length");
 }
 

@@ -7,7 +7,7 @@
 -- Assumes nothing.
 use mathlib.Core.Path.{_≡_, refl, sym, ap, _∙_}
 use mathlib.Core.Bool.{true, false, not, false≢true}
-use mathlib.Core.List.{List}
+use mathlib.Core.List.{List, [], _∷_}
 use Prim.Native.Nat.{ℕ}
 use native.Mathlib.Omega.{arith}
 use lib.ListN.{length}
@@ -88,7 +88,7 @@ module _ (run : List ℕ) (operation member cents : ℕ) (area : List ℕ) where
   c = recordOf run
 
   pub no-request : recordOk run ≡ false
-      → RequestRan run operation member cents area (record { code = 1; number = 0; written = 0; run = run; area = area })
+      → RequestRan run operation member cents area (record { code = 1; answers = 0 ∷ 0 ∷ []; run = run; area = area })
   unfolding requestRun
   no-request h =
       record { exact = sym (if-true _ _ _ (ap not h)); next = λ ok. absurd (false≢true (sym h ∙ ok)) }
@@ -101,8 +101,7 @@ module _ (run : List ℕ) (operation member cents : ℕ) (area : List ℕ) where
     requested : (after : List ℕ) → after ≡ keptRecord (a .answer .refusal) (a .client) run
         → _≡_ {A = Requested} (record {
           code = a .answer .refusal;
-          number = a .answer .number;
-          written = a .answer .written;
+          answers = a .answer .number ∷ a .answer .written ∷ [];
           run = after;
           area = left;
         }) (requestRun run operation member cents area)
@@ -110,15 +109,14 @@ module _ (run : List ℕ) (operation member cents : ℕ) (area : List ℕ) where
     requested after p =
         (λ i. record {
           code = answered i .answer .refusal;
-          number = answered i .answer .number;
-          written = answered i .answer .written;
+          answers = answered i .answer .number ∷ answered i .answer .written ∷ [];
           run = (p ∙ λ j. keptRecord (answered j .answer .refusal) (answered j .client) run) i;
           area = (f ∙ λ j. requestedArea (r j) operation member cents area) i;
         })
         ∙ sym (if-false _ _ _ (ap not ok))
 
     pub request-refused : (a .answer .refusal ≡ 0 → ⊥)
-        → RequestRan run operation member cents area (record { code = a .answer .refusal; number = 0; written = 0; run = run; area = left })
+        → RequestRan run operation member cents area (record { code = a .answer .refusal; answers = 0 ∷ 0 ∷ []; run = run; area = left })
     request-refused h =
         let n : requestedOf c operation member cents (length area) .answer .refusal ≡ 0 → ⊥ = λ z. h (ap (λ (x : AfterRequest). x .answer .refusal) answered ∙ z) in
         let q = request-quiet c operation member cents (length area) n in
@@ -126,8 +124,7 @@ module _ (run : List ℕ) (operation member cents : ℕ) (area : List ℕ) where
           exact =
               (λ i. record {
                 code = a .answer .refusal;
-                number = sym (ap (λ (x : AfterRequest). x .answer .number) answered ∙ q .0) i;
-                written = sym (ap (λ (x : AfterRequest). x .answer .written) answered ∙ q .1) i;
+                answers = sym (ap (λ (x : AfterRequest). x .answer .number) answered ∙ q .0) i ∷ sym (ap (λ (x : AfterRequest). x .answer .written) answered ∙ q .1) i ∷ [];
                 run = run;
                 area = left;
               })
@@ -138,15 +135,14 @@ module _ (run : List ℕ) (operation member cents : ℕ) (area : List ℕ) where
     pub request-done : {after : List ℕ} → a .answer .refusal ≡ 0 → Holds (a .client) after
         → RequestRan run operation member cents area (record {
           code = 0;
-          number = a .answer .number;
-          written = a .answer .written;
+          answers = a .answer .number ∷ a .answer .written ∷ [];
           run = after;
           area = left;
         })
     request-done {after} z h =
         record {
           exact =
-              (λ i. record { code = sym z i; number = a .answer .number; written = a .answer .written; run = after; area = left })
+              (λ i. record { code = sym z i; answers = a .answer .number ∷ a .answer .written ∷ []; run = after; area = left })
               ∙ requested after (stored (a .client) run z h);
           next = λ _. holding h (ap (λ (x : AfterRequest). x .client) answered);
         }
@@ -162,7 +158,7 @@ reply-quiet c number v =
     (λ _ h. absurd (h refl)) (λ _ h. (refl, refl))
 
 module _ (run : List ℕ) (number : ℕ) (v : View) where
-  pub no-reply : recordOk run ≡ false → ReplyRan run number v (record { code = 1; done = 0; run = run })
+  pub no-reply : recordOk run ≡ false → ReplyRan run number v (record { code = 1; answers = 0 ∷ []; run = run })
   unfolding replyRun
   no-reply h = record { exact = sym (if-true _ _ _ (ap not h)); next = λ ok. absurd (false≢true (sym h ∙ ok)) }
 
@@ -171,60 +167,60 @@ module _ (run : List ℕ) (number : ℕ) (v : View) where
     heard = e ∙ ap (λ (x : Client). repliedOf x number v) r
 
     replied : (after : List ℕ) → after ≡ keptRecord (a .answer .refusal) (a .client) run
-        → _≡_ {A = Replied} (record { code = a .answer .refusal; done = flagNumber (a .answer .done); run = after }) (replyRun run number v)
+        → _≡_ {A = Replied} (record { code = a .answer .refusal; answers = flagNumber (a .answer .done) ∷ []; run = after }) (replyRun run number v)
     unfolding replyRun
     replied after p =
         (λ i. record {
           code = heard i .answer .refusal;
-          done = flagNumber (heard i .answer .done);
+          answers = flagNumber (heard i .answer .done) ∷ [];
           run = (p ∙ λ j. keptRecord (heard j .answer .refusal) (heard j .client) run) i;
         })
         ∙ sym (if-false _ _ _ (ap not ok))
 
-    pub reply-refused : (a .answer .refusal ≡ 0 → ⊥) → ReplyRan run number v (record { code = a .answer .refusal; done = 0; run = run })
+    pub reply-refused : (a .answer .refusal ≡ 0 → ⊥) → ReplyRan run number v (record { code = a .answer .refusal; answers = 0 ∷ []; run = run })
     unfolding flagNumber
     reply-refused h =
         let q = reply-quiet (recordOf run) number v (λ z. h (ap (λ (x : AfterReply). x .answer .refusal) heard ∙ z)) in
         record {
           exact =
-              (λ i. record { code = a .answer .refusal; done = sym (ap (λ (x : AfterReply). flagNumber (x .answer .done)) heard ∙ ap flagNumber (q .0)) i; run = run })
+              (λ i. record { code = a .answer .refusal; answers = sym (ap (λ (x : AfterReply). flagNumber (x .answer .done)) heard ∙ ap flagNumber (q .0)) i ∷ []; run = run })
               ∙ replied run (kept (a .client) run h);
           next = λ _. record { ok = ok; back = sym (q .1) };
         }
 
     pub reply-done : {after : List ℕ} {k : ℕ} → a .answer .refusal ≡ 0 → k ≡ flagNumber (a .answer .done) → Holds (a .client) after
-        → ReplyRan run number v (record { code = 0; done = k; run = after })
+        → ReplyRan run number v (record { code = 0; answers = k ∷ []; run = after })
     reply-done {after} z f h =
         record {
-          exact = (λ i. record { code = sym z i; done = f i; run = after }) ∙ replied after (stored (a .client) run z h);
+          exact = (λ i. record { code = sym z i; answers = f i ∷ []; run = after }) ∙ replied after (stored (a .client) run z h);
           next = λ _. holding h (ap (λ (x : AfterReply). x .client) heard);
         }
 
 -- ---- on_idle
 
 module _ (run area : List ℕ) where
-  pub no-tick : recordOk run ≡ false → _≡_ {A = Idled} (record { code = 1; written = 0; area = area }) (idleRun run area)
+  pub no-tick : recordOk run ≡ false → _≡_ {A = Idled} (record { code = 1; answers = 0 ∷ []; area = area }) (idleRun run area)
   unfolding idleRun
   no-tick h = sym (if-true _ _ _ (ap not h))
 
   pub idle-ran : recordOk run ≡ true → (d : Client) → d ≡ recordOf run → (a : Resent) (left : List ℕ) → a ≡ idledOf d (length area)
-      → left ≡ idledArea d area → _≡_ {A = Idled} (record { code = a .refusal; written = a .written; area = left }) (idleRun run area)
+      → left ≡ idledArea d area → _≡_ {A = Idled} (record { code = a .refusal; answers = a .written ∷ []; area = left }) (idleRun run area)
   unfolding idleRun
   idle-ran ok d r a left e f =
       let answered : a ≡ idledOf (recordOf run) (length area) = e ∙ ap (λ (x : Client). idledOf x (length area)) r in
-      (λ i. record { code = answered i .refusal; written = answered i .written; area = (f ∙ ap (λ (x : Client). idledArea x area) r) i })
+      (λ i. record { code = answered i .refusal; answers = answered i .written ∷ []; area = (f ∙ ap (λ (x : Client). idledArea x area) r) i })
       ∙ sym (if-false _ _ _ (ap not ok))
 
 -- ---- a Reply, read
 
 module _ (frame : List ℕ) (x : Read) (e : x ≡ readReply frame) where
   pub read-malformed : x ≡ Malformed
-      → _≡_ {A = Read′} (record { code = 2; view = 0; client = 0; request = 0; outcome = 0; total = 0 }) (readRun frame)
+      → _≡_ {A = Read′} (record { code = 2; answers = 0 ∷ 0 ∷ 0 ∷ 0 ∷ 0 ∷ [] }) (readRun frame)
   unfolding readRun afterRead
   read-malformed h = ap afterRead (sym h ∙ e)
 
   pub read-said : {v : View} {c k t o : ℕ} {w : Outcome} → x ≡ Reply v c k w t → o ≡ outcomeNumber w
-      → _≡_ {A = Read′} (record { code = 0; view = v .0; client = c; request = k; outcome = o; total = t }) (readRun frame)
+      → _≡_ {A = Read′} (record { code = 0; answers = v .0 ∷ c ∷ k ∷ o ∷ t ∷ [] }) (readRun frame)
   unfolding readRun afterRead
   read-said {v} {c} {k} {t} {o} {w} h p =
-      (λ i. record { code = 0; view = v .0; client = c; request = k; outcome = p i; total = t }) ∙ ap afterRead (sym h ∙ e)
+      (λ i. record { code = 0; answers = v .0 ∷ c ∷ k ∷ p i ∷ t ∷ [] }) ∙ ap afterRead (sym h ∙ e)

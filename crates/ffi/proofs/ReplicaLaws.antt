@@ -6,7 +6,7 @@
 -- Assumes nothing.
 use mathlib.Core.Path.{_≡_, refl, sym, ap, _∙_, subst}
 use mathlib.Core.Bool.{true, false, not, false≢true}
-use mathlib.Core.List.{List}
+use mathlib.Core.List.{List, [], _∷_}
 use mathlib.Core.Logic.{⊎-elim}
 use Prim.Native.Nat.{ℕ}
 use native.Mathlib.Omega.{arith}
@@ -45,9 +45,9 @@ keep-done a before z h =
 -- ---- what a call leaves
 
 module _ (a : Answer) (y : Lent) {before after : List ℕ} {code : ℕ} (k : KeptIn a before after code) (d : Called) (e : called a y ≡ d) where
-  left : ran code (a .messages) (a .replies) after y ≡ leaves before d
+  left : ran code (a .messages ∷ a .replies ∷ []) after y ≡ leaves before d
   left =
-      (λ i. ran (k .number i) (a .messages) (a .replies) (k .bytes i) y) ∙ ap (leaves before) e
+      (λ i. ran (k .number i) (a .messages ∷ a .replies ∷ []) (k .bytes i) y) ∙ ap (leaves before) e
 
   code-is : code ≡ d .answer .code
   code-is = k .number ∙ ap (λ (x : Called). x .answer .code) e
@@ -72,7 +72,7 @@ module _ (a : Answer) (y : Lent) {before after : List ℕ} {code : ℕ} (k : Kep
 -- ---- on_message, on_idle
 
 module _ (state frame : List ℕ) (x : Lent) where
-  pub no-message : stateOk state ≡ false → MessageRan state frame x (ran 1 0 0 state x)
+  pub no-message : stateOk state ≡ false → MessageRan state frame x (ran 1 (0 ∷ 0 ∷ []) state x)
   unfolding messageRun
   no-message h =
       record {
@@ -82,7 +82,7 @@ module _ (state frame : List ℕ) (x : Lent) where
       }
 
   pub message-ran : (s : Replica) (a : Answer) (y : Lent) {after : List ℕ} {code : ℕ} → stateOk state ≡ true → s ≡ stateOf state
-      → MessagePromise s frame x (called a y) → KeptIn a state after code → MessageRan state frame x (ran code (a .messages) (a .replies) after y)
+      → MessagePromise s frame x (called a y) → KeptIn a state after code → MessageRan state frame x (ran code (a .messages ∷ a .replies ∷ []) after y)
   unfolding messageRun
   message-ran s a y ok r p k =
       let d = messageCall (stateOf state) frame x in
@@ -95,7 +95,7 @@ module _ (state frame : List ℕ) (x : Lent) where
       }
 
 module _ (state : List ℕ) (x : Lent) where
-  pub no-tick : stateOk state ≡ false → IdleRan state x (ran 1 0 0 state x)
+  pub no-tick : stateOk state ≡ false → IdleRan state x (ran 1 (0 ∷ 0 ∷ []) state x)
   unfolding idleRun
   no-tick h =
       record {
@@ -105,7 +105,7 @@ module _ (state : List ℕ) (x : Lent) where
       }
 
   pub idle-ran : (s : Replica) (a : Answer) (y : Lent) {after : List ℕ} {code : ℕ} → stateOk state ≡ true → s ≡ stateOf state
-      → IdlePromise s x (called a y) → KeptIn a state after code → IdleRan state x (ran code (a .messages) (a .replies) after y)
+      → IdlePromise s x (called a y) → KeptIn a state after code → IdleRan state x (ran code (a .messages ∷ a .replies ∷ []) after y)
   unfolding idleRun
   idle-ran s a y ok r p k =
       let d = idleCall (stateOf state) x in
@@ -135,20 +135,13 @@ module _ (state : List ℕ) (x : Lent) (s : Replica) (r : s ≡ stateOf state) (
 not-0 : _≡_ {A = ℕ} 1 0 → ⊥
 not-0 e = absurd (omega (arith, e))
 
--- a creation sends nothing, and a recovery no replies
+-- a creation sends nothing
 create-sends : (u : Setup) (x : Lent) → (createCall u x .answer .messages ≡ 0) × (createCall u x .answer .replies ≡ 0)
 unfolding createCall
 create-sends u x = split (λ (d : Called). (d .answer .messages ≡ 0) × (d .answer .replies ≡ 0)) _ _ _ (λ _. (refl, refl)) (λ _. (refl, refl))
 
-recover-sends : (u : Setup) (v : View) (nonce : ℕ) (x : Lent) → recoverCall u v nonce x .answer .replies ≡ 0
-unfolding recoverCall
-recover-sends u v nonce x = split P _ _ _ (λ _. refl) (λ _. split P _ _ _ (λ _. refl) (λ _. refl))
-  where
-    P : Called → Type 0
-    P d = d .answer .replies ≡ 0
-
 module _ (u : Setup) (state : List ℕ) (x : Lent) where
-  pub no-creation : (length state ≡ 146 → ⊥) → CreateRan u state x (ran 1 0 0 state x)
+  pub no-creation : (length state ≡ 146 → ⊥) → CreateRan u state x (ran 1 (0 ∷ 0 ∷ []) state x)
   unfolding createRun
   no-creation h =
       record {
@@ -158,7 +151,7 @@ module _ (u : Setup) (state : List ℕ) (x : Lent) where
       }
 
   pub create-ran : (a : Answer) (y : Lent) {after : List ℕ} {code : ℕ} → length state ≡ 146 → CreatePromise u x (called a y)
-      → KeptIn a state after code → CreateRan u state x (ran code 0 0 after y)
+      → KeptIn a state after code → CreateRan u state x (ran code (0 ∷ 0 ∷ []) after y)
   unfolding createRun
   create-ran a y {after} {code} l p k =
       let d = createCall u x in
@@ -166,13 +159,13 @@ module _ (u : Setup) (state : List ℕ) (x : Lent) where
       let m : 0 ≡ a .messages = sym (sends .0) ∙ sym (ap (λ (z : Called). z .answer .messages) (p .exact)) in
       let r : 0 ≡ a .replies = sym (sends .1) ∙ sym (ap (λ (z : Called). z .answer .replies) (p .exact)) in
       record {
-        exact = (λ i. ran code (m i) (r i) after y) ∙ left a y k d (p .exact) ∙ sym (if-false _ _ _ (ap not (eq-eqb (length state) 146 l)));
+        exact = (λ i. ran code (m i ∷ r i ∷ []) after y) ∙ left a y k d (p .exact) ∙ sym (if-false _ _ _ (ap not (eq-eqb (length state) 146 l)));
         next = λ z. done-held a y k d (p .exact) (sym (k .number) ∙ z);
         call = create-promised u x d refl;
       }
 
 module _ (u : Setup) (v : View) (nonce : ℕ) (state : List ℕ) (x : Lent) where
-  pub no-recovery : (length state ≡ 146 → ⊥) → RecoverRan u v nonce state x (ran 1 0 0 state x)
+  pub no-recovery : (length state ≡ 146 → ⊥) → RecoverRan u v nonce state x (ran 1 (0 ∷ 0 ∷ []) state x)
   unfolding recoverRun
   no-recovery h =
       record {
@@ -182,13 +175,12 @@ module _ (u : Setup) (v : View) (nonce : ℕ) (state : List ℕ) (x : Lent) wher
       }
 
   pub recover-ran : (a : Answer) (y : Lent) {after : List ℕ} {code : ℕ} → length state ≡ 146 → RecoverPromise u v nonce x (called a y)
-      → KeptIn a state after code → RecoverRan u v nonce state x (ran code (a .messages) 0 after y)
+      → KeptIn a state after code → RecoverRan u v nonce state x (ran code (a .messages ∷ a .replies ∷ []) after y)
   unfolding recoverRun
-  recover-ran a y {after} {code} l p k =
+  recover-ran a y l p k =
       let d = recoverCall u v nonce x in
-      let r : 0 ≡ a .replies = sym (recover-sends u v nonce x) ∙ sym (ap (λ (z : Called). z .answer .replies) (p .exact)) in
       record {
-        exact = (λ i. ran code (a .messages) (r i) after y) ∙ left a y k d (p .exact) ∙ sym (if-false _ _ _ (ap not (eq-eqb (length state) 146 l)));
+        exact = left a y k d (p .exact) ∙ sym (if-false _ _ _ (ap not (eq-eqb (length state) 146 l)));
         next = λ z. done-held a y k d (p .exact) (sym (k .number) ∙ z);
         call = recover-promised u v nonce x d refl;
       }

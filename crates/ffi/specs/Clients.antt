@@ -2,7 +2,7 @@
 -- and its other answers are 0. Assumes nothing.
 use mathlib.Core.Path.{_≡_}
 use mathlib.Core.Bool.{true, not}
-use mathlib.Core.List.{List}
+use mathlib.Core.List.{List, [], _∷_}
 use Prim.Native.Nat.{ℕ}
 use lib.Dec.{eqb}
 use lib.ListN.{length}
@@ -34,11 +34,10 @@ createRun n id run =
     if not (eqb (length run) 54) then record { code = 1; run = run } else
     record { code = createOf n id .refusal; run = keptRecord (createOf n id .refusal) (createOf n id .client) run }
 
--- on_request
+-- on_request; answers: the request's number, bytes written
 pub record Requested : Type 0 where
   pub code : ℕ
-  pub number : ℕ
-  pub written : ℕ
+  pub answers : List ℕ
   pub run : List ℕ
   pub area : List ℕ
 
@@ -46,60 +45,55 @@ abbrev pub afterRequest : AfterRequest → (run area : List ℕ) → Requested
 afterRequest a run area =
     record {
       code = a .answer .refusal;
-      number = a .answer .number;
-      written = a .answer .written;
+      answers = a .answer .number ∷ a .answer .written ∷ [];
       run = keptRecord (a .answer .refusal) (a .client) run;
       area = area;
     }
 
 unfoldable pub requestRun : (run : List ℕ) (operation member cents : ℕ) (area : List ℕ) → Requested
 requestRun run operation member cents area =
-    if not (recordOk run) then record { code = 1; number = 0; written = 0; run = run; area = area } else
+    if not (recordOk run) then record { code = 1; answers = 0 ∷ 0 ∷ []; run = run; area = area } else
     afterRequest (requestedOf (recordOf run) operation member cents (length area)) run
     (requestedArea (recordOf run) operation member cents area)
 
--- on_reply; done is 1 or 0
+-- on_reply; answers: 1 where the reply was awaited, else 0
 pub record Replied : Type 0 where
   pub code : ℕ
-  pub done : ℕ
+  pub answers : List ℕ
   pub run : List ℕ
 
 abbrev pub afterReply : AfterReply → (run : List ℕ) → Replied
 afterReply a run =
-    record { code = a .answer .refusal; done = flagNumber (a .answer .done); run = keptRecord (a .answer .refusal) (a .client) run }
+    record { code = a .answer .refusal; answers = flagNumber (a .answer .done) ∷ []; run = keptRecord (a .answer .refusal) (a .client) run }
 
 unfoldable pub replyRun : (run : List ℕ) (number : ℕ) → View → Replied
 replyRun run number v =
-    if not (recordOk run) then record { code = 1; done = 0; run = run } else
+    if not (recordOk run) then record { code = 1; answers = 0 ∷ []; run = run } else
     afterReply (repliedOf (recordOf run) number v) run
 
--- on_idle: the record is only read
+-- on_idle: the record is only read; answers: bytes written
 pub record Idled : Type 0 where
   pub code : ℕ
-  pub written : ℕ
+  pub answers : List ℕ
   pub area : List ℕ
 
 abbrev pub afterIdle : Resent → (area : List ℕ) → Idled
-afterIdle a area = record { code = a .refusal; written = a .written; area = area }
+afterIdle a area = record { code = a .refusal; answers = a .written ∷ []; area = area }
 
 unfoldable pub idleRun : (run area : List ℕ) → Idled
 idleRun run area =
-    if not (recordOk run) then record { code = 1; written = 0; area = area } else
+    if not (recordOk run) then record { code = 1; answers = 0 ∷ []; area = area } else
     afterIdle (idledOf (recordOf run) (length area)) (idledArea (recordOf run) area)
 
--- a Reply, read
+-- a Reply, read; answers: view, client, request, outcome, total
 pub record Read′ : Type 0 where
   pub code : ℕ
-  pub view : ℕ
-  pub client : ℕ
-  pub request : ℕ
-  pub outcome : ℕ
-  pub total : ℕ
+  pub answers : List ℕ
 
 unfoldable pub afterRead : Read → Read′
 afterRead (Reply v c k o t) =
-    record { code = 0; view = v .0; client = c; request = k; outcome = outcomeNumber o; total = t }
-afterRead Malformed = record { code = 2; view = 0; client = 0; request = 0; outcome = 0; total = 0 }
+    record { code = 0; answers = v .0 ∷ c ∷ k ∷ outcomeNumber o ∷ t ∷ [] }
+afterRead Malformed = record { code = 2; answers = 0 ∷ 0 ∷ 0 ∷ 0 ∷ 0 ∷ [] }
 
 unfoldable pub readRun : (frame : List ℕ) → Read′
 readRun frame = afterRead (readReply frame)

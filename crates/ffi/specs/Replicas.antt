@@ -2,7 +2,7 @@
 -- refused by 1, and a refused call leaves that run and all else as it was, with counts of 0. Assumes nothing.
 use mathlib.Core.Path.{_≡_}
 use mathlib.Core.Bool.{true, not}
-use mathlib.Core.List.{List}
+use mathlib.Core.List.{List, [], _∷_}
 use Prim.Native.Nat.{ℕ}
 use lib.Dec.{eqb}
 use lib.ListN.{length}
@@ -19,13 +19,12 @@ use Rattle.state_bytes.specs.Layout.{stateOf, encodeState, stateOk, Holds}
 -- what a call returns and leaves: its number, the counts of message and reply bytes, the state run, everything else that was lent
 pub record Ran : Type 0 where
   pub code : ℕ
-  pub messages : ℕ
-  pub replies : ℕ
+  pub counts : List ℕ
   pub state : List ℕ
   pub lent : Lent
 
-abbrev pub ran : (code messages replies : ℕ) (state : List ℕ) → Lent → Ran
-ran k m r state x = record { code = k; messages = m; replies = r; state = state; lent = x }
+abbrev pub ran : (code : ℕ) (counts state : List ℕ) → Lent → Ran
+ran k counts state x = record { code = k; counts = counts; state = state; lent = x }
 
 -- the state run after a call
 unfoldable pub keptState : Answer → (state : List ℕ) → List ℕ
@@ -34,11 +33,11 @@ keptState a state = if eqb (a .code) 0 then encodeState (a .state) else state
 -- what a call of the replica leaves here
 abbrev pub leaves : (state : List ℕ) → Called → Ran
 leaves state d =
-    ran (d .answer .code) (d .answer .messages) (d .answer .replies) (keptState (d .answer) state) (d .lent)
+    ran (d .answer .code) (d .answer .messages ∷ d .answer .replies ∷ []) (keptState (d .answer) state) (d .lent)
 
 -- refused by 1 before any call of the replica
 abbrev pub noState : (state : List ℕ) → Lent → Ran
-noState state x = ran 1 0 0 state x
+noState state x = ran 1 (0 ∷ 0 ∷ []) state x
 
 -- on_message, on_idle
 unfoldable pub messageRun : (state frame : List ℕ) → Lent → Ran

@@ -31,13 +31,11 @@ pub extern "C" fn whitherhaul_client_request(
     member: u32,
     cents: u64,
     area: &mut [u8],
-    number: &mut u64,
-    written: &mut usize,
+    answers: &mut [u64; 2],
 ) -> u8
-    ensures { λ r. ⌜ RequestRan (now (held .entry)) operation member cents (now (area .entry)) (record { code = r; number = now (number .exit); written = now (written .exit); run = now (held .exit); area = now (area .exit) }) ⌝ }
+    ensures { λ r. ⌜ RequestRan (now (held .entry)) operation member cents (now (area .entry)) (record { code = r; answers = now (answers .exit); run = now (held .exit); area = now (area .exit) }) ⌝ }
 {
-    *number = 0;
-    *written = 0;
+    *answers = [0, 0];
     if !client_bytes::client_ok(held) {
         return 1;
     }
@@ -51,8 +49,7 @@ pub extern "C" fn whitherhaul_client_request(
     if a.answer.refusal != 0 {
         return a.answer.refusal;
     }
-    *number = a.answer.number;
-    *written = a.answer.written;
+    *answers = [a.answer.number, a.answer.written as u64];
     let c = a.client;
     client_bytes::write_client(held, c);
     0
@@ -64,11 +61,11 @@ pub extern "C" fn whitherhaul_client_reply(
     held: &mut [u8],
     number: u64,
     view: u32,
-    done: &mut u8,
+    answers: &mut [u64; 1],
 ) -> u8
-    ensures { λ r. ⌜ ReplyRan (now (held .entry)) number (record { 0 = view }) (record { code = r; done = now (done .exit); run = now (held .exit) }) ⌝ }
+    ensures { λ r. ⌜ ReplyRan (now (held .entry)) number (record { 0 = view }) (record { code = r; answers = now (answers .exit); run = now (held .exit) }) ⌝ }
 {
-    *done = 0;
+    *answers = [0];
     if !client_bytes::client_ok(held) {
         return 1;
     }
@@ -76,7 +73,7 @@ pub extern "C" fn whitherhaul_client_reply(
     if a.answer.refusal != 0 {
         return a.answer.refusal;
     }
-    *done = a.answer.done as u8;
+    *answers = [a.answer.done as u64];
     let c = a.client;
     client_bytes::write_client(held, c);
     0
@@ -84,15 +81,19 @@ pub extern "C" fn whitherhaul_client_reply(
 
 // on_idle
 #[no_mangle]
-pub extern "C" fn whitherhaul_client_idle(held: &[u8], area: &mut [u8], written: &mut usize) -> u8
-    ensures { λ r. ⌜ (record { code = r; written = now (written .exit); area = now (area .exit) }) ≡ idleRun (now (held .entry)) (now (area .entry)) ⌝ }
+pub extern "C" fn whitherhaul_client_idle(
+    held: &[u8],
+    area: &mut [u8],
+    answers: &mut [u64; 1],
+) -> u8
+    ensures { λ r. ⌜ (record { code = r; answers = now (answers .exit); area = now (area .exit) }) ≡ idleRun (now (held .entry)) (now (area .entry)) ⌝ }
 {
-    *written = 0;
+    *answers = [0];
     if !client_bytes::client_ok(held) {
         return 1;
     }
     let a = client::idled(client_bytes::read_client(held), area);
-    *written = a.written;
+    *answers = [a.written as u64];
     a.refusal
 }
 
@@ -110,37 +111,28 @@ fn outcome_number(o: Outcome) -> u8
     }
 }
 
-// A Reply, read: what it says goes to the five places, or all are 0 where it is malformed.
+// A Reply, read: view, client, request, outcome and total, or all are 0 where it is malformed.
 #[no_mangle]
-pub extern "C" fn whitherhaul_read_reply(
-    frame: &[u8],
-    view: &mut u32,
-    client: &mut u64,
-    request: &mut u64,
-    outcome: &mut u8,
-    total: &mut u64,
-) -> u8
-    ensures { λ r. ⌜ (record { code = r; view = now (view .exit); client = now (client .exit); request = now (request .exit); outcome = now (outcome .exit); total = now (total .exit) }) ≡ readRun (now (frame .entry)) ⌝ }
+pub extern "C" fn whitherhaul_read_reply(frame: &[u8], answers: &mut [u64; 5]) -> u8
+    ensures { λ r. ⌜ (record { code = r; answers = now (answers .exit) }) ≡ readRun (now (frame .entry)) ⌝ }
 {
-    *view = 0;
-    *client = 0;
-    *request = 0;
-    *outcome = 0;
-    *total = 0;
+    *answers = [0, 0, 0, 0, 0];
     match client::read_reply(frame) {
         Read::Malformed => 2,
         Read::Reply {
-            view: v,
-            client: c,
-            request: k,
-            outcome: o,
-            total: t,
+            view,
+            client,
+            request,
+            outcome,
+            total,
         } => {
-            *view = v.0;
-            *client = c;
-            *request = k;
-            *outcome = outcome_number(o);
-            *total = t;
+            *answers = [
+                view.0 as u64,
+                client,
+                request,
+                outcome_number(outcome) as u64,
+                total,
+            ];
             0
         }
     }

@@ -1,7 +1,7 @@
 // A replica, whose state lies in a lent run of 146 bytes. A refused call leaves that run, like all else, as it was.
 ghost use mathlib.Core.Path.{_≡_};
 ghost use mathlib.Core.Bool.{true};
-ghost use mathlib.Core.List.{[]};
+ghost use mathlib.Core.List.{[], _∷_};
 ghost use lib.ListN.{length};
 ghost use Rattle.replica.specs.Lent.{lent};
 ghost use Rattle.state_bytes.specs.Layout.{stateOf, Onward, Clocked, stateOk};
@@ -66,7 +66,7 @@ pub extern "C" fn whitherhaul_create(
     table: &mut [u8],
     old: &[u8],
 ) -> u8
-    ensures { λ r. ⌜ CreateRan (record { n = n; id = id; timeout = timeout; room = room; members = members }) (now (state .entry)) (lent (now (log .entry)) (now (results .entry)) (now (totals .entry)) (now (acks .entry)) (now (stored .entry)) (now (table .entry)) (now (old .entry)) [] []) (ran r 0 0 (now (state .exit)) (lent (now (log .entry)) (now (results .entry)) (now (totals .exit)) (now (acks .exit)) (now (stored .entry)) (now (table .exit)) (now (old .entry)) [] [])) ⌝ }
+    ensures { λ r. ⌜ CreateRan (record { n = n; id = id; timeout = timeout; room = room; members = members }) (now (state .entry)) (lent (now (log .entry)) (now (results .entry)) (now (totals .entry)) (now (acks .entry)) (now (stored .entry)) (now (table .entry)) (now (old .entry)) [] []) (ran r (0 ∷ 0 ∷ []) (now (state .exit)) (lent (now (log .entry)) (now (results .entry)) (now (totals .exit)) (now (acks .exit)) (now (stored .entry)) (now (table .exit)) (now (old .entry)) [] [])) ⌝ }
 {
     if state.len() != 146 {
         return 1;
@@ -103,11 +103,11 @@ pub extern "C" fn whitherhaul_recover(
     table: &mut [u8],
     old: &[u8],
     out: &mut [u8],
-    messages: &mut usize,
+    counts: &mut [u64; 2],
 ) -> u8
-    ensures { λ r. ⌜ RecoverRan (record { n = n; id = id; timeout = timeout; room = room; members = members }) (record { 0 = view }) nonce (now (state .entry)) (lent (now (log .entry)) (now (results .entry)) (now (totals .entry)) (now (acks .entry)) (now (stored .entry)) (now (table .entry)) (now (old .entry)) (now (out .entry)) []) (ran r (now (messages .exit)) 0 (now (state .exit)) (lent (now (log .entry)) (now (results .entry)) (now (totals .exit)) (now (acks .exit)) (now (stored .entry)) (now (table .exit)) (now (old .entry)) (now (out .exit)) [])) ⌝ }
+    ensures { λ r. ⌜ RecoverRan (record { n = n; id = id; timeout = timeout; room = room; members = members }) (record { 0 = view }) nonce (now (state .entry)) (lent (now (log .entry)) (now (results .entry)) (now (totals .entry)) (now (acks .entry)) (now (stored .entry)) (now (table .entry)) (now (old .entry)) (now (out .entry)) []) (ran r (now (counts .exit)) (now (state .exit)) (lent (now (log .entry)) (now (results .entry)) (now (totals .exit)) (now (acks .exit)) (now (stored .entry)) (now (table .exit)) (now (old .entry)) (now (out .exit)) [])) ⌝ }
 {
-    *messages = 0;
+    *counts = [0, 0];
     if state.len() != 146 {
         return 1;
     }
@@ -131,7 +131,7 @@ pub extern "C" fn whitherhaul_recover(
         old,
         out,
     );
-    *messages = a.messages;
+    *counts = [a.messages as u64, a.replies as u64];
     keep(a, state)
 }
 
@@ -148,11 +148,10 @@ fn message_whole(
     old: &mut [u8],
     out: &mut [u8],
     reps: &mut [u8],
-    messages: &mut usize,
-    replies: &mut usize,
+    counts: &mut [u64; 2],
 ) -> u8
     requires { ⌜ stateOk (now state) ≡ true ⌝ }
-    ensures { λ r. ⌜ MessageRan (now (state .entry)) (now (frame .entry)) (lent (now (log .entry)) (now (results .entry)) (now (totals .entry)) (now (acks .entry)) (now (stored .entry)) (now (table .entry)) (now (old .entry)) (now (out .entry)) (now (reps .entry))) (ran r (now (messages .exit)) (now (replies .exit)) (now (state .exit)) (lent (now (log .exit)) (now (results .exit)) (now (totals .exit)) (now (acks .exit)) (now (stored .exit)) (now (table .exit)) (now (old .exit)) (now (out .exit)) (now (reps .exit)))) ⌝ }
+    ensures { λ r. ⌜ MessageRan (now (state .entry)) (now (frame .entry)) (lent (now (log .entry)) (now (results .entry)) (now (totals .entry)) (now (acks .entry)) (now (stored .entry)) (now (table .entry)) (now (old .entry)) (now (out .entry)) (now (reps .entry))) (ran r (now (counts .exit)) (now (state .exit)) (lent (now (log .exit)) (now (results .exit)) (now (totals .exit)) (now (acks .exit)) (now (stored .exit)) (now (table .exit)) (now (old .exit)) (now (out .exit)) (now (reps .exit)))) ⌝ }
 {
     let a = replica::call::on_message(
         state_bytes::read_state(state),
@@ -167,8 +166,7 @@ fn message_whole(
         out,
         reps,
     );
-    *messages = a.messages;
-    *replies = a.replies;
+    *counts = [a.messages as u64, a.replies as u64];
     keep(a, state)
 }
 
@@ -185,11 +183,10 @@ fn message_usual(
     old: &mut [u8],
     out: &mut [u8],
     reps: &mut [u8],
-    messages: &mut usize,
-    replies: &mut usize,
+    counts: &mut [u64; 2],
 ) -> u8
     requires { ⌜ stateOk (now state) ≡ true ⌝ }
-    ensures { λ r. ⌜ MessageRan (now (state .entry)) (now (frame .entry)) (lent (now (log .entry)) (now (results .entry)) (now (totals .entry)) (now (acks .entry)) (now (stored .entry)) (now (table .entry)) (now (old .entry)) (now (out .entry)) (now (reps .entry))) (ran r (now (messages .exit)) (now (replies .exit)) (now (state .exit)) (lent (now (log .exit)) (now (results .exit)) (now (totals .exit)) (now (acks .exit)) (now (stored .exit)) (now (table .exit)) (now (old .exit)) (now (out .exit)) (now (reps .exit)))) ⌝ }
+    ensures { λ r. ⌜ MessageRan (now (state .entry)) (now (frame .entry)) (lent (now (log .entry)) (now (results .entry)) (now (totals .entry)) (now (acks .entry)) (now (stored .entry)) (now (table .entry)) (now (old .entry)) (now (out .entry)) (now (reps .entry))) (ran r (now (counts .exit)) (now (state .exit)) (lent (now (log .exit)) (now (results .exit)) (now (totals .exit)) (now (acks .exit)) (now (stored .exit)) (now (table .exit)) (now (old .exit)) (now (out .exit)) (now (reps .exit)))) ⌝ }
 {
     let s = state_bytes::read_state(state);
     if !usual::is_usual(s, frame) {
@@ -205,8 +202,7 @@ fn message_usual(
             old,
             out,
             reps,
-            messages,
-            replies,
+            counts,
         );
     }
     let a = replica::call::on_message(
@@ -222,8 +218,7 @@ fn message_usual(
         out,
         reps,
     );
-    *messages = a.messages;
-    *replies = a.replies;
+    *counts = [a.messages as u64, a.replies as u64];
     keep_onward(a, state)
 }
 
@@ -241,13 +236,11 @@ pub extern "C" fn whitherhaul_on_message(
     old: &mut [u8],
     out: &mut [u8],
     reps: &mut [u8],
-    messages: &mut usize,
-    replies: &mut usize,
+    counts: &mut [u64; 2],
 ) -> u8
-    ensures { λ r. ⌜ MessageRan (now (state .entry)) (now (frame .entry)) (lent (now (log .entry)) (now (results .entry)) (now (totals .entry)) (now (acks .entry)) (now (stored .entry)) (now (table .entry)) (now (old .entry)) (now (out .entry)) (now (reps .entry))) (ran r (now (messages .exit)) (now (replies .exit)) (now (state .exit)) (lent (now (log .exit)) (now (results .exit)) (now (totals .exit)) (now (acks .exit)) (now (stored .exit)) (now (table .exit)) (now (old .exit)) (now (out .exit)) (now (reps .exit)))) ⌝ }
+    ensures { λ r. ⌜ MessageRan (now (state .entry)) (now (frame .entry)) (lent (now (log .entry)) (now (results .entry)) (now (totals .entry)) (now (acks .entry)) (now (stored .entry)) (now (table .entry)) (now (old .entry)) (now (out .entry)) (now (reps .entry))) (ran r (now (counts .exit)) (now (state .exit)) (lent (now (log .exit)) (now (results .exit)) (now (totals .exit)) (now (acks .exit)) (now (stored .exit)) (now (table .exit)) (now (old .exit)) (now (out .exit)) (now (reps .exit)))) ⌝ }
 {
-    *messages = 0;
-    *replies = 0;
+    *counts = [0, 0];
     if !state_bytes::state_ok(state) {
         return 1;
     }
@@ -264,8 +257,7 @@ pub extern "C" fn whitherhaul_on_message(
             old,
             out,
             reps,
-            messages,
-            replies,
+            counts,
         );
     }
     match numbers::read_u8(frame, 5) {
@@ -281,8 +273,7 @@ pub extern "C" fn whitherhaul_on_message(
             old,
             out,
             reps,
-            messages,
-            replies,
+            counts,
         ),
         2 => message_usual(
             state,
@@ -296,8 +287,7 @@ pub extern "C" fn whitherhaul_on_message(
             old,
             out,
             reps,
-            messages,
-            replies,
+            counts,
         ),
         3 => message_usual(
             state,
@@ -311,8 +301,7 @@ pub extern "C" fn whitherhaul_on_message(
             old,
             out,
             reps,
-            messages,
-            replies,
+            counts,
         ),
         4 => message_usual(
             state,
@@ -326,8 +315,7 @@ pub extern "C" fn whitherhaul_on_message(
             old,
             out,
             reps,
-            messages,
-            replies,
+            counts,
         ),
         _ => message_whole(
             state,
@@ -341,8 +329,7 @@ pub extern "C" fn whitherhaul_on_message(
             old,
             out,
             reps,
-            messages,
-            replies,
+            counts,
         ),
     }
 }
@@ -359,11 +346,10 @@ fn tick_whole(
     old: &mut [u8],
     out: &mut [u8],
     reps: &mut [u8],
-    messages: &mut usize,
-    replies: &mut usize,
+    counts: &mut [u64; 2],
 ) -> u8
     requires { ⌜ stateOk (now state) ≡ true ⌝ }
-    ensures { λ r. ⌜ IdleRan (now (state .entry)) (lent (now (log .entry)) (now (results .entry)) (now (totals .entry)) (now (acks .entry)) (now (stored .entry)) (now (table .entry)) (now (old .entry)) (now (out .entry)) (now (reps .entry))) (ran r (now (messages .exit)) (now (replies .exit)) (now (state .exit)) (lent (now (log .exit)) (now (results .exit)) (now (totals .exit)) (now (acks .exit)) (now (stored .exit)) (now (table .exit)) (now (old .exit)) (now (out .exit)) (now (reps .exit)))) ⌝ }
+    ensures { λ r. ⌜ IdleRan (now (state .entry)) (lent (now (log .entry)) (now (results .entry)) (now (totals .entry)) (now (acks .entry)) (now (stored .entry)) (now (table .entry)) (now (old .entry)) (now (out .entry)) (now (reps .entry))) (ran r (now (counts .exit)) (now (state .exit)) (lent (now (log .exit)) (now (results .exit)) (now (totals .exit)) (now (acks .exit)) (now (stored .exit)) (now (table .exit)) (now (old .exit)) (now (out .exit)) (now (reps .exit)))) ⌝ }
 {
     let a = replica::call::on_idle(
         state_bytes::read_state(state),
@@ -377,8 +363,7 @@ fn tick_whole(
         out,
         reps,
     );
-    *messages = a.messages;
-    *replies = a.replies;
+    *counts = [a.messages as u64, a.replies as u64];
     keep(a, state)
 }
 
@@ -395,13 +380,11 @@ pub extern "C" fn whitherhaul_on_idle(
     old: &mut [u8],
     out: &mut [u8],
     reps: &mut [u8],
-    messages: &mut usize,
-    replies: &mut usize,
+    counts: &mut [u64; 2],
 ) -> u8
-    ensures { λ r. ⌜ IdleRan (now (state .entry)) (lent (now (log .entry)) (now (results .entry)) (now (totals .entry)) (now (acks .entry)) (now (stored .entry)) (now (table .entry)) (now (old .entry)) (now (out .entry)) (now (reps .entry))) (ran r (now (messages .exit)) (now (replies .exit)) (now (state .exit)) (lent (now (log .exit)) (now (results .exit)) (now (totals .exit)) (now (acks .exit)) (now (stored .exit)) (now (table .exit)) (now (old .exit)) (now (out .exit)) (now (reps .exit)))) ⌝ }
+    ensures { λ r. ⌜ IdleRan (now (state .entry)) (lent (now (log .entry)) (now (results .entry)) (now (totals .entry)) (now (acks .entry)) (now (stored .entry)) (now (table .entry)) (now (old .entry)) (now (out .entry)) (now (reps .entry))) (ran r (now (counts .exit)) (now (state .exit)) (lent (now (log .exit)) (now (results .exit)) (now (totals .exit)) (now (acks .exit)) (now (stored .exit)) (now (table .exit)) (now (old .exit)) (now (out .exit)) (now (reps .exit)))) ⌝ }
 {
-    *messages = 0;
-    *replies = 0;
+    *counts = [0, 0];
     if !state_bytes::state_ok(state) {
         return 1;
     }
@@ -418,12 +401,10 @@ pub extern "C" fn whitherhaul_on_idle(
             old,
             out,
             reps,
-            messages,
-            replies,
+            counts,
         );
     }
     let a = replica::call::on_idle(s, log, results, totals, acks, stored, table, old, out, reps);
-    *messages = a.messages;
-    *replies = a.replies;
+    *counts = [a.messages as u64, a.replies as u64];
     keep_clocked(a, state)
 }

@@ -109,8 +109,8 @@ pub mod state {
 /// How long a client's record is: n (1), id (8), view (4), next (8), pending (1), its entry (32).
 pub const CLIENT: usize = 54;
 
-/// What stands in a place before a call, which writes to each, refused or not.
-const UNWRITTEN: usize = usize::MAX;
+/// What stands in an answer before a call, which writes to each, refused or not.
+const UNWRITTEN: u64 = u64::MAX;
 
 /// Bytes written to the two areas.
 #[derive(Clone, Copy, Debug, Default, PartialEq, Eq)]
@@ -119,6 +119,15 @@ pub struct Counts {
     pub messages: usize,
     /// Bytes of replies.
     pub replies: usize,
+}
+
+impl Counts {
+    fn of([messages, replies]: [u64; 2]) -> Counts {
+        Counts {
+            messages: messages as usize,
+            replies: replies as usize,
+        }
+    }
 }
 
 extern "C" {
@@ -171,7 +180,7 @@ extern "C" {
         old_length: usize,
         out: *mut u8,
         out_length: usize,
-        messages: *mut usize,
+        counts: *mut [u64; 2],
     ) -> u8;
     fn whitherhaul_on_message(
         state: *mut u8,
@@ -196,8 +205,7 @@ extern "C" {
         out_length: usize,
         reps: *mut u8,
         reps_length: usize,
-        messages: *mut usize,
-        replies: *mut usize,
+        counts: *mut [u64; 2],
     ) -> u8;
     fn whitherhaul_on_idle(
         state: *mut u8,
@@ -220,8 +228,7 @@ extern "C" {
         out_length: usize,
         reps: *mut u8,
         reps_length: usize,
-        messages: *mut usize,
-        replies: *mut usize,
+        counts: *mut [u64; 2],
     ) -> u8;
     fn whitherhaul_client_create(n: u8, id: u64, record: *mut u8, record_length: usize) -> u8;
     fn whitherhaul_client_request(
@@ -232,31 +239,26 @@ extern "C" {
         cents: u64,
         area: *mut u8,
         area_length: usize,
-        number: *mut u64,
-        written: *mut usize,
+        answers: *mut [u64; 2],
     ) -> u8;
     fn whitherhaul_client_reply(
         record: *mut u8,
         record_length: usize,
         number: u64,
         view: u32,
-        done: *mut u8,
+        answers: *mut [u64; 1],
     ) -> u8;
     fn whitherhaul_client_idle(
         record: *const u8,
         record_length: usize,
         area: *mut u8,
         area_length: usize,
-        written: *mut usize,
+        answers: *mut [u64; 1],
     ) -> u8;
     fn whitherhaul_read_reply(
         frame: *const u8,
         frame_length: usize,
-        view: *mut u32,
-        client: *mut u64,
-        request: *mut u64,
-        outcome: *mut u8,
-        total: *mut u64,
+        answers: *mut [u64; 5],
     ) -> u8;
 }
 
@@ -301,8 +303,8 @@ pub fn recover(
     out: &mut [u8],
 ) -> (u8, usize) {
     let m = memory;
-    let mut messages = UNWRITTEN;
-    // Safety: as in `create`; `messages` is a place of its own.
+    let mut counts = [UNWRITTEN; 2];
+    // Safety: as in `create`; the counts are a place of their own.
     let number = unsafe {
         whitherhaul_recover(
             setup.replicas,
@@ -330,10 +332,10 @@ pub fn recover(
             m.old.len(),
             out.as_mut_ptr(),
             out.len(),
-            &mut messages,
+            &mut counts,
         )
     };
-    (number, messages)
+    (number, counts[0] as usize)
 }
 
 /// A frame arrives. The number, and how many bytes stand in the two areas.
@@ -344,11 +346,8 @@ pub fn on_message(
     reps: &mut [u8],
 ) -> (u8, Counts) {
     let m = memory;
-    let mut counts = Counts {
-        messages: UNWRITTEN,
-        replies: UNWRITTEN,
-    };
-    // Safety: as in `create`; the two counts are places of their own.
+    let mut counts = [UNWRITTEN; 2];
+    // Safety: as in `recover`.
     let number = unsafe {
         whitherhaul_on_message(
             m.state.as_mut_ptr(),
@@ -373,21 +372,17 @@ pub fn on_message(
             out.len(),
             reps.as_mut_ptr(),
             reps.len(),
-            &mut counts.messages,
-            &mut counts.replies,
+            &mut counts,
         )
     };
-    (number, counts)
+    (number, Counts::of(counts))
 }
 
 /// Time has passed: a tick. The number, and how many bytes stand in the two areas.
 pub fn on_idle(memory: &mut Memory, out: &mut [u8], reps: &mut [u8]) -> (u8, Counts) {
     let m = memory;
-    let mut counts = Counts {
-        messages: UNWRITTEN,
-        replies: UNWRITTEN,
-    };
-    // Safety: as in `on_message`.
+    let mut counts = [UNWRITTEN; 2];
+    // Safety: as in `recover`.
     let number = unsafe {
         whitherhaul_on_idle(
             m.state.as_mut_ptr(),
@@ -410,11 +405,10 @@ pub fn on_idle(memory: &mut Memory, out: &mut [u8], reps: &mut [u8]) -> (u8, Cou
             out.len(),
             reps.as_mut_ptr(),
             reps.len(),
-            &mut counts.messages,
-            &mut counts.replies,
+            &mut counts,
         )
     };
-    (number, counts)
+    (number, Counts::of(counts))
 }
 
 /// A client's record for the first time. 0 or 1.
@@ -431,7 +425,7 @@ pub fn client_request(
     cents: u64,
     area: &mut [u8],
 ) -> (u8, u64, usize) {
-    let (mut request, mut written) = (u64::MAX, UNWRITTEN);
+    let mut answers = [UNWRITTEN; 2];
     // Safety: each pointer comes with the length of its own slice, or is a place of its own.
     let number = unsafe {
         whitherhaul_client_request(
@@ -442,26 +436,32 @@ pub fn client_request(
             cents,
             area.as_mut_ptr(),
             area.len(),
-            &mut request,
-            &mut written,
+            &mut answers,
         )
     };
-    (number, request, written)
+    let [request, written] = answers;
+    (number, request, written as usize)
 }
 
 /// A reply came for this request number, of this view. 0 or 1, and whether it answers the pending request.
 pub fn client_reply(record: &mut [u8], request: u64, view: u32) -> (u8, bool) {
-    let mut done = 255;
+    let mut answers = [UNWRITTEN];
     // Safety: as in `client_request`.
     let number = unsafe {
-        whitherhaul_client_reply(record.as_mut_ptr(), record.len(), request, view, &mut done)
+        whitherhaul_client_reply(
+            record.as_mut_ptr(),
+            record.len(),
+            request,
+            view,
+            &mut answers,
+        )
     };
-    (number, done != 0)
+    (number, answers[0] != 0)
 }
 
 /// No reply came for a while. The number (0, 1 or 9), and how many bytes stand in the area.
 pub fn client_idle(record: &[u8], area: &mut [u8]) -> (u8, usize) {
-    let mut written = UNWRITTEN;
+    let mut answers = [UNWRITTEN];
     // Safety: as in `client_request`.
     let number = unsafe {
         whitherhaul_client_idle(
@@ -469,27 +469,17 @@ pub fn client_idle(record: &[u8], area: &mut [u8]) -> (u8, usize) {
             record.len(),
             area.as_mut_ptr(),
             area.len(),
-            &mut written,
+            &mut answers,
         )
     };
-    (number, written)
+    (number, answers[0] as usize)
 }
 
 /// What a Reply says: view, client, request, outcome, total; none where the bytes are malformed.
 pub fn read_reply(frame: &[u8]) -> Option<(u32, u64, u64, u8, u64)> {
-    let (mut view, mut outcome) = (0, 0);
-    let (mut client, mut request, mut total) = (0, 0, 0);
+    let mut answers = [UNWRITTEN; 5];
     // Safety: as in `client_request`.
-    let number = unsafe {
-        whitherhaul_read_reply(
-            frame.as_ptr(),
-            frame.len(),
-            &mut view,
-            &mut client,
-            &mut request,
-            &mut outcome,
-            &mut total,
-        )
-    };
-    (number == 0).then_some((view, client, request, outcome, total))
+    let number = unsafe { whitherhaul_read_reply(frame.as_ptr(), frame.len(), &mut answers) };
+    let [view, client, request, outcome, total] = answers;
+    (number == 0).then_some((view as u32, client, request, outcome as u8, total))
 }

@@ -8,10 +8,10 @@ use Rattle.ffi.proofs.replicas.whitherhaul_on_message.Statement.{statem
 use Rattle.ffi.proofs.replicas.whitherhaul_on_message.Tie as tie
 
 returns : tie.Need-returns
-returns c = no-message (c .before .before .before .before .before .before .before .before .before .before .before .before .before .before .args .state .now) (c .before .before .before .before .before .before .before .before .before .before .before .before .before .before .args .frame .now) (lent (c .before .before .before .before .before .before .before .before .before .before .before .before .before .before .args .log .now) (c .before .before .before .before .before .before .before .before .before .before .before .before .before .before .args .results .now) (c .before .before .before .before .before .before .before .before .before .before .before .before .before .before .args .totals .now) (c .before .before .before .before .before .before .before .before .before .before .before .before .before .before .args .acks .now) (c .before .before .before .before .before .before .before .before .before .before .before .before .before .before .args .stored .now) (c .before .before .before .before .before .before .before .before .before .before .before .before .before .before .args .table .now) (c .before .before .before .before .before .before .before .before .before .before .before .before .before .before .args .old .now) (c .before .before .before .before .before .before .before .before .before .before .before .before .before .before .args .out .now) (c .before .before .before .before .before .before .before .before .before .before .before .before .before .before .args .reps .now)) (sym (c .before .state-ok .ensures) ∙ not-true (c .before .state-ok .result) (c .if1 .taken))
+returns c = no-message (c .before .before .before .before .before .before .before .before .before .before .before .before .before .before .before .args .state .now) (c .before .before .before .before .before .before .before .before .before .before .before .before .before .before .before .args .frame .now) (lent (c .before .before .before .before .before .before .before .before .before .before .before .before .before .before .before .args .log .now) (c .before .before .before .before .before .before .before .before .before .before .before .before .before .before .before .args .results .now) (c .before .before .before .before .before .before .before .before .before .before .before .before .before .before .before .args .totals .now) (c .before .before .before .before .before .before .before .before .before .before .before .before .before .before .before .args .acks .now) (c .before .before .before .before .before .before .before .before .before .before .before .before .before .before .before .args .stored .now) (c .before .before .before .before .before .before .before .before .before .before .before .before .before .before .before .args .table .now) (c .before .before .before .before .before .before .before .before .before .before .before .before .before .before .before .args .old .now) (c .before .before .before .before .before .before .before .before .before .before .before .before .before .before .before .args .out .now) (c .before .before .before .before .before .before .before .before .before .before .before .before .before .before .before .args .reps .now)) (sym (c .before .state-ok .ensures) ∙ not-true (c .before .state-ok .result) (c .if1 .taken))
 
 message-whole-requires : tie.Need-message-whole-requires
-message-whole-requires c κs = (sym (c .before .before .before .before .before .before .before .before .before .before .before .before .before .before .state-ok .ensures) ∙ not-false (c .before .before .before .before .before .before .before .before .before .before .before .before .before .before .state-ok .result) (c .before .before .before .before .before .before .before .before .before .before .before .before .before .if1 .left))
+message-whole-requires c κs = (sym (c .before .before .before .before .before .before .before .before .before .before .before .before .before .state-ok .ensures) ∙ not-false (c .before .before .before .before .before .before .before .before .before .before .before .before .before .state-ok .result) (c .before .before .before .before .before .before .before .before .before .before .before .before .if1 .left))
 
 same-length-2 : tie.Need-same-length-2
 same-length-2 c = c .before .before .before .before .before .before .before .before .before .before .before .before .before .before .before .before .before .before .before .before .message-whole .kept .0
@@ -47,19 +47,19 @@ returns-2 : tie.Need-returns-2
 returns-2 c = c .before .before .before .before .before .before .before .before .before .before .before .before .before .before .before .before .before .before .before .before .message-whole .ensures
 
 message-usual-requires : tie.Need-message-usual-requires
-message-usual-requires c κs = (sym (c .before .before .before .before .before .before .before .before .before .before .before .before .before .before .before .before .state-ok .ensures) ∙ not-false (c .before .before .before .before .before .before .before .before .before .before .before .before .before .before .before .before .state-ok .result) (c .before .before .before .before .before .before .before .before .before .before .before .before .before .before .before .if1 .left))
+message-usual-requires c κs = (sym (c .before .before .before .before .before .before .before .before .before .before .before .before .before .before .before .state-ok .ensures) ∙ not-false (c .before .before .before .before .before .before .before .before .before .before .before .before .before .before .before .state-ok .result) (c .before .before .before .before .before .before .before .before .before .before .before .before .before .before .if1 .left))
 
 message-usual-requires-2 : tie.Need-message-usual-requires-2
-message-usual-requires-2 c κs = (sym (c .before .before .before .before .before .before .before .before .before .before .before .before .before .before .before .before .state-ok .ensures) ∙ not-false (c .before .before .before .before .before .before .before .before .before .before .before .before .before .before .before .before .state-ok .result) (c .before .before .before .before .before .before .before .before .before .before .before .before .before .before .before .if1 .left))
+message-usual-requires-2 c κs = (sym (c .before .before .before .before .before .before .before .before .before .before .before .before .before .before .before .state-ok .ensures) ∙ not-false (c .before .before .before .before .before .before .before .before .before .before .before .before .before .before .before .state-ok .result) (c .before .before .before .before .before .before .before .before .before .before .before .before .before .before .if1 .left))
 
 message-usual-requires-3 : tie.Need-message-usual-requires-3
-message-usual-requires-3 c κs = (sym (c .before .before .before .before .before .before .before .before .before .before .before .before .before .before .before .before .state-ok .ensures) ∙ not-false (c .before .before .before .before .before .before .before .before .before .before .before .before .before .before .before .before .state-ok .result) (c .before .before .before .before .before .before .before .before .before .before .before .before .before .before .before .if1 .left))
+message-usual-requires-3 c κs = (sym (c .before .before .before .before .before .before .before .before .before .before .before .before .before .before .before .state-ok .ensures) ∙ not-false (c .before .before .before .before .before .before .before .before .before .before .before .before .before .before .before .state-ok .result) (c .before .before .before .before .before .before .before .before .before .before .before .before .before .before .if1 .left))
 
 message-usual-requires-4 : tie.Need-message-usual-requires-4
-message-usual-requires-4 c κs = (sym (c .before .before .before .before .before .before .before .before .before .before .before .before .before .before .before .before .state-ok .ensures) ∙ not-false (c .before .before .before .before .before .before .before .before .before .before .before .before .before .before .before .before .state-ok .result) (c .before .before .before .before .before .before .before .before .before .before .before .before .before .before .before .if1 .left))
+message-usual-requires-4 c κs = (sym (c .before .before .before .before .before .before .before .before .before .before .before .before .before .before .before .state-ok .ensures) ∙ not-false (c .before .before .before .before .before .before .before .before .before .before .before .before .before .before .before .state-ok .result) (c .before .before .before .before .before .before .before .before .before .before .before .before .before .before .if1 .left))
 
 message-whole-requires-2 : tie.Need-message-whole-requires-2
-message-whole-requires-2 c κs = (sym (c .before .before .before .before .before .before .before .before .before .before .before .before .before .before .before .before .state-ok .ensures) ∙ not-false (c .before .before .before .before .before .before .before .before .before .before .before .before .before .before .before .before .state-ok .result) (c .before .before .before .before .before .before .before .before .before .before .before .before .before .before .before .if1 .left))
+message-whole-requires-2 c κs = (sym (c .before .before .before .before .before .before .before .before .before .before .before .before .before .before .before .state-ok .ensures) ∙ not-false (c .before .before .before .before .before .before .before .before .before .before .before .before .before .before .before .state-ok .result) (c .before .before .before .before .before .before .before .before .before .before .before .before .before .before .if1 .left))
 
 same-length-12 : tie.Need-same-length-12
 same-length-12 c = c .before .before .before .before .before .before .before .before .before .before .before .before .before .before .before .before .before .before .before .before .message-usual .kept .0
