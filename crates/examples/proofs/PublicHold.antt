@@ -20,7 +20,8 @@ use Rattle.meaning.specs.State.Answer.{refused, done}
 use Rattle.meaning.specs.Sending.{messagesOut, repliesOut}
 use Rattle.meaning.specs.Book.{emptyBook}
 use Rattle.meaning.specs.Steps.{onFrame, onTick, newAt, create}
-use Rattle.replica.specs.Lent.{Lent, Called, called, noReplica}
+use Rattle.outside.specs.Sound.{noReplica}
+use Rattle.replica.specs.Lent.{Lent, Called, called}
 use Rattle.replica.specs.Promise.{Owned, Kept, Means, meaningOf, appliedAfter, frameAnswer, tickAnswer, CreatePromise}
 use Rattle.replica.specs.Demands.{HandedBack}
 use Rattle.replica.proofs.DemandLaws.{handed-means, handed-kept, next-means}

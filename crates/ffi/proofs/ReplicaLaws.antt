@@ -21,7 +21,8 @@ use Rattle.state.specs.declared.Replica.{Replica}
 use Rattle.state_bytes.specs.Layout.{stateOf, Onward, Clocked, stateOk, Holds}
 use Rattle.usual.specs.Usual.{isUsual, isLeading}
 use Rattle.usual.proofs.UsualLaws.{usual-onward, leading-clocked}
-use Rattle.replica.specs.Calls.{messageCall, idleCall, createCall, recoverCall}
+use Rattle.outside.specs.Creation.{Begun, createStep, recoverStep}
+use Rattle.replica.specs.Calls.{messageCall, idleCall, cleared, createCall, recoverCall}
 use Rattle.replica.specs.Lent.{Lent, Called, called}
 use Rattle.replica.specs.Promise.{MessagePromise, IdlePromise, CreatePromise, RecoverPromise}
 use Rattle.replica.specs.Demands.{Untouched}
@@ -137,8 +138,8 @@ not-0 e = absurd (omega (arith, e))
 
 -- a creation sends nothing
 create-sends : (u : Setup) (x : Lent) → (createCall u x .answer .messages ≡ 0) × (createCall u x .answer .replies ≡ 0)
-unfolding createCall
-create-sends u x = split (λ (d : Called). (d .answer .messages ≡ 0) × (d .answer .replies ≡ 0)) _ _ _ (λ _. (refl, refl)) (λ _. (refl, refl))
+unfolding createCall cleared createStep
+create-sends u x = split (λ (d : Begun). (d .answer .messages ≡ 0) × (d .answer .replies ≡ 0)) _ _ _ (λ _. (refl, refl)) (λ _. (refl, refl))
 
 module _ (u : Setup) (state : List ℕ) (x : Lent) where
   pub no-creation : (length state ≡ 146 → ⊥) → CreateRan u state x (ran 1 (0 ∷ 0 ∷ []) state x)

@@ -1,26 +1,22 @@
 -- Each way out of the outside calls, on plain variables, as the code's tests and calls give them.
 --     follow-refused, follow-done                 the client table
 --     stays-follow, followed-is                   what the core left, and the table behind it
---     unsound, malformed, passes                  a frame
+--     malformed, passes                           a frame
 --     idle-unsound, idle-done                     a tick
---     not-created, created; not-recovered, no-room, recovered    creation
+--     stays-cleared, is-cleared                   creation
 -- Assumes nothing.
 use mathlib.Core.Path.{_≡_, sym, ap, _∙_, subst}
 use mathlib.Core.Bool.{Bool, true, false, not}
 use mathlib.Core.List.{List}
-use Prim.Native.Nat.{ℕ, _≤_, _<_}
+use Prim.Native.Nat.{ℕ}
 use lib.ListN.{length, replicate}
-use borrow.Author.Tests.{lt-ltb, le-ltb, eq-eqb, ne-eqb}
+use borrow.Author.Tests.{eq-eqb, ne-eqb}
 use Rattle.numbers.specs.Words.{if_then_else_}
 use Rattle.numbers.specs.Numbers.{over}
-use Rattle.numbers.specs.declared.View.{View}
-use Rattle.numbers.proofs.WordLaws.{if-false}
 use Rattle.entries.specs.Entries.{entries}
 use Rattle.config.specs.Setup.{setupOk}
 use Rattle.config.specs.declared.Setup.{Setup}
 use Rattle.fees.specs.Results.{outcomes}
-use Rattle.frames.specs.Refusals.{checkFrame}
-use Rattle.frames.specs.declared.Status.the-variants.{Normal, Recovering}
 use Rattle.frames.specs.declared.Message.{Message}
 use Rattle.frames.specs.declared.Checked.{Checked}
 use Rattle.frames.specs.declared.Checked.the-variants.{Passed, Refused}
@@ -29,19 +25,19 @@ use Rattle.rows.specs.declared.Latest.{Latest}
 use Rattle.rows.specs.declared.Change.{Change}
 use Rattle.table.specs.Layout.{byteRow, rowsOf}
 use Rattle.table.specs.Steps.{Left, oldAfter}
-use Rattle.state.specs.State.{newIn}
-use Rattle.state.specs.Answers.{refusal, completed}
-use Rattle.state.specs.Lengths.{totalsLength, acksLength, tableLength}
+use Rattle.state.specs.Answers.{refusal}
+use Rattle.state.specs.Lengths.{tableLength}
 use Rattle.state.specs.declared.Answer.{Answer}
 use Rattle.state.specs.declared.Replica.{Replica}
-use Rattle.steps.specs.Steps.{spoke}
 use Rattle.do_view_change.specs.Record.{Recorded, recorded}
-use Rattle.book.specs.Memory.{Memory, memory}
-use Rattle.recovery.specs.Recovery.{recoveriesLength, recoveriesOf, recoveringTick}
+use Rattle.book.specs.Memory.{Memory}
 use Rattle.handlers.specs.Handlers.{messageStep, idleStep}
 use Rattle.handlers.proofs.Stays.{Stays}
-use Rattle.replica.specs.Calls.{latestFor, changeBy, tableAfter, tabled, followedBy, Following, withTable, following, checkedCall, messageCall, idleCall, emptied, createCall, recoverCall}
-use Rattle.replica.specs.Lent.{Lent, lent, Called, called, lengthsOf, creatable, sound, noReplica}
+use Rattle.outside.specs.Sound.{sound}
+use Rattle.outside.specs.Calls.{checkedOf, changeBy}
+use Rattle.outside.specs.Creation.{Begun, begun}
+use Rattle.replica.specs.Calls.{latestFor, tableAfter, tabled, followedBy, Following, withTable, following, checkedCall, messageCall, idleCall, cleared}
+use Rattle.replica.specs.Lent.{Lent, lent, Called, called, lengthsOf}
 
 -- ---- the client table
 
@@ -85,21 +81,16 @@ followed-is s d a m table old e q =
 
 -- ---- a frame
 
-module _ (s : Replica) (frame : List ℕ) (x : Lent) (b : Bool) (e : b ≡ sound s (lengthsOf x)) where
-  pub unsound : not b ≡ true → {a : Answer} → a ≡ refusal 1 s → called a x ≡ messageCall s frame x
-  unfolding messageCall if_then_else_
-  unsound h p = rw (← e, h, p)
+module _ (s : Replica) (frame : List ℕ) (x : Lent) (j : Checked) (q : j ≡ checkedOf s (lengthsOf x) frame) where
+  pub malformed : (k : ℕ) → j ≡ Refused k → {a : Answer} → a ≡ refusal k s → called a x ≡ messageCall s frame x
+  unfolding messageCall checkedCall
+  malformed k r p = rw (← q, r, p)
 
-  module _ (h : not b ≡ false) (j : Checked) (q : j ≡ checkFrame (s .setup) frame) where
-    pub malformed : (k : ℕ) → j ≡ Refused k → {a : Answer} → a ≡ refusal k s → called a x ≡ messageCall s frame x
-    unfolding messageCall checkedCall if_then_else_
-    malformed k r p = rw (← e, h, ← q, r, p)
+  pub passes : (m : Message) → j ≡ Passed m → {d : Called} → d ≡ checkedCall (Passed m) s frame x → d ≡ messageCall s frame x
+  unfolding messageCall
+  passes m r p = rw (← q, r) p
 
-    pub passes : (m : Message) → j ≡ Passed m → {d : Called} → d ≡ checkedCall (Passed m) s frame x → d ≡ messageCall s frame x
-    unfolding messageCall if_then_else_
-    passes m r p = rw (← e, h, ← q, r) p
-
--- that passed refusals 2 to 6
+-- that passed refusals 1 to 6
 pub taken : (s : Replica) (m : Message) (frame : List ℕ) (x : Lent) (l : Latest) → l ≡ latestFor m (s .setup .room) (x .table) → {d : Called}
     → d ≡ following s (x .table) (x .old) (messageStep m s l frame (x .core)) → d ≡ checkedCall (Passed m) s frame x
 unfolding checkedCall
@@ -118,49 +109,15 @@ module _ (s : Replica) (x : Lent) (b : Bool) (e : b ≡ sound s (lengthsOf x)) w
 
 -- ---- creation
 
-module _ (u : Setup) (log results totals acks stored table old out reps : List ℕ) (b : Bool)
-    (e : b ≡ creatable u (lengthsOf (lent log results totals acks stored table old out reps))) where
-  abbrev x : Lent
-  x = lent log results totals acks stored table old out reps
+module _ (u : Setup) (x : Lent) {a : Answer} {totals acks out : List ℕ} {d : Begun} (e : begun a totals acks out ≡ d) where
+  abbrev left : (table : List ℕ) → Called
+  left table =
+      called a (lent (x .core .runs .log) (x .core .runs .money .results) totals acks (x .core .stored) table (x .old) out (x .core .reps))
 
-  pub not-created : not b ≡ true → {a : Answer} (z : Replica) → z ≡ noReplica → a ≡ refusal 1 z → called a x ≡ createCall u x
-  unfolding createCall if_then_else_
-  not-created h z q p = rw (← e, h, p, q)
+  pub stays-cleared : (a .code ≡ 0 → ⊥) → left (x .table) ≡ cleared u x d
+  unfolding cleared if_then_else_
+  stays-cleared h = rw (← e, ne-eqb (a .code) 0 h)
 
-  module _ (h : not b ≡ false) {totals′ acks′ table′ : List ℕ} (t : totals′ ≡ over (replicate (totalsLength u) 0) totals)
-      (k : acks′ ≡ over (replicate (acksLength u) 0) acks) (r : table′ ≡ over (replicate (tableLength u) 0) table) where
-    pub created : {a : Answer} (s : Replica) → s ≡ newIn u Normal (record { 0 = 0 }) 0 → a ≡ completed s 0 0 false
-        → called a (lent log results totals′ acks′ stored table′ old out reps) ≡ createCall u x
-    unfolding createCall emptied if_then_else_
-    created s q p = rw (← e, h, p, q, t, k, r)
-
-    module _ (v : View) (nonce : ℕ) (s : Replica) (q : s ≡ newIn u Recovering v nonce) where
-      sends : recoveriesLength s ≤ length out → recoveringTick s out ≡ spoke (completed s (recoveriesLength s) 0 false) (over (recoveriesOf s) out)
-      unfolding recoveringTick
-      sends l = if-false _ _ _ (le-ltb (length out) (recoveriesLength s) l)
-
-      comes-back : recoveriesLength s ≤ length out
-          → called (completed s (recoveriesLength s) 0 false) (lent log results totals′ acks′ stored table′ old (over (recoveriesOf s) out) reps)
-          ≡ recoverCall u v nonce x
-      unfolding recoverCall emptied
-      comes-back l =
-          rw (t, k, r, q)
-          (sym
-          (if-false _ _ _ (ap not (sym e) ∙ h)
-          ∙ if-false _ _ _
-          (le-ltb (length out) (recoveriesLength (newIn u Recovering v nonce)) (subst (λ (y : Replica). recoveriesLength y ≤ length out) q l))))
-
-      pub recovered : recoveriesLength s ≤ length out → {a : Answer} {out′ : List ℕ} → spoke a out′ ≡ recoveringTick s out
-          → called a (lent log results totals′ acks′ stored table′ old out′ reps) ≡ recoverCall u v nonce x
-      recovered l p =
-          ap (λ z. called (z .answer) (lent log results totals′ acks′ stored table′ old (z .out) reps)) (p ∙ sends l) ∙ comes-back l
-
-  pub not-recovered : not b ≡ true → (v : View) (nonce : ℕ) {a : Answer} (z : Replica) → z ≡ noReplica → a ≡ refusal 1 z
-      → called a x ≡ recoverCall u v nonce x
-  unfolding recoverCall if_then_else_
-  not-recovered h v nonce z q p = rw (← e, h, p, q)
-
-  pub no-room : not b ≡ false → (v : View) (nonce : ℕ) → length out < recoveriesLength (newIn u Recovering v nonce) → {a : Answer} (z : Replica)
-      → z ≡ noReplica → a ≡ refusal 9 z → called a x ≡ recoverCall u v nonce x
-  unfolding recoverCall if_then_else_
-  no-room h v nonce l z q p = rw (← e, h, lt-ltb (length out) (recoveriesLength (newIn u Recovering v nonce)) l, p, q)
+  pub is-cleared : a .code ≡ 0 → {table : List ℕ} → table ≡ over (replicate (tableLength u) 0) (x .table) → left table ≡ cleared u x d
+  unfolding cleared if_then_else_
+  is-cleared h t = rw (← e, eq-eqb (a .code) 0 h, t)

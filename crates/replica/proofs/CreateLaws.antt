@@ -6,6 +6,8 @@ use mathlib.Core.Option.{Option, none}
 use Prim.Native.Nat.{ℕ, zero, suc, _+_, _*_, _<_}
 use native.Mathlib.Omega.{arith}
 use lib.ListN.{length, getD, replicate, length-replicate, getD-replicate, replicate-append-replicate}
+use borrow.Author.Tests.{eq-eqb, ne-eqb}
+use Rattle.numbers.specs.Words.{if_then_else_}
 use Rattle.numbers.specs.Numbers.{num, over}
 use Rattle.numbers.specs.Cells.{cells}
 use Rattle.numbers.specs.declared.View.{View}
@@ -19,8 +21,10 @@ use Rattle.frames.specs.declared.Status.{Status}
 use Rattle.table.specs.Layout.{noRow, byteRow, rowsOf}
 use Rattle.table.proofs.LayoutLaws.{left-cleared, byte-lawful}
 use Rattle.state.specs.State.{newIn}
+use Rattle.state.specs.Answers.{refusal}
 use Rattle.state.specs.Statuses.{isRecovering, noReport}
 use Rattle.state.specs.Lengths.{acksLength, totalsLength, tableLength}
+use Rattle.state.specs.declared.Answer.{Answer}
 use Rattle.state.specs.declared.Replica.{Replica}
 use Rattle.handlers.proofs.Held.{none-ok}
 use Rattle.meaning.specs.State.{Report, Response}
@@ -34,10 +38,35 @@ use Rattle.meaning.proofs.TableLift.{blank-means}
 use Rattle.meaning.proofs.StepLift.{reports-cleared, responses-cleared}
 use Rattle.meaning.proofs.StartViewLift.{over-all}
 use Rattle.safety.specs.Demand.{Created, run}
-use Rattle.replica.specs.Calls.{emptied}
-use Rattle.replica.specs.Lent.{Lent, lengthsOf, sound}
+use Rattle.outside.specs.Sound.{sound}
+use Rattle.outside.specs.Creation.{begun, zeroed}
+use Rattle.outside.proofs.SoundLaws.{Long, is-sound}
+use Rattle.replica.specs.Calls.{cleared}
+use Rattle.replica.specs.Lent.{Lent, lent, called, lengthsOf}
 use Rattle.replica.specs.Promise.{meaningOf, Kept}
-use Rattle.replica.proofs.SoundLaws.{Long, is-sound}
+
+-- ---- what it leaves
+
+-- one that isn't refused: totals, acks and table are zeroed, the other runs stay as they were
+unfoldable pub emptied : Setup → Lent → (out : List ℕ) → Lent
+emptied u x out =
+    lent (x .core .runs .log) (x .core .runs .money .results)
+    (over (replicate (totalsLength u) 0) (x .core .runs .money .totals))
+    (over (replicate (acksLength u) 0) (x .core .acks))
+    (x .core .stored)
+    (over (replicate (tableLength u) 0) (x .table))
+    (x .old) out (x .core .reps)
+
+module _ (u : Setup) (x : Lent) where
+  pub cleared-refused : (k : ℕ) (z : Replica) → (k ≡ 0 → ⊥)
+      → cleared u x (begun (refusal k z) (x .core .runs .money .totals) (x .core .acks) (x .core .out)) ≡ called (refusal k z) x
+  unfolding cleared if_then_else_
+  cleared-refused k z h = rw (ne-eqb k 0 h)
+
+  pub cleared-done : (a : Answer) (out : List ℕ) → a .code ≡ 0
+      → cleared u x (zeroed u a (x .core .runs .money .totals) (x .core .acks) out) ≡ called a (emptied u x out)
+  unfolding cleared emptied if_then_else_
+  cleared-done a out h = rw (eq-eqb (a .code) 0 h)
 
 zero-totals : (k : ℕ) (rest : List ℕ) → cells 8 totalOf k (replicate (8 * k) 0 ++ rest) ≡ replicate k 0
 unfolding cells num
@@ -101,7 +130,7 @@ module _ (u : Setup) (x : Lent) (out : List ℕ) (ok : setupOk u ≡ true) (long
   new-sound : sound t (lengthsOf y) ≡ true
   unfolding emptied
   new-sound =
-      is-sound t y
+      is-sound t (y .core) (length (y .table)) (length (y .old))
       record {
         gathering =
             record {

@@ -4,19 +4,15 @@
 --     chain-goes, demand-3, demand-3-recovered             demand 3, from any state that calls produced, and from a creation
 -- Assumes nothing.
 use mathlib.Core.Path.{_≡_, refl, sym, ap, _∙_, subst}
-use mathlib.Core.Bool.{Bool, true, false, not}
+use mathlib.Core.Bool.{not}
 use mathlib.Core.List.{List, [], _∷_}
 use Prim.Native.Nat.{ℕ}
 use lib.Dec.{eqb}
-use lib.ListN.{length}
 use borrow.Author.Tests.{eqb-true, not-false}
-use Rattle.numbers.specs.Words.{if_then_else_}
-use Rattle.numbers.specs.Numbers.{Bytes}
 use Rattle.numbers.specs.declared.View.{View}
 use Rattle.numbers.proofs.WordLaws.{split}
 use Rattle.entries.specs.declared.Entry.{Entry}
 use Rattle.config.specs.declared.Setup.{Setup}
-use Rattle.frames.specs.Refusals.{checkFrame}
 use Rattle.frames.specs.declared.Checked.{Checked}
 use Rattle.frames.specs.declared.Checked.the-variants.{Passed, Refused}
 use Rattle.table.specs.Steps.{oldAfter}
@@ -31,8 +27,9 @@ use Rattle.meaning.specs.Layout.{bookOf, modelOf}
 use Rattle.safety.specs.Demand.{Call, answer, run, Safe, Later}
 use Rattle.safety.specs.Demand.Call.{frame, tick}
 use Rattle.safety.proofs.Runs.{demand3}
-use Rattle.replica.specs.Calls.{latestFor, changeBy, tableAfter, Tabled, tabled, followedBy, withTable, following, checkedCall, messageCall, idleCall}
-use Rattle.replica.specs.Lent.{Lent, Called, called}
+use Rattle.outside.specs.Calls.{checkedOf, changeBy}
+use Rattle.replica.specs.Calls.{latestFor, tableAfter, Tabled, tabled, followedBy, withTable, following, checkedCall, messageCall, idleCall}
+use Rattle.replica.specs.Lent.{Lent, Called, called, lengthsOf}
 use Rattle.replica.specs.Promise.{Reached, Kept, Means, meaningOf, appliedAfter, frameAnswer, tickAnswer, MessagePromise, IdlePromise, CreatePromise, RecoverPromise}
 use Rattle.replica.specs.Demands.{Untouched, HandedBack, Link, Chain, GoesOn}
 use Rattle.replica.specs.Demands.Link.{message, tick as idled}
@@ -76,7 +73,7 @@ module _ (s : Replica) (x : Lent) where
 
   pub message-untouched : (f : List ℕ) (d : Called) → MessagePromise s f x d → Untouched s x d
   unfolding messageCall
-  message-untouched f d p = subst (Untouched s x) (sym (p .exact)) (split (Untouched s x) _ _ _ (λ _. refuses 1) (λ _. checks f (checkFrame (s .setup) f)))
+  message-untouched f d p = subst (Untouched s x) (sym (p .exact)) (checks f (checkedOf s (lengthsOf x) f))
 
   pub tick-untouched : (d : Called) → IdlePromise s x d → Untouched s x d
   unfolding idleCall

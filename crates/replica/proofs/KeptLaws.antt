@@ -10,6 +10,7 @@ use mathlib.Core.List.{List, [], _∷_, _++_}
 use Prim.Native.Nat.{ℕ, _≤_}
 use native.Mathlib.Omega.{arith}
 use lib.ListN.{length}
+use Rattle.numbers.specs.Words.{if_then_else_}
 use Rattle.numbers.proofs.CellLaws.{cells-length}
 use Rattle.entries.specs.Entries.{entryOf, entries}
 use Rattle.entries.specs.declared.Entry.{Entry}
@@ -42,10 +43,11 @@ use Rattle.meaning.proofs.HandlersLift.{RowTells, Fit}
 use Rattle.safety.specs.Demand.{Call, answer, run, Safe}
 use Rattle.safety.proofs.Runs.{demand3}
 use Rattle.safety.proofs.Latest.{safe-rising, safe-latest}
-use Rattle.replica.specs.Calls.{changeBy, tableAfter, following, latestFor}
+use Rattle.outside.specs.Calls.{carriedBy, toldOf, changeBy}
+use Rattle.outside.proofs.SoundLaws.{Whole, sound-is, is-sound}
+use Rattle.replica.specs.Calls.{tableAfter, following, latestFor}
 use Rattle.replica.specs.Lent.{Lent, Called, called}
 use Rattle.replica.specs.Promise.{runsOf, meaningOf, Owned, Reached, Kept, Done, Means, appliedAfter}
-use Rattle.replica.proofs.SoundLaws.{Whole, sound-is, is-sound}
 use Rattle.replica.proofs.TableLaws.{refused-follows, done-follows, table-after, old-after}
 
 -- ---- one call more
@@ -78,8 +80,8 @@ module _ (s : Replica) (x : Lent) (applied : List Entry) (o : Owned x) (k : Kept
   abbrev m : State
   m = meaningOf s x applied
 
-  pub whole : Whole s x
-  whole = sound-is s x (k .sound)
+  pub whole : Whole s (x .core) (length (x .table)) (length (x .old))
+  whole = sound-is s (x .core) (length (x .table)) (length (x .old)) (k .sound)
 
   safe : Safe (s .setup) m
   safe =
@@ -103,11 +105,11 @@ module _ (s : Replica) (x : Lent) (applied : List Entry) (o : Owned x) (k : Kept
       }
 
   tells : (e : Entry) → RowTells rows (Request e) (latestFor (Request e) (s .setup .room) (x .table))
-  unfolding latestFor
+  unfolding latestFor toldOf carriedBy if_then_else_
   tells e = found-tells (rowsOf (s .setup .room) (x .table)) (e .client) (k .ordered)
 
   pub row-tells : (y : Message) → RowTells rows y (latestFor y (s .setup .room) (x .table))
-  unfolding latestFor
+  unfolding latestFor toldOf carriedBy if_then_else_
   row-tells (Request e) = tells e
   row-tells (Prepare v a c e) = tells e
   row-tells (PrepareOk v a r) = tt
@@ -172,7 +174,7 @@ module _ (s : Replica) (x : Lent) (applied : List Entry) (o : Owned x) (k : Kept
     state-is =
         ap (λ (l : List Row). modelOf t (runsOf left) l (m′ .book .applied)) (ap (tableOf byteRow) rows-are ∙ means .table) ∙ did .state
 
-    left-whole : Whole t left
+    left-whole : Whole t (left .core) (length (left .table)) (length (left .old))
     left-whole =
         record {
           gathering = stays .gathering;
@@ -187,7 +189,7 @@ module _ (s : Replica) (x : Lent) (applied : List Entry) (o : Owned x) (k : Kept
     left-kept : Reached (s .setup) m′ → Kept t left (m′ .book .applied)
     left-kept r =
         record {
-          sound = is-sound t left left-whole;
+          sound = is-sound t (left .core) (length (left .table)) (length (left .old)) left-whole;
           log-ok = ruled .log;
           rows-count = ruled .seven;
           stored-ok = ruled .stored;

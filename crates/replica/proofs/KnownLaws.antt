@@ -1,5 +1,5 @@
 -- What is known of the client whose entry a message carries. A Request or Prepare appends no more than this entry, and installs no log.
---     none-known               of a message that carries none
+--     his-known, none-known    of a message that carries one, and of one that carries none
 --     still-one, entry-back    nothing appended; an entry that was appended, read back
 --     appends                  what was found of its client is what the append asks for
 -- Assumes nothing.
@@ -25,7 +25,7 @@ use Rattle.frames.specs.declared.Checked.the-variants.{Passed}
 use Rattle.rows.specs.declared.Latest.{Latest}
 use Rattle.table.specs.declared.Found.{Found}
 use Rattle.table.specs.Layout.{rowsOf}
-use Rattle.table.specs.Steps.{foundIn, AppendsFor}
+use Rattle.table.specs.Steps.{foundIn, latestOf, AppendsFor}
 use Rattle.book.specs.Log.{withEntries}
 use Rattle.book.specs.Memory.{Memory}
 use Rattle.state.specs.declared.Answer.{Answer}
@@ -45,13 +45,36 @@ use Rattle.normal.specs.declared.request.Call.the-variants as Calls
 use Rattle.do_view_change.specs.Record.{Recorded, recorded, Gathering}
 use Rattle.handlers.specs.Handlers.{preparedBy, handled, messageStep}
 use Rattle.handlers.proofs.FrameLaws.{request-ok, prepare-ok}
+use Rattle.outside.specs.Calls.{carriedBy, nobody, changeBy}
+use Rattle.outside.specs.declared.call.Carried.{Carried}
+use Rattle.outside.proofs.CallLaws.{told-his, told-other}
 use Rattle.replica.specs.declared.call.Known.{Known}
-use Rattle.replica.specs.Calls.{nobody, latestFor, carriesEntry, clientOf, KnownFor, changeBy}
+use Rattle.replica.specs.Calls.{latestFor, KnownFor}
 
-pub none-known : {m : Message} {n : ℕ} {table : List ℕ} {k : Known} → carriesEntry m ≡ false → latestFor m n table ≡ nobody
-    → (k .carries ≡ false) × (k .latest ≡ nobody) → KnownFor m n table k
-none-known e l h =
-    record { carries = h .0 ∙ sym e; found = λ t. absurd (false≢true (sym e ∙ t)); latest = h .1 ∙ sym l }
+module _ {m : Message} {n : ℕ} {table : List ℕ} {k : Known} (c : Carried) (e : c ≡ carriedBy m) where
+  pub his-known : c .carries ≡ true
+      → (k .carries ≡ true)
+      × ((k .found ≡ foundIn (rowsOf n table) (c .client)) × (k .latest ≡ latestOf (foundIn (rowsOf n table) (c .client))))
+      → KnownFor m n table k
+  unfolding latestFor
+  his-known t h =
+      let is = ap (λ (z : Carried). foundIn (rowsOf n table) (z .client)) e in
+      let his = ap (λ (z : Carried). z .carries) (sym e) ∙ t in
+      record {
+        carries = h .0 ∙ sym his;
+        found = λ _. h .1 .0 ∙ is;
+        latest = h .1 .1 ∙ ap latestOf is ∙ sym (told-his m _ his);
+      }
+
+  pub none-known : c .carries ≡ false → (k .carries ≡ false) × (k .latest ≡ nobody) → KnownFor m n table k
+  unfolding latestFor
+  none-known t h =
+      let his = ap (λ (z : Carried). z .carries) (sym e) ∙ t in
+      record {
+        carries = h .0 ∙ sym his;
+        found = λ y. absurd (false≢true (sym his ∙ y));
+        latest = h .1 ∙ sym (told-other m _ his);
+      }
 
 -- no more than one entry behind those of s, and it is of client c
 record One (s : Replica) (c : ℕ) (a : Answer) (log : List ℕ) : Type 0 where
@@ -134,8 +157,8 @@ abbrev OneBy : Replica → ℕ → Recorded → Type 0
 OneBy s c d = One s c (d .answer) (d .memory .runs .log)
 
 handled-one : (x : Message) (s : Replica) (latest : Latest) (frame : List ℕ) (m : Memory) → Gathering s m → Bytes frame
-    → checkFrame (s .setup) frame ≡ Passed x → carriesEntry x ≡ true → OneBy s (clientOf x) (handled x s latest frame m)
-unfolding handled carriesEntry clientOf
+    → checkFrame (s .setup) frame ≡ Passed x → carriedBy x .carries ≡ true → OneBy s (carriedBy x .client) (handled x s latest frame m)
+unfolding handled carriedBy
 handled-one (Request e) s latest frame m g b ok h = request-one s m g e latest (request-ok (s .setup) frame e ok b .0)
 handled-one (Prepare v o c e) s latest frame m g b ok h =
     prepare-one s m g v (preparedBy o c e latest) (prepare-ok (s .setup) frame v o c e ok b .0)
@@ -150,18 +173,18 @@ handled-one (Recovery r x v) s latest frame m g b ok h = absurd (false≢true h)
 handled-one (RecoveryResponse v x r t) s latest frame m g b ok h = absurd (false≢true h)
 
 message-one : (x : Message) (s : Replica) (latest : Latest) (frame : List ℕ) (m : Memory) → Gathering s m → Bytes frame
-    → checkFrame (s .setup) frame ≡ Passed x → carriesEntry x ≡ true → OneBy s (clientOf x) (messageStep x s latest frame m)
+    → checkFrame (s .setup) frame ≡ Passed x → carriedBy x .carries ≡ true → OneBy s (carriedBy x .client) (messageStep x s latest frame m)
 unfolding messageStep
 message-one x s latest frame m g b ok h =
-    split (OneBy s (clientOf x)) _ _ _ (λ _. handled-one x s latest frame m g b ok h) (λ _. still-one refl refl)
+    split (OneBy s (carriedBy x .client)) _ _ _ (λ _. handled-one x s latest frame m g b ok h) (λ _. still-one refl refl)
 
 pub appends : (x : Message) (s : Replica) (latest : Latest) (frame : List ℕ) (m : Memory) → Gathering s m → Bytes frame
-    → checkFrame (s .setup) frame ≡ Passed x → carriesEntry x ≡ true
+    → checkFrame (s .setup) frame ≡ Passed x → carriedBy x .carries ≡ true
     → (a : Answer) (m′ : Memory) → recorded a m′ ≡ messageStep x s latest frame m
-    → (f : Found) (table : List ℕ) → f ≡ foundIn (rowsOf (s .setup .room) table) (clientOf x)
+    → (f : Found) (table : List ℕ) → f ≡ foundIn (rowsOf (s .setup .room) table) (carriedBy x .client)
     → AppendsFor (s .setup .room) (changeBy s a) f table (m′ .runs .log)
 appends x s latest frame m g b ok h a m′ e f table p =
-    let o = subst (OneBy s (clientOf x)) (sym e) (message-one x s latest frame m g b ok h) in
+    let o = subst (OneBy s (carriedBy x .client)) (sym e) (message-one x s latest frame m g b ok h) in
     record {
       kept = o .kept;
       one = o .one;

@@ -1,4 +1,3 @@
-pub mod SoundLaws
 pub mod RowLaws
 pub mod TableLaws
 pub mod KeptLaws

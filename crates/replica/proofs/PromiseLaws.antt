@@ -23,8 +23,9 @@ use Rattle.meaning.specs.Steps.{fitted, onChecked, onIdle, onFrame, onTick}
 use Rattle.meaning.proofs.HandlersLift.{message-shown, idle-shown}
 use Rattle.safety.specs.Demand.{answer}
 use Rattle.safety.specs.Demand.Call.{frame as framed, tick}
+use Rattle.outside.proofs.CallLaws.{past-1}
 use Rattle.replica.specs.Calls.{latestFor, following, checkedCall, messageCall, idleCall, createCall, recoverCall}
-use Rattle.replica.specs.Lent.{Lent, Called}
+use Rattle.replica.specs.Lent.{Lent, Called, lengthsOf}
 use Rattle.replica.specs.Promise.{meaningOf, Owned, Reached, Kept, frameAnswer, tickAnswer}
 use Rattle.replica.specs.Promise.{MessagePromise, IdlePromise, CreatePromise, RecoverPromise}
 use Rattle.replica.proofs.KeptLaws.{goes-on, Promised, given, rows, whole, never-1, fit, row-tells, refused-kept, step-kept}
@@ -58,7 +59,7 @@ module _ (s : Replica) (x : Lent) (applied : List Entry) (o : Owned x) (k : Kept
 
     call-is : messageCall s frame x ≡ checkedCall (checkFrame u frame) s frame x
     unfolding messageCall
-    call-is = if-false _ _ _ (ap not (k .sound))
+    call-is = ap (λ (y : Checked). checkedCall y s frame x) (past-1 s (lengthsOf x) frame (k .sound))
 
     checked-kept : (y : Checked) → checkFrame u frame ≡ y → Reached u (after m (says y)) → Promised s x m (checkedCall y s frame x) (says y)
     unfolding checkedCall onChecked fitted

@@ -20,7 +20,7 @@ use Rattle.frames.specs.declared.Status.the-variants.{Normal, Recovering}
 use Rattle.frames.specs.declared.Message.the-variants.{Recovery}
 use Rattle.writers.specs.Writers.{sizeOf, lengthOf}
 use Rattle.state.specs.State.{newIn}
-use Rattle.state.specs.Answers.{completed, quiet}
+use Rattle.state.specs.Answers.{refusal, completed, quiet}
 use Rattle.state.specs.declared.Replica.{Replica}
 use Rattle.reports.proofs.RowLaws.{both}
 use Rattle.steps.proofs.SendLaws.{bare-long}
@@ -33,11 +33,13 @@ use Rattle.meaning.specs.Steps.{newAt, create, recover}
 use Rattle.meaning.proofs.SendLift.{bare-bytes, sends-only}
 use Rattle.meaning.proofs.StartViewLift.{by-not}
 use Rattle.safety.specs.Demand.Created.{new, back}
-use Rattle.replica.specs.Calls.{emptied, createCall, recoverCall}
-use Rattle.replica.specs.Lent.{Lent, Called, called, lengthsOf, lengthsOk, creatable, noReplica}
+use Rattle.outside.specs.Sound.{lengthsOk, creatable, noReplica}
+use Rattle.outside.specs.Creation.{Begun, begun, createStep, recoverStep}
+use Rattle.outside.proofs.SoundLaws.{Long, long-is}
+use Rattle.replica.specs.Calls.{cleared, createCall, recoverCall}
+use Rattle.replica.specs.Lent.{Lent, Called, called, lengthsOf}
 use Rattle.replica.specs.Promise.{Kept, Done, Means}
-use Rattle.replica.proofs.SoundLaws.{Long, long-is}
-use Rattle.replica.proofs.CreateLaws.{new-reads, new-kept}
+use Rattle.replica.proofs.CreateLaws.{emptied, cleared-refused, cleared-done, new-reads, new-kept}
 
 -- ---- creation
 
@@ -77,18 +79,34 @@ module _ (u : Setup) (x : Lent) where
   unfolding create
   create-is ok = if-true _ _ _ ok
 
+  -- what is left, by the runs that a creation writes
+  abbrev MeansBy : Begun → Answer → Type 0
+  MeansBy d a = Means u noReplica x (cleared u x d) a
+
+  abbrev KeptBy : Begun → Type 0
+  KeptBy d = cleared u x d .answer .code ≡ 0 → Kept (cleared u x d .answer .state) (cleared u x d .lent) []
+
+  abbrev KeptIn : Called → Type 0
+  KeptIn d = d .answer .code ≡ 0 → Kept (d .answer .state) (d .lent) []
+
+  refused-kept : (k : ℕ) → (k ≡ 0 → ⊥) → KeptBy (begun (refusal k noReplica) (x .core .runs .money .totals) (x .core .acks) (x .core .out))
+  refused-kept k n = subst KeptIn (sym (cleared-refused u x k noReplica n)) (λ e. absurd (n e))
+
   pub create-means : lengthsOk u (lengthsOf x) ≡ true → Means u noReplica x (createCall u x) (create u)
-  unfolding createCall create
+  unfolding createCall createStep create
   create-means l =
       subst (Means u noReplica x (createCall u x)) (sym (by-not (setupOk u) (done (newAt u Normal 0 0) [] []) (refused 1)))
-      (split₂ (Means u noReplica x) _ _ _ _ _ _ (ap not (by-setup l)) (λ _. refl)
-      (λ f. created-done (setup-ok f) (long f)))
+      (split₂ MeansBy _ _ _ _ _ _ (ap not (by-setup l)) (λ _. cleared-refused u x 1 noReplica (λ e. omega (arith, e)))
+      (λ f.
+      subst (λ (d : Called). Done u x d (newAt u Normal 0 0) [] []) (sym (cleared-done u x _ _ refl)) (created-done (setup-ok f) (long f))))
 
   pub create-keeps : createCall u x .answer .code ≡ 0 → Kept (createCall u x .answer .state) (createCall u x .lent) []
-  unfolding createCall
+  unfolding createCall createStep
   create-keeps =
-      split (λ (d : Called). d .answer .code ≡ 0 → Kept (d .answer .state) (d .lent) []) _ _ _ (λ _ e. absurd (omega (arith, e)))
-      (λ f _. new-kept u x (x .core .out) (setup-ok f) (long f) Normal (record { 0 = 0 }) 0 (new [] [] (create-is (setup-ok f))))
+      split KeptBy _ _ _ (λ _. refused-kept 1 (λ e. omega (arith, e)))
+      (λ f.
+      subst KeptIn (sym (cleared-done u x _ _ refl))
+      (λ _. new-kept u x (x .core .out) (setup-ok f) (long f) Normal (record { 0 = 0 }) 0 (new [] [] (create-is (setup-ok f)))))
 
 -- ---- recovery
 
@@ -136,21 +154,26 @@ module _ (u : Setup) (v : View) (nonce : ℕ) (x : Lent) where
 
   pub recover-means : lengthsOk u (lengthsOf x) ≡ true
       → Means u noReplica x (recoverCall u v nonce x) (recover u (v .0) nonce (length (x .core .out)))
-  unfolding recoverCall
+  unfolding recoverCall recoverStep
   recover-means l =
       subst (Means u noReplica x (recoverCall u v nonce x)) (sym answer-is)
-      (split₂ (Means u noReplica x) _ _ _ _ _ _ (ap not (by-setup u x l)) (λ _. refl) λ f.
-      split₂ (Means u noReplica x) _ _ _ _ _ _ (ap (ltb (length (x .core .out))) (sym (sent-long (setup-ok u x f)))) (λ _. refl)
-      (λ _. recovering-done (setup-ok u x f) (long u x f)))
+      (split₂ (MeansBy u x) _ _ _ _ _ _ (ap not (by-setup u x l)) (λ _. cleared-refused u x 1 noReplica (λ e. omega (arith, e))) λ f.
+      split₂ (MeansBy u x) _ _ _ _ _ _ (ap (ltb (length (x .core .out))) (sym (sent-long (setup-ok u x f))))
+      (λ _. cleared-refused u x 9 noReplica (λ e. omega (arith, e)))
+      (λ _.
+      subst (λ (d : Called). Done u x d m₀ (sendRecovery u m₀) []) (sym (cleared-done u x _ _ refl))
+      (recovering-done (setup-ok u x f) (long u x f))))
 
   pub recover-keeps : recoverCall u v nonce x .answer .code ≡ 0 → Kept (recoverCall u v nonce x .answer .state) (recoverCall u v nonce x .lent) []
-  unfolding recoverCall
+  unfolding recoverCall recoverStep
   recover-keeps =
-      split (λ (d : Called). d .answer .code ≡ 0 → Kept (d .answer .state) (d .lent) []) _ _ _ (λ _ e. absurd (omega (arith, e))) λ f.
-      split (λ (d : Called). d .answer .code ≡ 0 → Kept (d .answer .state) (d .lent) []) _ _ _ (λ _ e. absurd (omega (arith, e)))
-      (λ g _.
+      split (KeptBy u x) _ _ _ (λ _. refused-kept u x 1 (λ e. omega (arith, e))) λ f.
+      split (KeptBy u x) _ _ _ (λ _. refused-kept u x 9 (λ e. omega (arith, e)))
+      (λ g.
+      subst (KeptIn u x) (sym (cleared-done u x _ _ refl))
+      (λ _.
       new-kept u x _ (setup-ok u x f) (long u x f) Recovering v nonce
-      (back (v .0) nonce (length (x .core .out)) (sendRecovery u m₀) [] (is (setup-ok u x f) g)))
+      (back (v .0) nonce (length (x .core .out)) (sendRecovery u m₀) [] (is (setup-ok u x f) g))))
     where
       is : setupOk u ≡ true → ltb (length (x .core .out)) (recoveriesLength t) ≡ false
           → recover u (v .0) nonce (length (x .core .out)) ≡ sent

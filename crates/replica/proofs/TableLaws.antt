@@ -31,7 +31,8 @@ use Rattle.state.specs.declared.Replica.{Replica}
 use Rattle.do_view_change.specs.Record.{Recorded, recorded}
 use Rattle.book.specs.Memory.{Memory}
 use Rattle.safety.proofs.Ranges.{entries-fit}
-use Rattle.replica.specs.Calls.{changeBy, tableAfter, Tabled, followedBy, withTable, following}
+use Rattle.outside.specs.Calls.{changeBy}
+use Rattle.replica.specs.Calls.{tableAfter, Tabled, followedBy, withTable, following}
 use Rattle.replica.specs.Lent.{called}
 use Rattle.replica.proofs.RowLaws.{rows-fit, results-fit, followed-fits, read-back}
 

@@ -2,24 +2,20 @@
 -- everything that is lent. Refusals in document 01's order: 1; 2 to 6 on the frame alone; the Rust's early returns and the later causes in the
 -- handlers; 9, 10. Assumes nothing.
 use mathlib.Core.Path.{_≡_}
-use mathlib.Core.Bool.{Bool, true, false, not}
+use mathlib.Core.Bool.{true, not}
 use mathlib.Core.List.{List, _++_}
 use Prim.Native.Nat.{ℕ, _*_, _≤_}
-use lib.Dec.{ltb, eqb}
-use lib.ListN.{length, drop, replicate}
-use Rattle.numbers.specs.Words.{if_then_else_, _and_}
+use lib.Dec.{eqb}
+use lib.ListN.{drop, replicate}
+use Rattle.numbers.specs.Words.{if_then_else_}
 use Rattle.numbers.specs.Numbers.{over}
 use Rattle.numbers.specs.Cells.{packed}
 use Rattle.numbers.specs.declared.View.{View}
 use Rattle.entries.specs.Entries.{entries}
-use Rattle.entries.specs.declared.Entry.{Entry}
 use Rattle.config.specs.Setup.{setupOk}
 use Rattle.config.specs.declared.Setup.{Setup}
 use Rattle.fees.specs.Results.{outcomes}
-use Rattle.frames.specs.Refusals.{checkFrame}
-use Rattle.frames.specs.declared.Status.the-variants.{Normal, Recovering}
 use Rattle.frames.specs.declared.Message.{Message}
-use Rattle.frames.specs.declared.Message.the-variants.{Request, Prepare, PrepareOk, Commit, GetState, NewState, StartViewChange, DoViewChange, StartView, Recovery, RecoveryResponse}
 use Rattle.frames.specs.declared.Checked.{Checked}
 use Rattle.frames.specs.declared.Checked.the-variants.{Passed, Refused}
 use Rattle.rows.specs.Rows.{followed}
@@ -27,77 +23,27 @@ use Rattle.rows.specs.declared.Latest.{Latest}
 use Rattle.rows.specs.declared.Change.{Change}
 use Rattle.table.specs.Layout.{byteRow, encodeRow, rowsOf}
 use Rattle.table.specs.Steps.{foundIn, latestOf, oldAfter}
-use Rattle.state.specs.State.{newIn}
-use Rattle.state.specs.Answers.{refusal, completed, quiet}
-use Rattle.state.specs.Lengths.{logLength, resultsLength, acksLength, totalsLength, tableLength}
+use Rattle.state.specs.Answers.{refusal}
+use Rattle.state.specs.Lengths.{logLength, resultsLength, tableLength}
 use Rattle.state.specs.declared.Answer.{Answer}
 use Rattle.state.specs.declared.Replica.{Replica}
-use Rattle.book.specs.Memory.{Memory, memory}
+use Rattle.book.specs.Memory.{Memory}
 use Rattle.do_view_change.specs.Record.{Recorded}
-use Rattle.recovery.specs.Recovery.{recoveriesLength, recoveriesOf}
 use Rattle.handlers.specs.Handlers.{messageStep, idleStep}
+use Rattle.outside.specs.Sound.{sound}
+use Rattle.outside.specs.Calls.{checkedOf, carriedBy, toldOf, changeBy}
+use Rattle.outside.specs.Creation.{Begun, memoryAfter, createStep, recoverStep}
 use Rattle.replica.specs.declared.call.Known.{Known}
-use Rattle.replica.specs.Lent.{Lent, lent, Called, called, lengthsOf, creatable, sound, noReplica}
+use Rattle.replica.specs.Lent.{Lent, Called, called, lengthsOf}
 
--- a client of whom nothing is known
-abbrev pub nobody : Latest
-nobody = record { there = false; request = 0; replied = false; reply = record { code = 0; total = 0 } }
-
--- the row of a client among the first n
-abbrev pub latestIn : (n : ℕ) (table : List ℕ) → Entry → Latest
-latestIn n table e = latestOf (foundIn (rowsOf n table) (e .client))
-
--- of the client whose entry a message carries; only a Request and a Prepare ask
+-- what is known of the client whose entry a message carries, by his row among the first n
 unfoldable pub latestFor : Message → (n : ℕ) (table : List ℕ) → Latest
-latestFor (Request e) n table = latestIn n table e
-latestFor (Prepare v o c e) n table = latestIn n table e
-latestFor (PrepareOk v o r) n table = nobody
-latestFor (Commit v c) n table = nobody
-latestFor (GetState r v o) n table = nobody
-latestFor (NewState v a z c) n table = nobody
-latestFor (StartViewChange v r) n table = nobody
-latestFor (DoViewChange v r l o c) n table = nobody
-latestFor (StartView v o c) n table = nobody
-latestFor (Recovery r x v) n table = nobody
-latestFor (RecoveryResponse v x r t) n table = nobody
+latestFor m n table = toldOf m (latestOf (foundIn (rowsOf n table) (carriedBy m .client)))
 
--- whether a message carries an entry, and whose
-unfoldable pub carriesEntry : Message → Bool
-carriesEntry (Request e) = true
-carriesEntry (Prepare v o c e) = true
-carriesEntry (PrepareOk v o r) = false
-carriesEntry (Commit v c) = false
-carriesEntry (GetState r v o) = false
-carriesEntry (NewState v a z c) = false
-carriesEntry (StartViewChange v r) = false
-carriesEntry (DoViewChange v r l o c) = false
-carriesEntry (StartView v o c) = false
-carriesEntry (Recovery r x v) = false
-carriesEntry (RecoveryResponse v x r t) = false
-
-unfoldable pub clientOf : Message → ℕ
-clientOf (Request e) = e .client
-clientOf (Prepare v o c e) = e .client
-clientOf (PrepareOk v o r) = 0
-clientOf (Commit v c) = 0
-clientOf (GetState r v o) = 0
-clientOf (NewState v a z c) = 0
-clientOf (StartViewChange v r) = 0
-clientOf (DoViewChange v r l o c) = 0
-clientOf (StartView v o c) = 0
-clientOf (Recovery r x v) = 0
-clientOf (RecoveryResponse v x r t) = 0
-
--- what is known of him
 pub record KnownFor (m : Message) (n : ℕ) (table : List ℕ) (k : Known) : Type 0 where
-  pub carries : k .carries ≡ carriesEntry m
-  pub found : carriesEntry m ≡ true → k .found ≡ foundIn (rowsOf n table) (clientOf m)
+  pub carries : k .carries ≡ carriedBy m .carries
+  pub found : carriedBy m .carries ≡ true → k .found ≡ foundIn (rowsOf n table) (carriedBy m .client)
   pub latest : k .latest ≡ latestFor m n table
-
--- what a call did to the log, s being the state before it
-abbrev pub changeBy : Replica → Answer → Change
-changeBy s a =
-    record { installed = a .installed; op = s .op; commit = s .commit; to = a .state .op; done = a .state .commit }
 
 -- the client table brought up to a change
 unfoldable pub tableAfter : (n : ℕ) → Change → (table log results : List ℕ) → List ℕ
@@ -138,7 +84,7 @@ unfoldable pub following : Replica → (table old : List ℕ) → Recorded → C
 following s table old d =
     withTable (d .memory) (followedBy s (d .answer) (d .memory .runs .log) (d .memory .runs .money .results) table old)
 
--- a frame, by what refusals 2 to 6 on it say
+-- a frame, by what refusals 1 to 6 say
 unfoldable pub checkedCall : Checked → Replica → (frame : List ℕ) → Lent → Called
 checkedCall (Refused k) s frame x = called (refusal k s) x
 checkedCall (Passed m) s frame x =
@@ -146,9 +92,7 @@ checkedCall (Passed m) s frame x =
 
 -- on_message
 unfoldable pub messageCall : Replica → (frame : List ℕ) → Lent → Called
-messageCall s frame x =
-    if not (sound s (lengthsOf x)) then called (refusal 1 s) x else
-    checkedCall (checkFrame (s .setup) frame) s frame x
+messageCall s frame x = checkedCall (checkedOf s (lengthsOf x) frame) s frame x
 
 -- on_idle
 unfoldable pub idleCall : Replica → Lent → Called
@@ -156,27 +100,20 @@ idleCall s x =
     if not (sound s (lengthsOf x)) then called (refusal 1 s) x else
     following s (x .table) (x .old) (idleStep s (x .core))
 
--- what a creation leaves in lent memory: totals, acks and table are zeroed, the other runs stay as they were
-unfoldable pub emptied : Setup → Lent → (out : List ℕ) → Lent
-emptied u x out =
-    lent (x .core .runs .log) (x .core .runs .money .results)
-    (over (replicate (totalsLength u) 0) (x .core .runs .money .totals))
-    (over (replicate (acksLength u) 0) (x .core .acks))
-    (x .core .stored)
-    (over (replicate (tableLength u) 0) (x .table))
-    (x .old) out (x .core .reps)
+-- after a creation the table is zeroed; a refused one leaves it
+unfoldable pub cleared : Setup → Lent → Begun → Called
+cleared u x d =
+    called (d .answer)
+    (record {
+      core = memoryAfter (x .core) d;
+      table = if eqb (d .answer .code) 0 then over (replicate (tableLength u) 0) (x .table) else x .table;
+      old = x .old;
+    })
 
 -- new
 unfoldable pub createCall : Setup → Lent → Called
-createCall u x =
-    if not (creatable u (lengthsOf x)) then called (refusal 1 noReplica) x else
-    called (quiet (newIn u Normal (record { 0 = 0 }) 0)) (emptied u x (x .core .out))
+createCall u x = cleared u x (createStep u (lengthsOf x) (x .core .runs .money .totals) (x .core .acks) (x .core .out))
 
--- recover, with the view that was persisted and a nonce: 1, then 9
+-- recover, with the view that was persisted and a nonce
 unfoldable pub recoverCall : Setup → View → (nonce : ℕ) → Lent → Called
-recoverCall u v k x =
-    if not (creatable u (lengthsOf x)) then called (refusal 1 noReplica) x else
-    if ltb (length (x .core .out)) (recoveriesLength (newIn u Recovering v k)) then called (refusal 9 noReplica) x else
-    called
-    (completed (newIn u Recovering v k) (recoveriesLength (newIn u Recovering v k)) 0 false)
-    (emptied u x (over (recoveriesOf (newIn u Recovering v k)) (x .core .out)))
+recoverCall u v k x = cleared u x (recoverStep u v k (lengthsOf x) (x .core .runs .money .totals) (x .core .acks) (x .core .out))

@@ -21,8 +21,9 @@ use Rattle.meaning.specs.Sending.{messagesOut, repliesOut}
 use Rattle.meaning.specs.Layout.{Runs, tableOf, Ordered, modelOf}
 use Rattle.meaning.specs.Steps.{onFrame, onTick, create, recover}
 use Rattle.safety.specs.Demand.{Call, run, Created}
+use Rattle.outside.specs.Sound.{lengthsOk, sound, noReplica}
 use Rattle.replica.specs.Calls.{messageCall, idleCall, createCall, recoverCall}
-use Rattle.replica.specs.Lent.{Lent, Called, called, lengthsOf, lengthsOk, sound, noReplica}
+use Rattle.replica.specs.Lent.{Lent, Called, called, lengthsOf}
 
 -- the runs beside the client table
 abbrev pub runsOf : Lent → Runs

@@ -1,4 +1,4 @@
-// on_message and on_idle: refusal 1, the frame, the core, and the client table brought up to what the core did.
+// on_message and on_idle: refusals 1 to 6, the client's row, the core, and the client table brought up to what the core did.
 ghost use mathlib.Core.Path.{_≡_};
 ghost use mathlib.Core.Bool.{true, false};
 ghost use lib.ListN.{length};
@@ -6,37 +6,22 @@ ghost use Rattle.frames.specs.Refusals.{checkFrame};
 ghost use Rattle.frames.specs.declared.Checked.the-variants.{Passed};
 ghost use Prim.Native.Nat.{_*_, _≤_};
 ghost use Rattle.table.specs.Layout.{rowsOf};
-ghost use Rattle.table.specs.Steps.{foundIn, AppendsFor};
+ghost use Rattle.table.specs.Steps.{foundIn, latestOf, AppendsFor};
 ghost use Rattle.state.specs.Lengths.{tableLength};
 ghost use Rattle.do_view_change.specs.Record.{Gathering};
 ghost use Rattle.book.specs.Memory.{memory};
-ghost use Rattle.replica.specs.Calls.{nobody, latestIn, KnownFor, changeBy, Following, tabled, followedBy, checkedCall};
+ghost use Rattle.outside.specs.Calls.{nobody, changeBy};
+ghost use Rattle.replica.specs.Calls.{KnownFor, Following, tabled, followedBy, checkedCall};
 ghost use Rattle.replica.specs.Lent.{lent, called};
 ghost use Rattle.replica.specs.Promise.{MessagePromise, IdlePromise};
-use crate::Lengths;
-use crate::sound;
-use entries::Entry;
-use fees::Outcome;
 use frames::Checked;
 use frames::Message;
-use rows::Change;
+use outside::Lengths;
 use rows::Latest;
 use state::Answer;
 use state::Replica;
 use table::Found;
 use table::Row;
-
-// A client of whom nothing is known.
-pub fn nobody() -> Latest
-    ensures { λ r. ⌜ r ≡ nobody ⌝ }
-{
-    Latest {
-        there: false,
-        request: 0,
-        replied: false,
-        reply: Outcome { code: 0, total: 0 },
-    }
-}
 
 // What is known of the client whose entry a message carries: what was found of him, and that as the core is told it.
 pub struct Known {
@@ -62,16 +47,16 @@ fn nothing() -> Known
             there: false,
             row,
         },
-        latest: nobody(),
+        latest: outside::call::nobody(),
     }
 }
 
-// Of the client of an entry, among the first n rows.
-fn known_of(e: Entry, n: u32, table: &[u8]) -> Known
+// Of a client, among the first n rows.
+fn known_of(client: u64, n: u32, table: &[u8]) -> Known
     requires { ⌜ 25 * n ≤ length (now table) ⌝ }
-    ensures { λ r. ⌜ (r .carries ≡ true) × ((r .found ≡ foundIn (rowsOf n (now (table .entry))) (e .client)) × (r .latest ≡ latestIn n (now (table .entry)) e)) ⌝ }
+    ensures { λ r. ⌜ (r .carries ≡ true) × ((r .found ≡ foundIn (rowsOf n (now (table .entry))) client) × (r .latest ≡ latestOf (foundIn (rowsOf n (now (table .entry))) client))) ⌝ }
 {
-    let f = table::find(table, n as usize, e.client);
+    let f = table::find(table, n as usize, client);
     Known {
         carries: true,
         found: f,
@@ -83,19 +68,11 @@ fn known_for(m: Message, n: u32, table: &[u8]) -> Known
     requires { ⌜ 25 * n ≤ length (now table) ⌝ }
     ensures { λ r. ⌜ KnownFor m n (now (table .entry)) r ⌝ }
 {
-    match m {
-        Message::Request { entry } => known_of(entry, n, table),
-        Message::Prepare { entry, .. } => known_of(entry, n, table),
-        Message::PrepareOk { .. } => nothing(),
-        Message::Commit { .. } => nothing(),
-        Message::GetState { .. } => nothing(),
-        Message::NewState { .. } => nothing(),
-        Message::StartViewChange { .. } => nothing(),
-        Message::DoViewChange { .. } => nothing(),
-        Message::StartView { .. } => nothing(),
-        Message::Recovery { .. } => nothing(),
-        Message::RecoveryResponse { .. } => nothing(),
+    let c = outside::call::carried_by(m);
+    if c.carries {
+        return known_of(c.client, n, table);
     }
+    nothing()
 }
 
 // The table follows what the core did, `s` being the state before it; a refused call leaves it.
@@ -113,17 +90,7 @@ fn follow(
     if a.code != 0 {
         return a;
     }
-    let op = s.op;
-    let commit = s.commit;
-    let to = a.state.op;
-    let done = a.state.commit;
-    let k = Change {
-        installed: a.installed,
-        op,
-        commit,
-        to,
-        done,
-    };
+    let k = outside::call::change_by(s, a);
     table::follow(table, s.setup.room as usize, old, log, results, k);
     a
 }
@@ -144,17 +111,7 @@ fn follow_found(
     if a.code != 0 {
         return a;
     }
-    let op = s.op;
-    let commit = s.commit;
-    let to = a.state.op;
-    let done = a.state.commit;
-    let k = Change {
-        installed: a.installed,
-        op,
-        commit,
-        to,
-        done,
-    };
+    let k = outside::call::change_by(s, a);
     table::follow_found(table, s.setup.room as usize, f, log, results, k);
     a
 }
@@ -223,11 +180,7 @@ pub fn on_message(
         table: table.len(),
         old: old.len(),
     };
-    if !sound::is_sound(s, l) {
-        return state::refused(1, s);
-    }
-    let setup = s.setup;
-    match frames::check(setup, frame) {
+    match outside::call::checked(s, l, frame) {
         Checked::Refused { number } => state::refused(number, s),
         Checked::Passed { message } => take(
             s,
@@ -270,7 +223,7 @@ pub fn on_idle(
         table: table.len(),
         old: old.len(),
     };
-    if !sound::is_sound(s, l) {
+    if !outside::sound::is_sound(s, l) {
         return state::refused(1, s);
     }
     let a = handlers::idle::on_idle(s, log, results, totals, acks, stored, out, reps);

@@ -14,7 +14,6 @@ use Rattle.numbers.proofs.WordLaws.{if-true, if-false}
 use Rattle.entries.specs.Entries.{entries}
 use Rattle.config.specs.declared.Setup.{Setup}
 use Rattle.fees.specs.Results.{outcomes}
-use Rattle.frames.specs.Refusals.{checkFrame}
 use Rattle.frames.specs.declared.Checked.{Checked}
 use Rattle.rows.specs.Rows.{followed}
 use Rattle.rows.specs.declared.Latest.{Latest}
@@ -25,9 +24,11 @@ use Rattle.state.specs.declared.Answer.{Answer}
 use Rattle.state.specs.declared.Replica.{Replica}
 use Rattle.book.specs.Memory.{Memory}
 use Rattle.do_view_change.specs.Record.{Recorded, recorded}
-use Rattle.replica_rows.specs.Core.{clientIn, messageCore, idleCore, createCore, recoverCore, changeAfter, Cored}
-use Rattle.replica_rows.specs.Calls.{LentRows, CalledRows, calledRows, rowsAfter, followingRows, messageRows, idleRows, clearedRows, createRows, recoverRows}
+use Rattle.outside.specs.Calls.{checkedOf}
+use Rattle.replica_rows.specs.Core.{lengthsIn, clientIn, checkedCore, idleCore, createCore, recoverCore, changeAfter}
+use Rattle.replica_rows.specs.Calls.{LentRows, CalledRows, calledRows, rowsAfter, followingRows, checkedRows, messageRows, idleRows, clearedRows, createRows, recoverRows}
 use Rattle.replica_rows.specs.Promise.{MessageRowsPromise, IdleRowsPromise, CreateRowsPromise, RecoverRowsPromise}
+use Rattle.replica_rows.proofs.CoreLaws.{ReadyBy}
 use Rattle.replica_rows.proofs.SameLaws.{message-same, idle-same, create-same, create-ok, recover-same, recover-ok}
 
 -- ---- from `exact` to the rest
@@ -61,11 +62,14 @@ recover-promised u v nonce x d e =
 
 -- ---- a frame, and a tick: a and m are what the core left, k what `change_after` says of it
 
-module _ (s : Replica) (x : LentRows) (a : Answer) (m : Memory) (d : Recorded) (core : Cored s (length (x .table)) (length (x .old)) a m d)
+module _ (s : Replica) (x : LentRows) (a : Answer) (m : Memory) (d : Recorded) (core : recorded a m ≡ d)
+    (ready : ReadyBy s (length (x .table)) (length (x .old)) d)
     (k : Change) (p : k ≡ changeAfter s a) where
   pub follow-needs : (k .installed ≡ true → length (x .old) ≡ length (x .table))
       × ((32 * k .to .0 ≤ length (m .runs .log)) × ((9 * k .done .0 ≤ length (m .runs .money .results)) × (k .done .0 ≤ k .to .0)))
-  follow-needs = rw p (core .installs, (core .log-long, (core .results-long, core .done-le)))
+  follow-needs =
+      let r = subst (ReadyBy s (length (x .table)) (length (x .old))) (sym core) ready in
+      rw p (r .installs, (r .log-long, (r .results-long, r .done-le)))
 
   module _ {table old : List Row}
       (t : table ≡ followed structRow k (x .table) (entries (k .to .0) (m .runs .log)) (outcomes (k .done .0) (m .runs .money .results)))
@@ -76,13 +80,13 @@ module _ (s : Replica) (x : LentRows) (a : Answer) (m : Memory) (d : Recorded) (
     follows : left ≡ followingRows s (x .table) (x .old) d
     unfolding followingRows rowsAfter
     follows =
-        rw (t, o, p) (ap (λ (z : Recorded). followingRows s (x .table) (x .old) z) (core .exact))
+        rw (t, o, p) (ap (λ (z : Recorded). followingRows s (x .table) (x .old) z) core)
 
     -- c, l: what `checked` and the table's `latest` gave
-    pub message-rows : (frame : List ℕ) (c : Checked) → c ≡ checkFrame (s .setup) frame → (client : ℕ) → client ≡ clientIn c → (l : Latest)
-        → l ≡ latestIn (x .table) client → d ≡ messageCore c s l (length (x .table)) (length (x .old)) frame (x .core)
+    pub message-rows : (frame : List ℕ) (c : Checked) → c ≡ checkedOf s (lengthsIn (x .core) (length (x .table)) (length (x .old))) frame
+        → (client : ℕ) → client ≡ clientIn c → (l : Latest) → l ≡ latestIn (x .table) client → d ≡ checkedCore c s l frame (x .core)
         → MessageRowsPromise s frame x (calledRows a (record { core = m; table = table; old = old }))
-    unfolding messageRows
+    unfolding messageRows checkedRows
     message-rows frame c e client g l h q =
         message-promised s frame x left
         (follows ∙ ap (λ (z : Recorded). followingRows s (x .table) (x .old) z) (rw (q, h, g, e)))

@@ -42,10 +42,11 @@ use Rattle.meaning.specs.Shown.{Did, Shown}
 use Rattle.meaning.proofs.BeginLift.{memoryOf, ofRecorded}
 use Rattle.meaning.proofs.StartViewLift.{over-all}
 use Rattle.safety.proofs.Ranges.{entries-fit}
-use Rattle.replica.specs.Calls.{changeBy, tableAfter, following}
+use Rattle.outside.specs.Calls.{changeBy}
+use Rattle.outside.proofs.SoundLaws.{Whole}
+use Rattle.replica.specs.Calls.{tableAfter, following}
 use Rattle.replica.specs.Lent.{Lent, Called, called}
 use Rattle.replica.specs.Promise.{meaningOf, Owned}
-use Rattle.replica.proofs.SoundLaws.{Whole}
 use Rattle.replica.proofs.RowLaws.{results-fit}
 use Rattle.replica.proofs.TableLaws.{refused-follows, done-follows}
 use Rattle.replica.proofs.KeptLaws.{given, rows, whole}
@@ -88,7 +89,7 @@ module _ (s : Replica) (x : LentRows) (applied : List Entry) (o : Owned (inBytes
   abbrev y : Lent
   y = inBytes x
 
-  whole-is : Whole s y
+  whole-is : Whole s (y .core) (length (y .table)) (length (y .old))
   whole-is = whole s y applied o (kept .kept)
 
   -- a row for each of the log's places

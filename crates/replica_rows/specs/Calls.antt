@@ -8,7 +8,7 @@ use Rattle.numbers.specs.declared.View.{View}
 use Rattle.entries.specs.Entries.{entries}
 use Rattle.config.specs.declared.Setup.{Setup}
 use Rattle.fees.specs.Results.{outcomes}
-use Rattle.frames.specs.Refusals.{checkFrame}
+use Rattle.frames.specs.declared.Checked.{Checked}
 use Rattle.rows.specs.Rows.{followed}
 use Rattle.rows.specs.declared.Change.{Change}
 use Rattle.table_rows.specs.Shape.{noRow, structRow, latestIn, oldAfter}
@@ -17,7 +17,8 @@ use Rattle.state.specs.declared.Answer.{Answer}
 use Rattle.state.specs.declared.Replica.{Replica}
 use Rattle.book.specs.Memory.{Memory, memory}
 use Rattle.do_view_change.specs.Record.{Recorded}
-use Rattle.replica_rows.specs.Core.{clientIn, messageCore, idleCore, createCore, recoverCore, changeAfter}
+use Rattle.outside.specs.Calls.{checkedOf}
+use Rattle.replica_rows.specs.Core.{lengthsIn, clientIn, checkedCore, idleCore, createCore, recoverCore, changeAfter}
 
 -- everything that a call is lent
 pub record LentRows : Type 0 where
@@ -52,12 +53,14 @@ followingRows s table old d =
       old = oldAfter (changeAfter s (d .answer)) table old;
     })
 
+-- a frame, by what refusals 1 to 6 say
+unfoldable pub checkedRows : Checked → Replica → (frame : List ℕ) → LentRows → CalledRows
+checkedRows c s frame x =
+    followingRows s (x .table) (x .old) (checkedCore c s (latestIn (x .table) (clientIn c)) frame (x .core))
+
 -- on_message
 unfoldable pub messageRows : Replica → (frame : List ℕ) → LentRows → CalledRows
-messageRows s frame x =
-    followingRows s (x .table) (x .old)
-    (messageCore (checkFrame (s .setup) frame) s (latestIn (x .table) (clientIn (checkFrame (s .setup) frame)))
-    (length (x .table)) (length (x .old)) frame (x .core))
+messageRows s frame x = checkedRows (checkedOf s (lengthsIn (x .core) (length (x .table)) (length (x .old))) frame) s frame x
 
 -- on_idle
 unfoldable pub idleRows : Replica → LentRows → CalledRows

@@ -1,5 +1,5 @@
 // The replica for callers in Rattle, with the client table as a slice of row structs: creation, recovery, a frame, a tick. None asks anything of its caller. Each is thin:
-// the row that the core asks for, the core, and the table brought up to what it did.
+// refusals 1 to 6, the row that the core asks for, the core, and the table brought up to what it did.
 ghost use mathlib.Core.Path.{_≡_};
 ghost use mathlib.Core.List.{[]};
 ghost use Rattle.replica_rows.specs.Calls.{lentRows, calledRows};
@@ -94,14 +94,22 @@ pub fn on_message(
 ) -> Answer
     ensures { λ a. ⌜ MessageRowsPromise s (now (frame .entry)) (lentRows (now (log .entry)) (now (results .entry)) (now (totals .entry)) (now (acks .entry)) (now (stored .entry)) (now (table .entry)) (now (old .entry)) (now (out .entry)) (now (reps .entry))) (calledRows a (lentRows (now (log .exit)) (now (results .exit)) (now (totals .exit)) (now (acks .exit)) (now (stored .exit)) (now (table .exit)) (now (old .exit)) (now (out .exit)) (now (reps .exit)))) ⌝ }
 {
-    let c = core::checked(s, frame);
+    let c = core::checked(
+        s,
+        log.len(),
+        results.len(),
+        totals.len(),
+        acks.len(),
+        stored.len(),
+        table.len(),
+        old.len(),
+        frame,
+    );
     let latest = table_rows::latest(table, core::client_in(c));
     let a = core::on_message(
         s,
         c,
         latest,
-        table.len(),
-        old.len(),
         frame,
         log,
         results,

@@ -12,7 +12,6 @@ use Rattle.numbers.specs.Words.{if_then_else_}
 use Rattle.numbers.specs.Numbers.{num}
 use Rattle.numbers.proofs.WordLaws.{split}
 use Rattle.frames.specs.Messages.{messageOf}
-use Rattle.frames.specs.Refusals.{checkFrame}
 use Rattle.frames.specs.declared.Message.{Message}
 use Rattle.frames.specs.declared.Checked.{Checked}
 use Rattle.frames.specs.declared.Checked.the-variants.{Passed, Refused}
@@ -28,7 +27,9 @@ use Rattle.steps.specs.Steps.{Spoke}
 use Rattle.normal.specs.Tick.{primaryTick}
 use Rattle.do_view_change.specs.Record.{Recorded}
 use Rattle.handlers.specs.Handlers.{handled, messageStep, normalTick, idleStep}
-use Rattle.replica.specs.Lent.{Lent, Called}
+use Rattle.outside.specs.Calls.{checkedOf}
+use Rattle.outside.proofs.CallLaws.{passed-is}
+use Rattle.replica.specs.Lent.{Lent, Called, lengthsOf}
 use Rattle.replica.specs.Calls.{latestFor, Tabled, followedBy, following, checkedCall, messageCall, idleCall}
 use Rattle.usual.specs.Usual.{usualKind, isUsual, isLeading}
 use Rattle.usual.proofs.NormalOnward.{request-onward, prepare-onward, prepare-ok-onward, commit-onward}
@@ -64,19 +65,19 @@ module _ (s : Replica) (n : isNormal (s .status) ≡ true) (frame : List ℕ) (u
   abbrev Leaves : Called → Type 0
   Leaves d = Onward s (d .answer .state)
 
-  checked-onward : (j : Checked) → checkFrame (s .setup) frame ≡ j → Leaves (checkedCall j s frame x)
+  checked-onward : (j : Checked) → checkedOf s (lengthsOf x) frame ≡ j → Leaves (checkedCall j s frame x)
   unfolding checkedCall
   checked-onward (Refused k) e = refl
   checked-onward (Passed m) e =
       let latest = latestFor m (s .setup .room) (x .table) in
-      let q : m ≡ messageOf (num 1 5 frame) frame = passed (s .setup) frame m e .said .message in
+      let q : m ≡ messageOf (num 1 5 frame) frame = passed (s .setup) frame m (passed-is s (lengthsOf x) frame m e .1) .said .message in
       subst (λ (a : Answer). Onward s (a .state)) (sym (followed-answer s (x .table) (x .old) _))
       (subst (λ (z : Message). Onward s (messageStep z s latest frame (x .core) .answer .state)) (sym q)
       (step-onward s n latest frame (x .core) u))
 
   call-onward : Leaves (messageCall s frame x)
   unfolding messageCall
-  call-onward = split Leaves _ _ _ (λ _. refl) (λ _. checked-onward (checkFrame (s .setup) frame) refl)
+  call-onward = checked-onward (checkedOf s (lengthsOf x) frame) refl
 
 pub usual-onward : (s : Replica) (frame : List ℕ) (x : Lent) → isUsual s frame ≡ true → Onward s (messageCall s frame x .answer .state)
 unfolding isUsual

@@ -50,9 +50,11 @@ use Rattle.table_rows.proofs.follow.Met as follow-thm
 use Rattle.book.specs.Memory.{memory}
 use Rattle.state.specs.declared.Answer.{Answer}
 use Rattle.state.specs.declared.Replica.{Replica}
-use Rattle.replica_rows.specs.Core.{idleCore, changeAfter, Cored}
+use Rattle.do_view_change.specs.Record.{recorded}
+use Rattle.replica_rows.specs.Core.{idleCore, changeAfter}
 use Rattle.replica_rows.specs.Calls.{LentRows, lentRows, calledRows}
 use Rattle.replica_rows.specs.Promise.{IdleRowsPromise}
+use Rattle.replica_rows.proofs.CoreLaws.{idle-ready}
 use Rattle.replica_rows.proofs.PromiseLaws.{follow-needs, idle-rows}
 use Rattle.replica_rows.proofs.Carried.{replicaE, answerE}
 use Rattle.replica_rows.proofs.Tabling.{ChangeAfter, Follow, to-change, to-follow, to-follow-all, gives-follow, takes-follow}
@@ -109,7 +111,7 @@ module _ {M : Type 1} (𝓤 : URA M) (H : Heap 𝓤) (A : Atoms 𝓤) (W : Given
   before = lentRows (log .xs) (results .xs) (totals .xs) (acks .xs) (stored .xs) (table .xs) (old .xs) (out .xs) (reps .xs)
 
   abbrev Left : Answer → (l r t k c o p : List ℕ) → Type 0
-  Left ans l r t k c o p = Cored s (length (table .xs)) (length (old .xs)) ans (memory l r t k c o p) (idleCore s (length (table .xs)) (length (old .xs)) (before .core))
+  Left ans l r t k c o p = recorded ans (memory l r t k c o p) ≡ idleCore s (length (table .xs)) (length (old .xs)) (before .core)
 
   -- at exit: of each `&mut` slice what says its last list
   abbrev ends : (l r t k c : List ℕ) (ts os : List Row) (o p : List ℕ) → List Param
@@ -182,13 +184,13 @@ module _ {M : Type 1} (𝓤 : URA M) (H : Heap 𝓤) (A : Atoms 𝓤) (W : Given
         gives W [] (ChangeAfter 𝓤 H A mem run .pre (to-change 𝓤 H A mem run s ans)) (bare ! $ hands ! [] (arg replicaE s typed ∷ arg answerE ans is ∷ [])) $
         calls-fn ! fm change-after.ended (change-after.clauses 𝓤 H A mem run) known-change (to-change 𝓤 H A mem run s ans) (and-then ! (load ! (from ! (stop !)) (look ! 87 refl)) (and-then ! (load ! (from ! (stop !)) (look ! 67 refl)) (no-more !))) (λ v₄ k ws₄.
         heard ! (k ≡ changeAfter s ans) (λ e₁. told changeE ! [] 14 k v₄ refl refl (λ is₁.
-        move ! (2 ∷ 3 ∷ 0 ∷ 1 ∷ 90 ∷ 91 ∷ 92 ∷ 93 ∷ []) $ gives-follow 𝓤 H A W mem run log results table old (ws .1 .1 .1 .0) (ws .1 .1 .1 .1 .0) e-l e-r ! tt k is₁ (follow-needs s before ans (memory (ws .1 .1 .1 .0) (ws .1 .1 .1 .1 .0) (ws .1 .1 .1 .1 .1 .0) (ws .1 .1 .1 .1 .1 .1 .0) (ws .1 .1 .1 .1 .1 .1 .1 .0) (ws .1 .1 .1 .1 .1 .1 .1 .1 .0) (ws .1 .1 .1 .1 .1 .1 .1 .1 .1 .0)) (idleCore s (length (table .xs)) (length (old .xs)) (before .core)) e k e₁) (λ ν₂ δ₂ ν₃ δ₃.
+        move ! (2 ∷ 3 ∷ 0 ∷ 1 ∷ 90 ∷ 91 ∷ 92 ∷ 93 ∷ []) $ gives-follow 𝓤 H A W mem run log results table old (ws .1 .1 .1 .0) (ws .1 .1 .1 .1 .0) e-l e-r ! tt k is₁ (follow-needs s before ans (memory (ws .1 .1 .1 .0) (ws .1 .1 .1 .1 .0) (ws .1 .1 .1 .1 .1 .0) (ws .1 .1 .1 .1 .1 .1 .0) (ws .1 .1 .1 .1 .1 .1 .1 .0) (ws .1 .1 .1 .1 .1 .1 .1 .1 .0) (ws .1 .1 .1 .1 .1 .1 .1 .1 .1 .0)) (idleCore s (length (table .xs)) (length (old .xs)) (before .core)) e (idle-ready s (length (table .xs)) (length (old .xs)) (before .core)) k e₁) (λ ν₂ δ₂ ν₃ δ₃.
         calls-fn ! fm follow.ended (follow.clauses 𝓤 H A mem run) known-follow (to-follow 𝓤 H A mem run log results table old ν₂ δ₂ ν₃ δ₃ (ws .1 .1 .1 .0) (ws .1 .1 .1 .1 .0) k) (and-then ! (load ! (from ! (stop !)) (look ! 27 refl)) (and-then ! (load ! (from ! (stop !)) (look ! 23 refl)) (and-then ! (load ! (from ! (stop !)) (look ! 19 refl)) (and-then ! (load ! (from ! (stop !)) (look ! 15 refl)) (and-then ! (load ! (from ! (stop !)) (look ! 13 refl)) (no-more !)))))) (λ v₅ y ws₅.
         heard ! ((ws₅ .0 ≡ followed structRow k (table .xs) (entries (k .to .0) (ws .1 .1 .1 .0)) (outcomes (k .done .0) (ws .1 .1 .1 .1 .0))) × (ws₅ .1 .0 ≡ oldAfter k (table .xs) (old .xs))) (λ e₂. last-of ! (λ e-ts. last-of ! (λ e-os. told unitE ! (to-follow-all log results table old ν₂ δ₂ ν₃ δ₃ (ws .1 .1 .1 .0) (ws .1 .1 .1 .1 .0)) 32 y v₅ refl refl (λ _.
         takes-follow 𝓤 H A W mem run log results table old (ws .1 .1 .1 .0) (ws .1 .1 .1 .1 .0) e-l e-r ! tt (ws₅ .0) (ws₅ .1 .0) $
         move ! (0 ∷ 1 ∷ 2 ∷ 3 ∷ 17 ∷ 8 ∷ 16 ∷ 9 ∷ 15 ∷ 10 ∷ 4 ∷ 5 ∷ 6 ∷ 7 ∷ 14 ∷ 11 ∷ 13 ∷ 12 ∷ []) $
         assigns ! (of-opd ! (load ! (from ! (stop !)) (look ! 70 refl))) (from ! (stop !)) (init ! 92 refl (answerE .lawful 𝓤 H A W ans is)) $
-        returns ! (look ! 92 refl) $ gone ! 92 refl refl $ gone ! 90 refl refl $ gone ! 88 refl refl $ gone ! 86 refl refl $ gone ! 84 refl refl $ gone ! 82 refl refl $ gone ! 80 refl refl $ gone ! 78 refl refl $ gone ! 76 refl refl $ gone ! 74 refl refl $ gone ! 72 refl refl $ gone ! 70 refl refl $ gone ! 68 refl refl $ gone ! 66 refl refl $ gone ! 64 refl refl $ gone ! 62 refl refl $ gone ! 60 refl refl $ gone ! 58 refl refl $ gone ! 56 refl refl $ gone ! 54 refl refl $ gone ! 52 refl refl $ gone ! 50 refl refl $ gone ! 48 refl refl $ gone ! 46 refl refl $ gone ! 44 refl refl $ gone ! 42 refl refl $ gone ! 40 refl refl $ gone ! 38 refl refl $ gone ! 36 refl refl $ gone ! 34 refl refl $ gone ! 32 refl refl $ gone ! 30 refl refl $ gone ! 28 refl refl $ gone ! 26 refl refl $ gone ! 24 refl refl $ gone ! 22 refl refl $ gone ! 20 refl refl $ gone ! 18 refl refl $ free0 ! $ by ! (exits ans is (ws .1 .1 .1 .0) (ws .1 .1 .1 .1 .0) (ws .1 .1 .1 .1 .1 .0) (ws .1 .1 .1 .1 .1 .1 .0) (ws .1 .1 .1 .1 .1 .1 .1 .0) (ws₅ .0) (ws₅ .1 .0) (ws .1 .1 .1 .1 .1 .1 .1 .1 .0) (ws .1 .1 .1 .1 .1 .1 .1 .1 .1 .0) (idle-rows s before ans (memory (ws .1 .1 .1 .0) (ws .1 .1 .1 .1 .0) (ws .1 .1 .1 .1 .1 .0) (ws .1 .1 .1 .1 .1 .1 .0) (ws .1 .1 .1 .1 .1 .1 .1 .0) (ws .1 .1 .1 .1 .1 .1 .1 .1 .0) (ws .1 .1 .1 .1 .1 .1 .1 .1 .1 .0)) (idleCore s (length (table .xs)) (length (old .xs)) (before .core)) e k e₁ (e₂ .0) (e₂ .1) refl) e-l e-r e-t e-k e-c e-ts e-os e-o e-p))))))))))))))))))))))))))))))))))))))))))))))))))))))))))))
+        returns ! (look ! 92 refl) $ gone ! 92 refl refl $ gone ! 90 refl refl $ gone ! 88 refl refl $ gone ! 86 refl refl $ gone ! 84 refl refl $ gone ! 82 refl refl $ gone ! 80 refl refl $ gone ! 78 refl refl $ gone ! 76 refl refl $ gone ! 74 refl refl $ gone ! 72 refl refl $ gone ! 70 refl refl $ gone ! 68 refl refl $ gone ! 66 refl refl $ gone ! 64 refl refl $ gone ! 62 refl refl $ gone ! 60 refl refl $ gone ! 58 refl refl $ gone ! 56 refl refl $ gone ! 54 refl refl $ gone ! 52 refl refl $ gone ! 50 refl refl $ gone ! 48 refl refl $ gone ! 46 refl refl $ gone ! 44 refl refl $ gone ! 42 refl refl $ gone ! 40 refl refl $ gone ! 38 refl refl $ gone ! 36 refl refl $ gone ! 34 refl refl $ gone ! 32 refl refl $ gone ! 30 refl refl $ gone ! 28 refl refl $ gone ! 26 refl refl $ gone ! 24 refl refl $ gone ! 22 refl refl $ gone ! 20 refl refl $ gone ! 18 refl refl $ free0 ! $ by ! (exits ans is (ws .1 .1 .1 .0) (ws .1 .1 .1 .1 .0) (ws .1 .1 .1 .1 .1 .0) (ws .1 .1 .1 .1 .1 .1 .0) (ws .1 .1 .1 .1 .1 .1 .1 .0) (ws₅ .0) (ws₅ .1 .0) (ws .1 .1 .1 .1 .1 .1 .1 .1 .0) (ws .1 .1 .1 .1 .1 .1 .1 .1 .1 .0) (idle-rows s before ans (memory (ws .1 .1 .1 .0) (ws .1 .1 .1 .1 .0) (ws .1 .1 .1 .1 .1 .0) (ws .1 .1 .1 .1 .1 .1 .0) (ws .1 .1 .1 .1 .1 .1 .1 .0) (ws .1 .1 .1 .1 .1 .1 .1 .1 .0) (ws .1 .1 .1 .1 .1 .1 .1 .1 .1 .0)) (idleCore s (length (table .xs)) (length (old .xs)) (before .core)) e (idle-ready s (length (table .xs)) (length (old .xs)) (before .core)) k e₁ (e₂ .0) (e₂ .1) refl) e-l e-r e-t e-k e-c e-ts e-os e-o e-p))))))))))))))))))))))))))))))))))))))))))))))))))))))))))))
 
 on-idle-meets : {M : Type 1} (𝓤 : URA M) (H : Heap 𝓤) (A : Atoms 𝓤) (W : Given 𝓤 H A) (mem : Memory → SProp 𝓤) (run : Routine → Fun 𝓤) (𝓣 : Tables 𝓤 H)
     → Triple 𝓤 (𝓣 .C core-idle-def.name) (CoreIdle 𝓤 H A mem run) → Triple 𝓤 (𝓣 .C change-after-def.name) (ChangeAfter 𝓤 H A mem run) → Triple 𝓤 (𝓣 .C follow-def.name) (Follow 𝓤 H A mem run) → Meets 𝓤 H A on-idle.signature (WpFn 𝓤 H (𝓣 .C) (𝓣 .Λ) code.function) (on-idle.spec 𝓤 H A mem run)

@@ -1,7 +1,8 @@
 -- `replica::call::on_idle` meets its contract. Assumes nothing.
 use mathlib.Core.Path.{sym, _∙_}
+use lib.ListN.{length}
 use borrow.Author.Tests.{not-false}
-use Rattle.replica.proofs.SoundLaws.{sound-is}
+use Rattle.outside.proofs.SoundLaws.{sound-is}
 use Rattle.replica.proofs.CallLaws.{stays-follow, followed-is, idle-unsound, idle-done}
 use Rattle.replica.proofs.PromiseLaws.{idle-promised}
 use Rattle.handlers.proofs.Stays.{idle-stays}
@@ -15,10 +16,10 @@ returns : tie.Need-returns
 returns c = let a = c .before .before .before .before .before .before .before .before .before .before .before .before .args in idle-promised (a .s) (lent (a .log .now) (a .results .now) (a .totals .now) (a .acks .now) (a .stored .now) (a .table .now) (a .old .now) (a .out .now) (a .reps .now)) _ (idle-unsound (a .s) (lent (a .log .now) (a .results .now) (a .totals .now) (a .acks .now) (a .stored .now) (a .table .now) (a .old .now) (a .out .now) (a .reps .now)) (c .before .before .is-sound .result) (c .before .before .is-sound .ensures) (c .before .if1 .taken) (c .refused .ensures))
 
 on-idle-requires : tie.Need-on-idle-requires
-on-idle-requires c κs = let a = c .before .before .before .before .before .before .before .before .before .before .before .before .before .before .before .before .before .before .args in let w = sound-is (a .s) (lent (a .log .now) (a .results .now) (a .totals .now) (a .acks .now) (a .stored .now) (a .table .now) (a .old .now) (a .out .now) (a .reps .now)) (sym (c .before .before .before .before .before .before .before .before .is-sound .ensures) ∙ not-false (c .before .before .before .before .before .before .before .before .is-sound .result) (c .before .before .before .before .before .before .before .if1 .left)) in w .gathering
+on-idle-requires c κs = let a = c .before .before .before .before .before .before .before .before .before .before .before .before .before .before .before .before .before .before .args in let w = sound-is (a .s) (memory (a .log .now) (a .results .now) (a .totals .now) (a .acks .now) (a .stored .now) (a .out .now) (a .reps .now)) (length (a .table .now)) (length (a .old .now)) (sym (c .before .before .before .before .before .before .before .before .is-sound .ensures) ∙ not-false (c .before .before .before .before .before .before .before .before .is-sound .result) (c .before .before .before .before .before .before .before .if1 .left)) in w .gathering
 
 follow-requires : tie.Need-follow-requires
-follow-requires c κs = let a = c .before .before .before .before .before .before .before .before .before .before .before .before .before .before .before .before .before .before .before .before .before .before .before .before .before .before .before .before .before .before .before .before .before .before .before .before .before .args in let w = sound-is (a .s) (lent (a .log .now) (a .results .now) (a .totals .now) (a .acks .now) (a .stored .now) (a .table .now) (a .old .now) (a .out .now) (a .reps .now)) (sym (c .before .before .before .before .before .before .before .before .before .before .before .before .before .before .before .before .before .before .before .before .before .before .before .before .before .before .before .is-sound .ensures) ∙ not-false (c .before .before .before .before .before .before .before .before .before .before .before .before .before .before .before .before .before .before .before .before .before .before .before .before .before .before .before .is-sound .result) (c .before .before .before .before .before .before .before .before .before .before .before .before .before .before .before .before .before .before .before .before .before .before .before .before .before .before .if1 .left)) in stays-follow (a .s) _ (c .before .before .before .before .before .before .before .before .before .before .before .before .before .before .before .before .before .before .on-idle .result) _ _ _ (w .gathering .sound .sized) (idle-stays (a .s) (memory (a .log .now) (a .results .now) (a .totals .now) (a .acks .now) (a .stored .now) (a .out .now) (a .reps .now)) (w .gathering)) (c .before .before .before .before .before .before .before .before .before .before .before .before .before .before .before .before .before .before .on-idle .ensures) (w .table-long) (w .old-long)
+follow-requires c κs = let a = c .before .before .before .before .before .before .before .before .before .before .before .before .before .before .before .before .before .before .before .before .before .before .before .before .before .before .before .before .before .before .before .before .before .before .before .before .before .args in let w = sound-is (a .s) (memory (a .log .now) (a .results .now) (a .totals .now) (a .acks .now) (a .stored .now) (a .out .now) (a .reps .now)) (length (a .table .now)) (length (a .old .now)) (sym (c .before .before .before .before .before .before .before .before .before .before .before .before .before .before .before .before .before .before .before .before .before .before .before .before .before .before .before .is-sound .ensures) ∙ not-false (c .before .before .before .before .before .before .before .before .before .before .before .before .before .before .before .before .before .before .before .before .before .before .before .before .before .before .before .is-sound .result) (c .before .before .before .before .before .before .before .before .before .before .before .before .before .before .before .before .before .before .before .before .before .before .before .before .before .before .if1 .left)) in stays-follow (a .s) _ (c .before .before .before .before .before .before .before .before .before .before .before .before .before .before .before .before .before .before .on-idle .result) _ _ _ (w .gathering .sound .sized) (idle-stays (a .s) (memory (a .log .now) (a .results .now) (a .totals .now) (a .acks .now) (a .stored .now) (a .out .now) (a .reps .now)) (w .gathering)) (c .before .before .before .before .before .before .before .before .before .before .before .before .before .before .before .before .before .before .on-idle .ensures) (w .table-long) (w .old-long)
 
 same-length : tie.Need-same-length
 same-length c = c .before .before .before .before .before .before .before .before .before .before .before .before .before .before .before .before .before .before .before .before .before .before .before .on-idle .kept .1 .0

@@ -1,11 +1,11 @@
--- `replica::sound::is_creatable` meets its contract. Assumes nothing.
+-- `outside::sound::is_creatable` meets its contract. Assumes nothing.
 use borrow.Author.Tests.{not-true, not-false}
 use mathlib.Core.Path.{sym, _∙_}
 use Rattle.numbers.specs.Words.{if_then_else_}
-use Rattle.replica.specs.Lent.{creatable}
+use Rattle.outside.specs.Sound.{creatable}
 use borrow.Author.Needs.{needs}
-use Rattle.replica.proofs.sound.is_creatable.Statement.{statement}
-use Rattle.replica.proofs.sound.is_creatable.Tie as tie
+use Rattle.outside.proofs.sound.is_creatable.Statement.{statement}
+use Rattle.outside.proofs.sound.is_creatable.Tie as tie
 
 returns : tie.Need-returns
 unfolding creatable if_then_else_

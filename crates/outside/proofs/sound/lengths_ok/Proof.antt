@@ -1,13 +1,13 @@
--- `replica::sound::lengths_ok` meets its contract. Assumes nothing.
+-- `outside::sound::lengths_ok` meets its contract. Assumes nothing.
 use borrow.Author.Tests.{eq-eqb, ne-eqb}
 use Prim.Native.Nat.{_*_}
 use native.Mathlib.Omega.{arith}
 use Rattle.config.proofs.SetupLaws.{sized}
 use Rattle.numbers.specs.Words.{if_then_else_}
-use Rattle.replica.specs.Lent.{lengthsOk}
+use Rattle.outside.specs.Sound.{lengthsOk}
 use borrow.Author.Needs.{needs}
-use Rattle.replica.proofs.sound.lengths_ok.Statement.{statement}
-use Rattle.replica.proofs.sound.lengths_ok.Tie as tie
+use Rattle.outside.proofs.sound.lengths_ok.Statement.{statement}
+use Rattle.outside.proofs.sound.lengths_ok.Tie as tie
 
 returns : tie.Need-returns
 unfolding lengthsOk if_then_else_

@@ -1,13 +1,13 @@
--- `replica::sound::is_sound` meets its contract. Assumes nothing.
+-- `outside::sound::is_sound` meets its contract. Assumes nothing.
 use borrow.Author.Tests.{lt-ltb, le-ltb}
 use native.Mathlib.Omega.{arith}
 use Rattle.config.proofs.SetupLaws.{sized}
 use Rattle.numbers.specs.Words.{if_then_else_}
-use Rattle.replica.specs.Lent.{sound}
-use Rattle.replica.proofs.SoundLaws.{creatable-is}
+use Rattle.outside.specs.Sound.{sound}
+use Rattle.outside.proofs.SoundLaws.{creatable-is}
 use borrow.Author.Needs.{needs}
-use Rattle.replica.proofs.sound.is_sound.Statement.{statement}
-use Rattle.replica.proofs.sound.is_sound.Tie as tie
+use Rattle.outside.proofs.sound.is_sound.Statement.{statement}
+use Rattle.outside.proofs.sound.is_sound.Tie as tie
 
 returns : tie.Need-returns
 unfolding sound if_then_else_

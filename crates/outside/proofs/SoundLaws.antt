@@ -5,7 +5,7 @@
 -- Assumes nothing.
 use mathlib.Core.Path.{_≡_, refl, sym, _∙_}
 use mathlib.Core.Bool.{Bool, true, false, not, false≢true}
-use lib.ListN.{length}
+use Prim.Native.Nat.{ℕ}
 use borrow.Author.Tests.{ltb-false, le-ltb, eqb-true, eq-eqb, not-false}
 use Rattle.numbers.specs.Words.{if_then_else_}
 use Rattle.numbers.proofs.WordLaws.{if-true}
@@ -14,9 +14,10 @@ use Rattle.config.specs.declared.Setup.{Setup}
 use Rattle.state.specs.Lengths.{logLength, resultsLength, acksLength, totalsLength, tableLength, storedLength}
 use Rattle.state.specs.declared.Replica.{Replica}
 use Rattle.reports.proofs.RowLaws.{both}
+use Rattle.book.specs.Memory.{Memory}
 use Rattle.do_view_change.specs.Record.{Gathering}
-use Rattle.replica.specs.declared.Lengths.{Lengths}
-use Rattle.replica.specs.Lent.{Lent, lengthsOf, lengthsOk, creatable, sound}
+use Rattle.outside.specs.declared.Lengths.{Lengths}
+use Rattle.outside.specs.Sound.{lengthsWith, lengthsOk, creatable, sound}
 
 -- a test that must pass, and one that must fail
 passes : (a b : Bool) → (if not a then false else b) ≡ true → (a ≡ true) × (b ≡ true)
@@ -86,20 +87,20 @@ creatable-is u l b e h =
     (p .0, long-is u l (p .1))
 
 -- of a state and its memory
-pub record Whole (s : Replica) (x : Lent) : Type 0 where
-  pub gathering : Gathering s (x .core)
-  pub table-long : length (x .table) ≡ tableLength (s .setup)
-  pub old-long : length (x .old) ≡ tableLength (s .setup)
+pub record Whole (s : Replica) (m : Memory) (table old : ℕ) : Type 0 where
+  pub gathering : Gathering s m
+  pub table-long : table ≡ tableLength (s .setup)
+  pub old-long : old ≡ tableLength (s .setup)
 
-module _ (s : Replica) (x : Lent) where
-  pub sound-is : sound s (lengthsOf x) ≡ true → Whole s x
+module _ (s : Replica) (m : Memory) (table old : ℕ) where
+  pub sound-is : sound s (lengthsWith m table old) ≡ true → Whole s m table old
   unfolding sound creatable
   sound-is p =
       let a = passes _ _ p in
       let b = both _ _ (a .0) in
       let c = fails _ _ (a .1) in
       let d = fails _ _ (c .1) in
-      let h = long-is (s .setup) (lengthsOf x) (b .1) in
+      let h = long-is (s .setup) (lengthsWith m table old) (b .1) in
       record {
         gathering =
             record {
@@ -120,11 +121,11 @@ module _ (s : Replica) (x : Lent) where
         old-long = h .old;
       }
 
-  pub is-sound : Whole s x → sound s (lengthsOf x) ≡ true
+  pub is-sound : Whole s m table old → sound s (lengthsWith m table old) ≡ true
   unfolding sound creatable
   is-sound h =
       let g = h .gathering in
-      let long : Long (s .setup) (lengthsOf x) =
+      let long : Long (s .setup) (lengthsWith m table old) =
       record {
         log = g .sound .log-long;
         results = g .sound .results-long;
@@ -134,5 +135,5 @@ module _ (s : Replica) (x : Lent) where
         table = h .table-long;
         old = h .old-long;
       } in
-      passed _ _ (if-true _ _ _ (g .sound .sized) ∙ is-long (s .setup) (lengthsOf x) long)
+      passed _ _ (if-true _ _ _ (g .sound .sized) ∙ is-long (s .setup) (lengthsWith m table old) long)
       (failed _ _ (le-ltb _ _ (g .sound .commit-le)) (failed _ _ (le-ltb _ _ (g .sound .op-le)) (g .reports)))

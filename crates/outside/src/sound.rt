@@ -2,7 +2,7 @@
 ghost use mathlib.Core.Path.{_≡_};
 ghost use mathlib.Core.Bool.{true};
 ghost use Rattle.config.specs.Setup.{setupOk};
-ghost use Rattle.replica.specs.Lent.{lengthsOk, creatable, sound};
+ghost use Rattle.outside.specs.Sound.{lengthsOk, creatable, sound};
 use crate::Lengths;
 use config::Setup;
 use state::Replica;

@@ -1,0 +1,3 @@
+pub mod SoundLaws
+pub mod CallLaws
+pub mod CreateLaws

@@ -1,0 +1,104 @@
+// A frame's refusals, whose entry its message carries, and what the client table has to follow.
+ghost use mathlib.Core.Path.{_≡_};
+ghost use Rattle.outside.specs.Calls.{checkedOf, entryFrom, noEntry, carriedBy, nobody, toldOf, changeBy};
+use crate::Lengths;
+use crate::sound;
+use fees::Outcome;
+use frames::Checked;
+use frames::Message;
+use rows::Change;
+use rows::Latest;
+use state::Answer;
+use state::Replica;
+
+// Refusal 1, then 2 to 6 on the frame alone.
+pub fn checked(s: Replica, l: Lengths, frame: &[u8]) -> Checked
+    ensures { λ r. ⌜ r ≡ checkedOf s l (now (frame .entry)) ⌝ }
+{
+    if !sound::is_sound(s, l) {
+        return Checked::Refused { number: 1 };
+    }
+    let u = s.setup;
+    frames::check(u, frame)
+}
+
+// Whether a message carries an entry, and whose.
+pub struct Carried {
+    pub carries: bool,
+    pub client: u64,
+}
+
+fn entry_from(client: u64) -> Carried
+    ensures { λ r. ⌜ r ≡ entryFrom client ⌝ }
+{
+    Carried {
+        carries: true,
+        client,
+    }
+}
+
+fn no_entry() -> Carried
+    ensures { λ r. ⌜ r ≡ noEntry ⌝ }
+{
+    Carried {
+        carries: false,
+        client: 0,
+    }
+}
+
+pub fn carried_by(m: Message) -> Carried
+    ensures { λ r. ⌜ r ≡ carriedBy m ⌝ }
+{
+    match m {
+        Message::Request { entry } => entry_from(entry.client),
+        Message::Prepare { entry, .. } => entry_from(entry.client),
+        Message::PrepareOk { .. } => no_entry(),
+        Message::Commit { .. } => no_entry(),
+        Message::GetState { .. } => no_entry(),
+        Message::NewState { .. } => no_entry(),
+        Message::StartViewChange { .. } => no_entry(),
+        Message::DoViewChange { .. } => no_entry(),
+        Message::StartView { .. } => no_entry(),
+        Message::Recovery { .. } => no_entry(),
+        Message::RecoveryResponse { .. } => no_entry(),
+    }
+}
+
+// A client of whom nothing is known.
+pub fn nobody() -> Latest
+    ensures { λ r. ⌜ r ≡ nobody ⌝ }
+{
+    Latest {
+        there: false,
+        request: 0,
+        replied: false,
+        reply: Outcome { code: 0, total: 0 },
+    }
+}
+
+// What the handler is told of a client's latest request: only of him whose entry the message carries.
+pub fn told(m: Message, l: Latest) -> Latest
+    ensures { λ r. ⌜ r ≡ toldOf m l ⌝ }
+{
+    if carried_by(m).carries {
+        return l;
+    }
+    nobody()
+}
+
+// What a call that wasn't refused did to the log, s being the state before it.
+pub fn change_by(s: Replica, a: Answer) -> Change
+    ensures { λ r. ⌜ r ≡ changeBy s a ⌝ }
+{
+    let op = s.op;
+    let commit = s.commit;
+    let to = a.state.op;
+    let done = a.state.commit;
+    Change {
+        installed: a.installed,
+        op,
+        commit,
+        to,
+        done,
+    }
+}
