@@ -1,9 +1,9 @@
 // What holds of a frame of every kind: its length, version, kind and addressee.
 use crate::field;
 use crate::log;
-use vectors::tried;
-use vectors::vector;
-use vectors::vector::Vector;
+use crate::tried;
+use crate::vector;
+use crate::vector::Vector;
 
 fn below(n: usize) -> usize {
     if n == 0 {

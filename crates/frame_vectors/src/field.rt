@@ -1,7 +1,7 @@
 // The fields of each kind at and past their limits.
 use crate::log;
-use vectors::tried;
-use vectors::vector::Vector;
+use crate::tried;
+use crate::vector::Vector;
 
 fn view(name: &[u8], v: Vector, at: usize) {
     tried::longs(name, v, at, &[0, 4294967295]);

@@ -1,8 +1,8 @@
 // Carried entries: the entry rules, logs of L and of L+1 entries, and logs that do not rise.
 ghost use Prim.Native.Nat.{_≤_};
-use vectors::tried;
-use vectors::vector;
-use vectors::vector::Vector;
+use crate::tried;
+use crate::vector;
+use crate::vector::Vector;
 
 fn cents(name: &[u8], v: Vector, at: usize) {
     tried::longs(name, v, at, &[0, 1, 1000000, 1000001]);

@@ -1,4 +1,6 @@
 // Document 01's frame table, its refusals 2 to 6 on the frame alone and its entry rules, run on vectors.
+mod vector; // frames of every kind, and frames with a part changed
+mod tried; // changed frames handed in, and their numbers printed
 mod every; // what holds of a frame of every kind
 mod field; // the fields of each kind at and past their limits
 mod log; // carried entries

@@ -255,11 +255,7 @@ extern "C" {
         area_length: usize,
         answers: *mut [u64; 1],
     ) -> u8;
-    fn whitherhaul_read_reply(
-        frame: *const u8,
-        frame_length: usize,
-        answers: *mut [u64; 5],
-    ) -> u8;
+    fn whitherhaul_read_reply(frame: *const u8, frame_length: usize, answers: *mut [u64; 5]) -> u8;
 }
 
 /// `new`: a replica's memory for the first time. 0 or 1.
