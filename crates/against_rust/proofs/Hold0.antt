@@ -1,200 +1,201 @@
 -- The definitions answer as recorded: antt computes it. By tools/model-replay. Assumes nothing.
 use mathlib.Core.Path.{refl}
-use Rattle.against_rust.specs.Shape.{Holds, open-shape}
+use Rattle.against_rust.specs.Shape.{Holds}
 use Rattle.against_rust.specs.Runs0.{run0, run1, run2, run3, run4, run5, run6, run7, run8, run9, run10, run11, run12, run13, run14, run15, run16, run17, run18, run19, run20, run21, run22, run23, run24, run25, run26, run27, run28, run29, run30, run31, run32, run33, run34, run35, run36, run37, run38, run39, run40, run41, run42, run43, run44, run45, run46, run47, run48}
+use Rattle.against_rust.proofs.OpenRuns.{open-runs}
 
 pub hold0 : Holds run0
-unfolding open-shape run0
+unfolding open-runs run0
 hold0 = refl
 
 pub hold1 : Holds run1
-unfolding open-shape run1
+unfolding open-runs run1
 hold1 = refl
 
 pub hold2 : Holds run2
-unfolding open-shape run2
+unfolding open-runs run2
 hold2 = refl
 
 pub hold3 : Holds run3
-unfolding open-shape run3
+unfolding open-runs run3
 hold3 = refl
 
 pub hold4 : Holds run4
-unfolding open-shape run4
+unfolding open-runs run4
 hold4 = refl
 
 pub hold5 : Holds run5
-unfolding open-shape run5
+unfolding open-runs run5
 hold5 = refl
 
 pub hold6 : Holds run6
-unfolding open-shape run6
+unfolding open-runs run6
 hold6 = refl
 
 pub hold7 : Holds run7
-unfolding open-shape run7
+unfolding open-runs run7
 hold7 = refl
 
 pub hold8 : Holds run8
-unfolding open-shape run8
+unfolding open-runs run8
 hold8 = refl
 
 pub hold9 : Holds run9
-unfolding open-shape run9
+unfolding open-runs run9
 hold9 = refl
 
 pub hold10 : Holds run10
-unfolding open-shape run10
+unfolding open-runs run10
 hold10 = refl
 
 pub hold11 : Holds run11
-unfolding open-shape run11
+unfolding open-runs run11
 hold11 = refl
 
 pub hold12 : Holds run12
-unfolding open-shape run12
+unfolding open-runs run12
 hold12 = refl
 
 pub hold13 : Holds run13
-unfolding open-shape run13
+unfolding open-runs run13
 hold13 = refl
 
 pub hold14 : Holds run14
-unfolding open-shape run14
+unfolding open-runs run14
 hold14 = refl
 
 pub hold15 : Holds run15
-unfolding open-shape run15
+unfolding open-runs run15
 hold15 = refl
 
 pub hold16 : Holds run16
-unfolding open-shape run16
+unfolding open-runs run16
 hold16 = refl
 
 pub hold17 : Holds run17
-unfolding open-shape run17
+unfolding open-runs run17
 hold17 = refl
 
 pub hold18 : Holds run18
-unfolding open-shape run18
+unfolding open-runs run18
 hold18 = refl
 
 pub hold19 : Holds run19
-unfolding open-shape run19
+unfolding open-runs run19
 hold19 = refl
 
 pub hold20 : Holds run20
-unfolding open-shape run20
+unfolding open-runs run20
 hold20 = refl
 
 pub hold21 : Holds run21
-unfolding open-shape run21
+unfolding open-runs run21
 hold21 = refl
 
 pub hold22 : Holds run22
-unfolding open-shape run22
+unfolding open-runs run22
 hold22 = refl
 
 pub hold23 : Holds run23
-unfolding open-shape run23
+unfolding open-runs run23
 hold23 = refl
 
 pub hold24 : Holds run24
-unfolding open-shape run24
+unfolding open-runs run24
 hold24 = refl
 
 pub hold25 : Holds run25
-unfolding open-shape run25
+unfolding open-runs run25
 hold25 = refl
 
 pub hold26 : Holds run26
-unfolding open-shape run26
+unfolding open-runs run26
 hold26 = refl
 
 pub hold27 : Holds run27
-unfolding open-shape run27
+unfolding open-runs run27
 hold27 = refl
 
 pub hold28 : Holds run28
-unfolding open-shape run28
+unfolding open-runs run28
 hold28 = refl
 
 pub hold29 : Holds run29
-unfolding open-shape run29
+unfolding open-runs run29
 hold29 = refl
 
 pub hold30 : Holds run30
-unfolding open-shape run30
+unfolding open-runs run30
 hold30 = refl
 
 pub hold31 : Holds run31
-unfolding open-shape run31
+unfolding open-runs run31
 hold31 = refl
 
 pub hold32 : Holds run32
-unfolding open-shape run32
+unfolding open-runs run32
 hold32 = refl
 
 pub hold33 : Holds run33
-unfolding open-shape run33
+unfolding open-runs run33
 hold33 = refl
 
 pub hold34 : Holds run34
-unfolding open-shape run34
+unfolding open-runs run34
 hold34 = refl
 
 pub hold35 : Holds run35
-unfolding open-shape run35
+unfolding open-runs run35
 hold35 = refl
 
 pub hold36 : Holds run36
-unfolding open-shape run36
+unfolding open-runs run36
 hold36 = refl
 
 pub hold37 : Holds run37
-unfolding open-shape run37
+unfolding open-runs run37
 hold37 = refl
 
 pub hold38 : Holds run38
-unfolding open-shape run38
+unfolding open-runs run38
 hold38 = refl
 
 pub hold39 : Holds run39
-unfolding open-shape run39
+unfolding open-runs run39
 hold39 = refl
 
 pub hold40 : Holds run40
-unfolding open-shape run40
+unfolding open-runs run40
 hold40 = refl
 
 pub hold41 : Holds run41
-unfolding open-shape run41
+unfolding open-runs run41
 hold41 = refl
 
 pub hold42 : Holds run42
-unfolding open-shape run42
+unfolding open-runs run42
 hold42 = refl
 
 pub hold43 : Holds run43
-unfolding open-shape run43
+unfolding open-runs run43
 hold43 = refl
 
 pub hold44 : Holds run44
-unfolding open-shape run44
+unfolding open-runs run44
 hold44 = refl
 
 pub hold45 : Holds run45
-unfolding open-shape run45
+unfolding open-runs run45
 hold45 = refl
 
 pub hold46 : Holds run46
-unfolding open-shape run46
+unfolding open-runs run46
 hold46 = refl
 
 pub hold47 : Holds run47
-unfolding open-shape run47
+unfolding open-runs run47
 hold47 = refl
 
 pub hold48 : Holds run48
-unfolding open-shape run48
+unfolding open-runs run48
 hold48 = refl

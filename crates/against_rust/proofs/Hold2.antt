@@ -1,56 +1,57 @@
 -- The definitions answer as recorded: antt computes it. By tools/model-replay. Assumes nothing.
 use mathlib.Core.Path.{refl}
-use Rattle.against_rust.specs.Shape.{Holds, open-shape}
+use Rattle.against_rust.specs.Shape.{Holds}
 use Rattle.against_rust.specs.Runs2.{run100, run101, run102, run103, run104, run105, run106, run107, run108, run109, run110, run111, run112}
+use Rattle.against_rust.proofs.OpenRuns.{open-runs}
 
 pub hold100 : Holds run100
-unfolding open-shape run100
+unfolding open-runs run100
 hold100 = refl
 
 pub hold101 : Holds run101
-unfolding open-shape run101
+unfolding open-runs run101
 hold101 = refl
 
 pub hold102 : Holds run102
-unfolding open-shape run102
+unfolding open-runs run102
 hold102 = refl
 
 pub hold103 : Holds run103
-unfolding open-shape run103
+unfolding open-runs run103
 hold103 = refl
 
 pub hold104 : Holds run104
-unfolding open-shape run104
+unfolding open-runs run104
 hold104 = refl
 
 pub hold105 : Holds run105
-unfolding open-shape run105
+unfolding open-runs run105
 hold105 = refl
 
 pub hold106 : Holds run106
-unfolding open-shape run106
+unfolding open-runs run106
 hold106 = refl
 
 pub hold107 : Holds run107
-unfolding open-shape run107
+unfolding open-runs run107
 hold107 = refl
 
 pub hold108 : Holds run108
-unfolding open-shape run108
+unfolding open-runs run108
 hold108 = refl
 
 pub hold109 : Holds run109
-unfolding open-shape run109
+unfolding open-runs run109
 hold109 = refl
 
 pub hold110 : Holds run110
-unfolding open-shape run110
+unfolding open-runs run110
 hold110 = refl
 
 pub hold111 : Holds run111
-unfolding open-shape run111
+unfolding open-runs run111
 hold111 = refl
 
 pub hold112 : Holds run112
-unfolding open-shape run112
+unfolding open-runs run112
 hold112 = refl

@@ -4,19 +4,14 @@ use Prim.Native.Nat.{ℕ, _-_}
 use mathlib.Core.Path.{_≡_}
 use mathlib.Core.List.{List, [], _∷_, _++_}
 use lib.ListN.{length, replicate}
-use Rattle.numbers.specs.Numbers.{over}
-use Rattle.meaning.specs.State.{viewOf}
-use Rattle.meaning.specs.Steps.{open-steps}
+use Rattle.model.specs.State.{viewOf}
 use Rattle.client.specs.declared.Pending.{Pending}
 use Rattle.client.specs.declared.Pending.the-variants.{Nothing, Waiting}
 use Rattle.client.specs.declared.Client.{Client}
 use Rattle.client.specs.declared.AfterCreate.{AfterCreate}
-use Rattle.client.specs.declared.AfterRequest.{AfterRequest}
-use Rattle.client.specs.declared.AfterReply.{AfterReply}
-use Rattle.client.specs.declared.Resent.{Resent}
-use Rattle.client.specs.Client.{createOf, requestRefusal, requestedOf, requestedArea, laterOf, answersOf, leftPending, repliedOf, framesTo, resend}
-use Rattle.client.specs.Client.{idleRefusal, idledOf, idledArea}
-use Rattle.against_rust.specs.Shape.{hex, flag}
+use Rattle.client.specs.Client.{createOf, requestedOf, requestedArea, repliedOf}
+use Rattle.client.specs.Client.{idledOf, idledArea}
+use Rattle.against_rust.specs.Shape.{flag}
 
 -- an area before a call: no frame has such bytes only
 unfoldable pub lent : ℕ → List ℕ
@@ -116,8 +111,3 @@ starts n id (set v k) = record { client = record { n = n; id = id; view = viewOf
 -- the client answers as recorded
 abbrev pub Holds : Run → Type 0
 Holds r = seenFrom (starts (r .n) (r .id) (r .start)) (r .lines) ≡ r .first ∷ allWanted (r .lines)
-
--- opens all of this file, and of those that it rests on: for a statement that antt computes
-unfoldable pub open-client-shape : Unit {0}
-unfolding open-steps over hex flag createOf requestRefusal requestedOf requestedArea laterOf answersOf leftPending repliedOf framesTo resend idleRefusal idledOf idledArea lent saw run pendingNumber known wanted allWanted afterLine shown seen seenFrom starts
-open-client-shape = tt

@@ -13,10 +13,10 @@ use Rattle.entries.specs.Entries.{encodeEntry}
 use Rattle.config.specs.declared.Setup.{Setup}
 use Rattle.fees.specs.declared.Outcome.{Outcome}
 use Rattle.frames.specs.Looks.{statusNumber}
-use Rattle.meaning.specs.State.{Row, State, Answer, after}
-use Rattle.meaning.specs.State.Answer.{refused, done}
-use Rattle.meaning.specs.Sending.{messagesOut, repliesOut}
-use Rattle.meaning.specs.Steps.{onFrame, onTick, create, recover, open-steps}
+use Rattle.model.specs.State.{Row, State, Answer, after}
+use Rattle.model.specs.State.Answer.{refused, done}
+use Rattle.model.specs.Sending.{messagesOut, repliesOut}
+use Rattle.model.specs.Steps.{onFrame, onTick, create, recover}
 
 -- bytes as a trace writes them: how many, and their hex digits as one number
 unfoldable pub hex : ℕ → ℕ → List ℕ
@@ -138,8 +138,3 @@ module _ (u : Setup) where
 -- the model answers as recorded
 abbrev pub Holds : Run → Type 0
 Holds r = seenFrom (r .setup) (r .first) (starts (r .setup) (r .start)) (r .lines) ≡ r .first ∷ allWanted (r .lines)
-
--- opens all of this file, and of those that it rests on: for a statement that antt computes
-unfoldable pub open-shape : Unit {0}
-unfolding open-steps hex saw run flag bitsOf numbersOf fnvFrom fnv keptBytes rowBytes digestsOf digestsLike shown wanted allWanted answer seen seenFrom starts
-open-shape = tt

@@ -26,6 +26,8 @@ use Rattle.frames.specs.declared.Message.{Message}
 use Rattle.frames.specs.declared.Message.the-variants.{Request, Prepare, PrepareOk, Commit, GetState, NewState, StartViewChange, DoViewChange, StartView, Recovery, RecoveryResponse}
 use Rattle.frames.specs.declared.Parsed.the-variants.{Frame, Malformed}
 use Rattle.frames.proofs.KindLaws.{each-kind, WellFormed, well-formed}
+use Rattle.numbers.specs.Numbers.{Bytes}
+use Rattle.numbers.proofs.NumberLaws.{drop-bytes}
 
 -- ---- the kind of a message
 
@@ -155,3 +157,7 @@ parsed s to m h = go (wellFormed s) refl
           kind = rw q (kind-said s (num 1 5 s) (w .low) (w .high));
           size = rw q (omega (arith, size-said s (num 1 5 s) (w .low) (w .high), w .exact));
         }
+
+pub carried-in-bytes : (x : Message) (frame : List ℕ) → Bytes frame → Bytes (carriedBytes x frame)
+unfolding carriedBytes
+carried-in-bytes x frame b = drop-bytes (carriedOf x .start) frame b

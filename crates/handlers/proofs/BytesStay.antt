@@ -49,7 +49,7 @@ use Rattle.recovery.specs.Recovery.{Collected, byResponse, recoveredBy, collect
 use Rattle.handlers.specs.Handlers.{ofServed, ofCounted, ofJoined, ofCollected, preparedBy, partOf, handled, messageStep, changingTick, idleStep}
 use Rattle.handlers.proofs.RunBytes.{RunBytes, entry-bytes, with-bytes, with-log, committed-bytes, settled-bytes}
 use Rattle.handlers.proofs.RunBytes.{acked-bytes, commit-bytes, prepare-bytes, new-state-bytes}
-use Rattle.handlers.proofs.FrameLaws.{carried-in-bytes}
+use Rattle.frames.proofs.MessageLaws.{carried-in-bytes}
 
 -- log, results, totals and the stored logs
 abbrev pub InBytes : Memory → Type 0

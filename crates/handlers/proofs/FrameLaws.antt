@@ -4,7 +4,6 @@
 --     new-state-fit, report-fit, start-view-fit, response-fit    numbers and log of a NewState, DoViewChange, StartView, RecoveryResponse
 --     request-ok, prepare-ok                                 the entry of a Request or Prepare: its fields fit, and it keeps the rules
 --     new-state-ok, report-ok, start-view-ok, response-ok    the rules of the entries that they carry
---     carried-in-bytes                                       what follows the fields is bytes, as the frame is
 -- Assumes nothing.
 use mathlib.Core.Path.{_≡_, refl, sym, ap, _∙_, subst}
 use mathlib.Core.Bool.{true}
@@ -59,10 +58,6 @@ known u frame k x e h =
       op = f .op;
       commit = f .commit;
     }
-
-pub carried-in-bytes : (x : Message) (frame : List ℕ) → Bytes frame → Bytes (carriedBytes x frame)
-unfolding carriedBytes
-carried-in-bytes x frame b = drop-bytes (carriedOf x .start) frame b
 
 -- the first entry of `part`
 first-ok : (part : List ℕ) → Bytes part → entriesOk 1 part ≡ true

@@ -18,3 +18,4 @@ pub mod RefusedSteps
 pub mod RefusedNormal
 pub mod RefusedChange
 pub mod RefusedStays
+pub mod HandlersLift

@@ -4,3 +4,7 @@ pub mod PrepareLaws
 pub mod PrepareOkLaws
 pub mod RequestLaws
 pub mod TickLaws
+pub mod RequestLift
+pub mod PrepareLift
+pub mod PrepareOkLift
+pub mod PrimaryTickLift

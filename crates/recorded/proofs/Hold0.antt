@@ -1,72 +1,73 @@
 -- The definitions answer as recorded: antt computes it. By tools/model-replay. Assumes nothing.
 use mathlib.Core.Path.{refl}
-use Rattle.against_rust.specs.Shape.{Holds, open-shape}
+use Rattle.against_rust.specs.Shape.{Holds}
 use Rattle.recorded.specs.Runs0.{run0, run1, run2, run3, run4, run5, run6, run7, run8, run9, run10, run11, run12, run13, run14, run15, run16}
+use Rattle.against_rust.proofs.OpenRuns.{open-runs}
 
 pub hold0 : Holds run0
-unfolding open-shape run0
+unfolding open-runs run0
 hold0 = refl
 
 pub hold1 : Holds run1
-unfolding open-shape run1
+unfolding open-runs run1
 hold1 = refl
 
 pub hold2 : Holds run2
-unfolding open-shape run2
+unfolding open-runs run2
 hold2 = refl
 
 pub hold3 : Holds run3
-unfolding open-shape run3
+unfolding open-runs run3
 hold3 = refl
 
 pub hold4 : Holds run4
-unfolding open-shape run4
+unfolding open-runs run4
 hold4 = refl
 
 pub hold5 : Holds run5
-unfolding open-shape run5
+unfolding open-runs run5
 hold5 = refl
 
 pub hold6 : Holds run6
-unfolding open-shape run6
+unfolding open-runs run6
 hold6 = refl
 
 pub hold7 : Holds run7
-unfolding open-shape run7
+unfolding open-runs run7
 hold7 = refl
 
 pub hold8 : Holds run8
-unfolding open-shape run8
+unfolding open-runs run8
 hold8 = refl
 
 pub hold9 : Holds run9
-unfolding open-shape run9
+unfolding open-runs run9
 hold9 = refl
 
 pub hold10 : Holds run10
-unfolding open-shape run10
+unfolding open-runs run10
 hold10 = refl
 
 pub hold11 : Holds run11
-unfolding open-shape run11
+unfolding open-runs run11
 hold11 = refl
 
 pub hold12 : Holds run12
-unfolding open-shape run12
+unfolding open-runs run12
 hold12 = refl
 
 pub hold13 : Holds run13
-unfolding open-shape run13
+unfolding open-runs run13
 hold13 = refl
 
 pub hold14 : Holds run14
-unfolding open-shape run14
+unfolding open-runs run14
 hold14 = refl
 
 pub hold15 : Holds run15
-unfolding open-shape run15
+unfolding open-runs run15
 hold15 = refl
 
 pub hold16 : Holds run16
-unfolding open-shape run16
+unfolding open-runs run16
 hold16 = refl

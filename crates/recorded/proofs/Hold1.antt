@@ -1,88 +1,89 @@
 -- The definitions answer as recorded: antt computes it. By tools/model-replay. Assumes nothing.
 use mathlib.Core.Path.{refl}
-use Rattle.against_rust.specs.Shape.{Holds, open-shape}
+use Rattle.against_rust.specs.Shape.{Holds}
 use Rattle.recorded.specs.Runs1.{run17, run18, run19, run20, run21, run22, run23, run24, run25, run26, run27, run28, run29, run30, run31, run32, run33, run34, run35, run36, run37}
+use Rattle.against_rust.proofs.OpenRuns.{open-runs}
 
 pub hold17 : Holds run17
-unfolding open-shape run17
+unfolding open-runs run17
 hold17 = refl
 
 pub hold18 : Holds run18
-unfolding open-shape run18
+unfolding open-runs run18
 hold18 = refl
 
 pub hold19 : Holds run19
-unfolding open-shape run19
+unfolding open-runs run19
 hold19 = refl
 
 pub hold20 : Holds run20
-unfolding open-shape run20
+unfolding open-runs run20
 hold20 = refl
 
 pub hold21 : Holds run21
-unfolding open-shape run21
+unfolding open-runs run21
 hold21 = refl
 
 pub hold22 : Holds run22
-unfolding open-shape run22
+unfolding open-runs run22
 hold22 = refl
 
 pub hold23 : Holds run23
-unfolding open-shape run23
+unfolding open-runs run23
 hold23 = refl
 
 pub hold24 : Holds run24
-unfolding open-shape run24
+unfolding open-runs run24
 hold24 = refl
 
 pub hold25 : Holds run25
-unfolding open-shape run25
+unfolding open-runs run25
 hold25 = refl
 
 pub hold26 : Holds run26
-unfolding open-shape run26
+unfolding open-runs run26
 hold26 = refl
 
 pub hold27 : Holds run27
-unfolding open-shape run27
+unfolding open-runs run27
 hold27 = refl
 
 pub hold28 : Holds run28
-unfolding open-shape run28
+unfolding open-runs run28
 hold28 = refl
 
 pub hold29 : Holds run29
-unfolding open-shape run29
+unfolding open-runs run29
 hold29 = refl
 
 pub hold30 : Holds run30
-unfolding open-shape run30
+unfolding open-runs run30
 hold30 = refl
 
 pub hold31 : Holds run31
-unfolding open-shape run31
+unfolding open-runs run31
 hold31 = refl
 
 pub hold32 : Holds run32
-unfolding open-shape run32
+unfolding open-runs run32
 hold32 = refl
 
 pub hold33 : Holds run33
-unfolding open-shape run33
+unfolding open-runs run33
 hold33 = refl
 
 pub hold34 : Holds run34
-unfolding open-shape run34
+unfolding open-runs run34
 hold34 = refl
 
 pub hold35 : Holds run35
-unfolding open-shape run35
+unfolding open-runs run35
 hold35 = refl
 
 pub hold36 : Holds run36
-unfolding open-shape run36
+unfolding open-runs run36
 hold36 = refl
 
 pub hold37 : Holds run37
-unfolding open-shape run37
+unfolding open-runs run37
 hold37 = refl

@@ -1,2 +1,5 @@
 pub mod RecoveryLaws
 pub mod ResponseLaws
+pub mod NotedLift
+pub mod RecoveredLift
+pub mod RecoveryLift

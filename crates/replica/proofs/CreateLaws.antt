@@ -12,7 +12,7 @@ use Rattle.numbers.specs.Numbers.{num, over}
 use Rattle.numbers.specs.Cells.{cells}
 use Rattle.numbers.specs.declared.View.{View}
 use Rattle.numbers.proofs.WordLaws.{split}
-use Rattle.numbers.proofs.RunLaws.{length-over}
+use Rattle.numbers.proofs.RunLaws.{length-over, over-all}
 use Rattle.entries.specs.Entries.{entriesOk}
 use Rattle.config.specs.Setup.{setupOk}
 use Rattle.config.specs.declared.Setup.{Setup}
@@ -27,23 +27,22 @@ use Rattle.state.specs.Lengths.{acksLength, totalsLength, tableLength}
 use Rattle.state.specs.declared.Answer.{Answer}
 use Rattle.state.specs.declared.Replica.{Replica}
 use Rattle.handlers.proofs.Held.{none-ok}
-use Rattle.meaning.specs.State.{Report, Response}
-use Rattle.meaning.specs.Book.{emptyBook}
-use Rattle.meaning.specs.ViewChange.{noReports, noAcks}
-use Rattle.meaning.specs.Recovery.{noResponses}
-use Rattle.meaning.specs.Layout.{totalOf, tableOf, Ordered, storeOf, bookOf, modelOf}
-use Rattle.meaning.specs.Steps.{newAt}
-use Rattle.meaning.proofs.RowLaws.{Means}
-use Rattle.meaning.proofs.TableLift.{blank-means}
-use Rattle.meaning.proofs.StepLift.{reports-cleared, responses-cleared}
-use Rattle.meaning.proofs.StartViewLift.{over-all}
+use Rattle.model.specs.State.{Report, Response}
+use Rattle.model.specs.Book.{emptyBook}
+use Rattle.model.specs.ViewChange.{noReports, noAcks}
+use Rattle.model.specs.Recovery.{noResponses}
+use Rattle.layout.specs.Layout.{totalOf, tableOf, Ordered, storeOf, bookOf, modelOf}
+use Rattle.model.specs.Steps.{newAt}
+use Rattle.layout.proofs.RowLift.{Means}
+use Rattle.layout.proofs.TableLift.{blank-means}
+use Rattle.steps.proofs.StepLift.{reports-cleared, responses-cleared}
 use Rattle.safety.specs.Demand.{Created, run}
 use Rattle.outside.specs.Sound.{sound}
 use Rattle.outside.specs.Creation.{begun, zeroed}
 use Rattle.outside.proofs.SoundLaws.{Long, is-sound}
 use Rattle.replica.specs.Calls.{cleared}
 use Rattle.replica.specs.Lent.{Lent, lent, called, lengthsOf}
-use Rattle.replica.specs.Promise.{meaningOf, Kept}
+use Rattle.replica.specs.Meaning.{meaningOf, Kept}
 
 -- ---- what it leaves
 

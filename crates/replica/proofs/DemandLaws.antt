@@ -21,16 +21,17 @@ use Rattle.state.specs.declared.Replica.{Replica}
 use Rattle.do_view_change.specs.Record.{Recorded}
 use Rattle.handlers.proofs.RefusedSteps as S
 use Rattle.handlers.proofs.RefusedStays as R
-use Rattle.meaning.specs.State.{State, Answer, after}
-use Rattle.meaning.specs.State.Answer.{refused, done}
-use Rattle.meaning.specs.Layout.{bookOf, modelOf}
+use Rattle.model.specs.State.{State, Answer, after}
+use Rattle.model.specs.State.Answer.{refused, done}
+use Rattle.layout.specs.Layout.{bookOf, modelOf}
 use Rattle.safety.specs.Demand.{Call, answer, run, Safe, Later}
 use Rattle.safety.specs.Demand.Call.{frame, tick}
 use Rattle.safety.proofs.Runs.{demand3}
 use Rattle.outside.specs.Calls.{checkedOf, changeBy}
 use Rattle.replica.specs.Calls.{latestFor, tableAfter, Tabled, tabled, followedBy, withTable, following, checkedCall, messageCall, idleCall}
 use Rattle.replica.specs.Lent.{Lent, Called, called, lengthsOf}
-use Rattle.replica.specs.Promise.{Reached, Kept, Means, meaningOf, appliedAfter, frameAnswer, tickAnswer, MessagePromise, IdlePromise, CreatePromise, RecoverPromise}
+use Rattle.replica.specs.Meaning.{Reached, Kept, Means, meaningOf, appliedAfter, frameAnswer, tickAnswer}
+use Rattle.replica.specs.Promise.{MessagePromise, IdlePromise, CreatePromise, RecoverPromise}
 use Rattle.replica.specs.Demands.{Untouched, HandedBack, Link, Chain, GoesOn}
 use Rattle.replica.specs.Demands.Link.{message, tick as idled}
 use Rattle.replica.specs.Demands.Chain.{none, more}

@@ -30,16 +30,16 @@ use Rattle.do_view_change.specs.Record.{Recorded, recorded}
 use Rattle.handlers.proofs.Stays.{Stays}
 use Rattle.handlers.proofs.RunBytes.{RunBytes}
 use Rattle.handlers.proofs.Ruled.{RuledBy}
-use Rattle.meaning.specs.State.{Row, State, Sent, Reply, Answer, after}
-use Rattle.meaning.specs.State.Answer.{refused, done}
-use Rattle.meaning.specs.Layout.{tableOf, Ordered, bookOf, modelOf}
-use Rattle.meaning.specs.Steps.{stateOk}
-use Rattle.meaning.specs.Shown.{Given, Did, Shown}
-use Rattle.meaning.proofs.RowLaws as M
-use Rattle.meaning.proofs.BeginLift.{memoryOf, ofRecorded}
-use Rattle.meaning.proofs.FollowLift.{follow-shown}
-use Rattle.meaning.proofs.FoundLift.{found-tells}
-use Rattle.meaning.proofs.HandlersLift.{RowTells, Fit}
+use Rattle.model.specs.State.{Row, State, Sent, Reply, Answer, after}
+use Rattle.model.specs.State.Answer.{refused, done}
+use Rattle.layout.specs.Layout.{tableOf, Ordered, bookOf, modelOf}
+use Rattle.model.specs.Steps.{stateOk}
+use Rattle.layout.specs.Shown.{Given, Did, Shown}
+use Rattle.layout.proofs.RowLift as M
+use Rattle.do_view_change.proofs.BeginLift.{memoryOf, ofRecorded}
+use Rattle.layout.proofs.FollowLift.{follow-shown}
+use Rattle.replica.proofs.FoundLift.{found-tells}
+use Rattle.handlers.proofs.HandlersLift.{RowTells, Fit}
 use Rattle.safety.specs.Demand.{Call, answer, run, Safe}
 use Rattle.safety.proofs.Runs.{demand3}
 use Rattle.safety.proofs.Latest.{safe-rising, safe-latest}
@@ -47,7 +47,7 @@ use Rattle.outside.specs.Calls.{carriedBy, toldOf, changeBy}
 use Rattle.outside.proofs.SoundLaws.{Whole, sound-is, is-sound}
 use Rattle.replica.specs.Calls.{tableAfter, following, latestFor}
 use Rattle.replica.specs.Lent.{Lent, Called, called}
-use Rattle.replica.specs.Promise.{runsOf, meaningOf, Owned, Reached, Kept, Done, Means, appliedAfter}
+use Rattle.replica.specs.Meaning.{runsOf, meaningOf, Owned, Reached, Kept, Done, Means, appliedAfter}
 use Rattle.replica.proofs.TableLaws.{refused-follows, done-follows, table-after, old-after}
 
 -- ---- one call more

@@ -7,3 +7,5 @@ pub mod PromiseLaws
 pub mod CallLaws
 mod KnownLaws
 pub mod DemandLaws
+pub mod FoundLift
+pub mod MarkedHold

@@ -18,15 +18,15 @@ use Rattle.handlers.proofs.Stays.{message-stays, idle-stays}
 use Rattle.handlers.proofs.BytesStay.{InBytes, message-bytes, idle-bytes}
 use Rattle.handlers.proofs.Ruled.{Ruled}
 use Rattle.handlers.proofs.EntriesStay.{message-ruled, idle-ruled}
-use Rattle.meaning.specs.State.{State, Answer, after}
-use Rattle.meaning.specs.Steps.{fitted, onChecked, onIdle, onFrame, onTick}
-use Rattle.meaning.proofs.HandlersLift.{message-shown, idle-shown}
+use Rattle.model.specs.State.{State, Answer, after}
+use Rattle.model.specs.Steps.{fitted, onChecked, onIdle, onFrame, onTick}
+use Rattle.handlers.proofs.HandlersLift.{message-shown, idle-shown}
 use Rattle.safety.specs.Demand.{answer}
 use Rattle.safety.specs.Demand.Call.{frame as framed, tick}
 use Rattle.outside.proofs.CallLaws.{past-1}
 use Rattle.replica.specs.Calls.{latestFor, following, checkedCall, messageCall, idleCall, createCall, recoverCall}
 use Rattle.replica.specs.Lent.{Lent, Called, lengthsOf}
-use Rattle.replica.specs.Promise.{meaningOf, Owned, Reached, Kept, frameAnswer, tickAnswer}
+use Rattle.replica.specs.Meaning.{meaningOf, Owned, Reached, Kept, frameAnswer, tickAnswer}
 use Rattle.replica.specs.Promise.{MessagePromise, IdlePromise, CreatePromise, RecoverPromise}
 use Rattle.replica.proofs.KeptLaws.{goes-on, Promised, given, rows, whole, never-1, fit, row-tells, refused-kept, step-kept}
 use Rattle.replica.proofs.StartLaws.{create-means, create-keeps, recover-means, recover-keeps}

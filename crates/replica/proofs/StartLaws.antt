@@ -13,7 +13,7 @@ use Rattle.numbers.specs.Words.{if_then_else_}
 use Rattle.numbers.specs.Numbers.{over}
 use Rattle.numbers.specs.Cells.{packed}
 use Rattle.numbers.specs.declared.View.{View}
-use Rattle.numbers.proofs.WordLaws.{split, split₂, if-true, if-false}
+use Rattle.numbers.proofs.WordLaws.{split, split₂, if-true, if-false, by-not}
 use Rattle.config.specs.Setup.{setupOk}
 use Rattle.config.specs.declared.Setup.{Setup}
 use Rattle.frames.specs.declared.Status.the-variants.{Normal, Recovering}
@@ -25,20 +25,19 @@ use Rattle.state.specs.declared.Replica.{Replica}
 use Rattle.reports.proofs.RowLaws.{both}
 use Rattle.steps.proofs.SendLaws.{bare-long}
 use Rattle.recovery.specs.Recovery.{recoveriesLength, recoveriesOf}
-use Rattle.meaning.specs.State.{State, Answer}
-use Rattle.meaning.specs.Book.{emptyBook}
-use Rattle.meaning.specs.State.Answer.{refused, done}
-use Rattle.meaning.specs.Sending.{messagesOut, repliesOut, sendRecovery}
-use Rattle.meaning.specs.Steps.{newAt, create, recover}
-use Rattle.meaning.proofs.SendLift.{bare-bytes, sends-only}
-use Rattle.meaning.proofs.StartViewLift.{by-not}
+use Rattle.model.specs.State.{State, Answer}
+use Rattle.model.specs.Book.{emptyBook}
+use Rattle.model.specs.State.Answer.{refused, done}
+use Rattle.model.specs.Sending.{messagesOut, repliesOut, sendRecovery}
+use Rattle.model.specs.Steps.{newAt, create, recover}
+use Rattle.steps.proofs.SendLift.{bare-bytes, sends-only}
 use Rattle.safety.specs.Demand.Created.{new, back}
 use Rattle.outside.specs.Sound.{lengthsOk, creatable, noReplica}
 use Rattle.outside.specs.Creation.{Begun, begun, createStep, recoverStep}
 use Rattle.outside.proofs.SoundLaws.{Long, long-is}
 use Rattle.replica.specs.Calls.{cleared, createCall, recoverCall}
 use Rattle.replica.specs.Lent.{Lent, Called, called, lengthsOf}
-use Rattle.replica.specs.Promise.{Kept, Done, Means}
+use Rattle.replica.specs.Meaning.{Kept, Done, Means}
 use Rattle.replica.proofs.CreateLaws.{emptied, cleared-refused, cleared-done, new-reads, new-kept}
 
 -- ---- creation

@@ -8,7 +8,8 @@ use Rattle.state.specs.Answers.{refusal}
 use Rattle.state.specs.declared.Replica.{Replica}
 use Rattle.safety.specs.Demand.{Safe, Later}
 use Rattle.replica.specs.Lent.{Lent, Called, called}
-use Rattle.replica.specs.Promise.{Owned, Kept, meaningOf, MessagePromise, IdlePromise}
+use Rattle.replica.specs.Meaning.{Owned, Kept, meaningOf}
+use Rattle.replica.specs.Promise.{MessagePromise, IdlePromise}
 
 -- Demand 1: a call that is refused leaves the state and every lent byte as they were, with counts of 0.
 abbrev pub Untouched : Replica → Lent → Called → Type 0

@@ -1,4 +1,6 @@
 pub mod Lent
 pub mod Calls
+pub mod Meaning
 pub mod Promise
 pub mod Demands
+pub mod Marked

@@ -10,7 +10,8 @@ use Rattle.numbers.specs.declared.View.{View}
 use Rattle.entries.specs.declared.Entry.{Entry}
 use Rattle.config.specs.declared.Setup.{Setup}
 use Rattle.state.specs.declared.Replica.{Replica}
-use Rattle.replica.specs.Promise.{meaningOf, Owned, frameAnswer, tickAnswer, appliedAfter, MessagePromise, IdlePromise, CreatePromise, RecoverPromise}
+use Rattle.replica.specs.Meaning.{meaningOf, Owned, frameAnswer, tickAnswer, appliedAfter}
+use Rattle.replica.specs.Promise.{MessagePromise, IdlePromise, CreatePromise, RecoverPromise}
 use Rattle.replica.proofs.PromiseLaws.{message-promised, idle-promised, create-promised, recover-promised}
 use Rattle.replica_rows.specs.Calls.{LentRows, CalledRows}
 use Rattle.replica_rows.specs.Promise.{inBytes, calledBytes, KeptRows, MessageRowsPromise, IdleRowsPromise, CreateRowsPromise, RecoverRowsPromise}

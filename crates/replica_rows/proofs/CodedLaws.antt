@@ -7,11 +7,11 @@ use lib.ListN.{length, drop}
 use lib.Seq.{drop-at}
 use Rattle.entries.specs.declared.Entry.{Entry}
 use Rattle.rows.proofs.AlikeLaws.{Coded}
-use Rattle.meaning.specs.State.{Book}
-use Rattle.meaning.specs.Book.{answersOf, appendAll, due, commitUpTo, install}
-use Rattle.meaning.specs.Shown.{Grew}
-use Rattle.meaning.specs.Shown.Grew.{more, anew}
-use Rattle.meaning.proofs.BookLaws.{outcome-code, commitAll-results, appendAll-rest}
+use Rattle.model.specs.State.{Book}
+use Rattle.model.specs.Book.{answersOf, appendAll, due, commitUpTo, install}
+use Rattle.layout.specs.Shown.{Grew}
+use Rattle.layout.specs.Shown.Grew.{more, anew}
+use Rattle.model.proofs.BookLaws.{outcome-code, commitAll-results, appendAll-rest}
 
 answers-coded : (ts : List ℕ) (es : List Entry) → Coded (answersOf ts es)
 unfolding answersOf

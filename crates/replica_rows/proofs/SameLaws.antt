@@ -26,10 +26,10 @@ use Rattle.state.specs.declared.Replica.{Replica}
 use Rattle.do_view_change.specs.Record.{Recorded}
 use Rattle.handlers.specs.Handlers.{messageStep, idleStep}
 use Rattle.handlers.proofs.BytesStay.{InBytes, message-bytes, idle-bytes}
-use Rattle.meaning.specs.State.{Answer}
-use Rattle.meaning.specs.Steps.{fitted, onChecked, onIdle}
-use Rattle.meaning.specs.Shown.{Given}
-use Rattle.meaning.proofs.HandlersLift.{message-shown, idle-shown}
+use Rattle.model.specs.State.{Answer}
+use Rattle.model.specs.Steps.{fitted, onChecked, onIdle}
+use Rattle.layout.specs.Shown.{Given}
+use Rattle.handlers.proofs.HandlersLift.{message-shown, idle-shown}
 use Rattle.outside.specs.Sound.{lengthsWith, sound}
 use Rattle.outside.specs.Calls.{carriedBy, toldOf}
 use Rattle.outside.specs.Creation.{Begun, memoryAfter, createStep, recoverStep}
@@ -39,7 +39,7 @@ use Rattle.outside.proofs.CallLaws.{past-1}
 use Rattle.outside.proofs.CreateLaws.{create-long, recover-long}
 use Rattle.replica.specs.Calls.{latestFor, following, checkedCall, messageCall, idleCall, cleared, createCall, recoverCall}
 use Rattle.replica.specs.Lent.{Lent, called, lengthsOf}
-use Rattle.replica.specs.Promise.{meaningOf, Owned}
+use Rattle.replica.specs.Meaning.{meaningOf, Owned}
 use Rattle.replica.proofs.KeptLaws.{given, rows, fit, row-tells}
 use Rattle.replica_rows.specs.Core.{lengthsIn, clientIn, checkedCore, idleCore, begunIn, createCore, recoverCore}
 use Rattle.replica_rows.specs.Calls.{LentRows, followingRows, checkedRows, messageRows, idleRows, clearedRows, createRows, recoverRows}

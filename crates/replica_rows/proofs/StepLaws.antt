@@ -35,18 +35,17 @@ use Rattle.state.specs.declared.Replica.{Replica}
 use Rattle.book.specs.Memory.{Memory}
 use Rattle.do_view_change.specs.Record.{Recorded, recorded}
 use Rattle.handlers.proofs.RunBytes.{RunBytes}
-use Rattle.meaning.specs.State.{State, Sent, Reply, Answer}
-use Rattle.meaning.specs.State.Answer.{refused, done}
-use Rattle.meaning.specs.Layout.{bookOf, modelOf}
-use Rattle.meaning.specs.Shown.{Did, Shown}
-use Rattle.meaning.proofs.BeginLift.{memoryOf, ofRecorded}
-use Rattle.meaning.proofs.StartViewLift.{over-all}
+use Rattle.model.specs.State.{State, Sent, Reply, Answer}
+use Rattle.model.specs.State.Answer.{refused, done}
+use Rattle.layout.specs.Layout.{bookOf, modelOf}
+use Rattle.layout.specs.Shown.{Did, Shown}
+use Rattle.do_view_change.proofs.BeginLift.{memoryOf, ofRecorded}
 use Rattle.safety.proofs.Ranges.{entries-fit}
 use Rattle.outside.specs.Calls.{changeBy}
 use Rattle.outside.proofs.SoundLaws.{Whole}
 use Rattle.replica.specs.Calls.{tableAfter, following}
 use Rattle.replica.specs.Lent.{Lent, Called, called}
-use Rattle.replica.specs.Promise.{meaningOf, Owned}
+use Rattle.replica.specs.Meaning.{meaningOf, Owned}
 use Rattle.replica.proofs.RowLaws.{results-fit}
 use Rattle.replica.proofs.TableLaws.{refused-follows, done-follows}
 use Rattle.replica.proofs.KeptLaws.{given, rows, whole}
@@ -55,6 +54,7 @@ use Rattle.replica_rows.specs.Calls.{LentRows, CalledRows, calledRows, r
 use Rattle.replica_rows.specs.Promise.{byteOf, tableBytes, inBytes, calledBytes, RowsOk, KeptRows}
 use Rattle.replica_rows.proofs.CodedLaws.{grew-coded}
 use Rattle.replica_rows.proofs.ByteLaws.{followed-same, followed-ok, bytes-long, rows-read}
+use Rattle.numbers.proofs.RunLaws.{over-all}
 
 -- ---- nothing changed
 

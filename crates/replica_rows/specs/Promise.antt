@@ -18,7 +18,7 @@ use Rattle.state.specs.declared.Replica.{Replica}
 use Rattle.safety.specs.Ranges.{All}
 use Rattle.replica.specs.Lent.{Lent, Called}
 use Rattle.replica.specs.Calls.{messageCall, idleCall, createCall, recoverCall}
-use Rattle.replica.specs.Promise as P
+use Rattle.replica.specs.Meaning as Meaning
 use Rattle.replica_rows.specs.Calls.{LentRows, CalledRows, messageRows, idleRows, createRows, recoverRows}
 
 -- a row's mark and total in bytes
@@ -63,19 +63,19 @@ RowsOk xs = All RowOk xs
 -- State and memory that calls produced.
 pub record KeptRows (s : Replica) (x : LentRows) (applied : List Entry) : Type 0 where
   pub rows : RowsOk (x .table)
-  pub kept : P.Kept s (inBytes x) applied
+  pub kept : Meaning.Kept s (inBytes x) applied
 
 -- on_message
 pub record MessageRowsPromise (s : Replica) (frame : List ℕ) (x : LentRows) (d : CalledRows) : Type 0 where
   pub exact : d ≡ messageRows s frame x
-  pub same : (applied : List Entry) → Bytes frame → P.Owned (inBytes x) → KeptRows s x applied → calledBytes d ≡ messageCall s frame (inBytes x)
-  pub keeps : (applied : List Entry) → Bytes frame → P.Owned (inBytes x) → KeptRows s x applied → RowsOk (d .lent .table)
+  pub same : (applied : List Entry) → Bytes frame → Meaning.Owned (inBytes x) → KeptRows s x applied → calledBytes d ≡ messageCall s frame (inBytes x)
+  pub keeps : (applied : List Entry) → Bytes frame → Meaning.Owned (inBytes x) → KeptRows s x applied → RowsOk (d .lent .table)
 
 -- on_idle
 pub record IdleRowsPromise (s : Replica) (x : LentRows) (d : CalledRows) : Type 0 where
   pub exact : d ≡ idleRows s x
-  pub same : (applied : List Entry) → P.Owned (inBytes x) → KeptRows s x applied → calledBytes d ≡ idleCall s (inBytes x)
-  pub keeps : (applied : List Entry) → P.Owned (inBytes x) → KeptRows s x applied → RowsOk (d .lent .table)
+  pub same : (applied : List Entry) → Meaning.Owned (inBytes x) → KeptRows s x applied → calledBytes d ≡ idleCall s (inBytes x)
+  pub keeps : (applied : List Entry) → Meaning.Owned (inBytes x) → KeptRows s x applied → RowsOk (d .lent .table)
 
 -- new, recover: whatever was there before
 pub record CreateRowsPromise (u : Setup) (x : LentRows) (d : CalledRows) : Type 0 where

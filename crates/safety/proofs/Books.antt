@@ -12,12 +12,12 @@ use Rattle.entries.specs.Rising.{rising}
 use Rattle.entries.specs.declared.Entry.{Entry}
 use Rattle.config.specs.declared.Setup.{Setup}
 use Rattle.fees.specs.declared.Outcome.{Outcome}
-use Rattle.meaning.specs.State.{Row, Book}
-use Rattle.meaning.specs.Book.{through, answersOf, put, rowOf, append, appendAll, commitOne, commitAll, commitUpTo, due, install, agree, Rises}
-use Rattle.meaning.proofs.BookLaws.{through-append, answers-append, commitAll-log, commitAll-commit, commitAll-applied, commitAll-totals, commitAll-results}
-use Rattle.meaning.proofs.BookLaws.{agree-take, agree-le, length-due, appendAll-log, appendAll-length, Rest, appendAll-rest}
+use Rattle.model.specs.State.{Row, Book}
+use Rattle.model.specs.Book.{through, answersOf, put, rowOf, append, appendAll, commitOne, commitAll, commitUpTo, due, install, agree, Rises}
+use Rattle.model.proofs.BookLaws.{through-append, answers-append, commitAll-log, commitAll-commit, commitAll-applied, commitAll-totals, commitAll-results}
+use Rattle.model.proofs.BookLaws.{agree-take, agree-le, length-due, appendAll-log, appendAll-length, Rest, appendAll-rest}
 use Rattle.safety.specs.Demand.{bare, rowsOf, zeros}
-use Rattle.meaning.proofs.TableLaws.{put-rises, keep-rises, rebuilt-rises}
+use Rattle.model.proofs.TableLaws.{put-rises, keep-rises, rebuilt-rises}
 use Rattle.safety.proofs.Tables.{keep-bare, append-bare, rows-append, rebuilt-bare}
 
 -- the invariant

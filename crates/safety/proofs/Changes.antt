@@ -21,16 +21,16 @@ use Rattle.clock.specs.declared.Ticked.{Ticked}
 use Rattle.clock.specs.declared.Duty.{Duty}
 use Rattle.clock.specs.declared.Duty.the-variants.{Lead, Follow, Change}
 use Rattle.frames.specs.declared.Status.{Status}
-use Rattle.meaning.specs.State.{Place, Book, Votes, Report, Response, Store, State}
+use Rattle.model.specs.State.{Place, Book, Votes, Report, Response, Store, State}
 use Rattle.state.specs.Statuses.{isChanging}
-use Rattle.meaning.specs.State.{withPlace, withBook, withVotes, withStore, withClock, withStatus, withAcks, opOf}
-use Rattle.meaning.specs.Book.{outcome, totalsAfter, through, append, appendAll, due, commitUpTo, install, emptyBook}
-use Rattle.meaning.specs.Normal.{heardBy, committed, ackRow, acked, blanked, accepted}
-use Rattle.meaning.specs.ViewChange.{heldBy, ownReport, clearedVotes, markSent, votedFor, recorded, noReports, noAcks, ownVote, clearedStore}
-use Rattle.meaning.specs.ViewChange.{enterNormal, catchingUpWith, acksFrom, changingTo}
-use Rattle.meaning.specs.Recovery.{noted, noResponses, forgotten}
-use Rattle.meaning.specs.Steps.{newAt}
-use Rattle.meaning.proofs.BookLaws.{commitAll-log, commitAll-totals}
+use Rattle.model.specs.State.{withPlace, withBook, withVotes, withStore, withClock, withStatus, withAcks, opOf}
+use Rattle.model.specs.Book.{outcome, totalsAfter, through, append, appendAll, due, commitUpTo, install, emptyBook}
+use Rattle.model.specs.Normal.{heardBy, committed, ackRow, acked, blanked, accepted}
+use Rattle.model.specs.ViewChange.{heldBy, ownReport, clearedVotes, markSent, votedFor, recorded, noReports, noAcks, ownVote, clearedStore}
+use Rattle.model.specs.ViewChange.{enterNormal, catchingUpWith, acksFrom, changingTo}
+use Rattle.model.specs.Recovery.{noted, noResponses, forgotten}
+use Rattle.model.specs.Steps.{newAt}
+use Rattle.model.proofs.BookLaws.{commitAll-log, commitAll-totals}
 use Rattle.safety.specs.Demand.{Every}
 use Rattle.safety.specs.Ranges.{All, Below, Small, ReportFits, ResponseFits, Ranges}
 use Rattle.safety.proofs.Handlers.{every-none, every-set}

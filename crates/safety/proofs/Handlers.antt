@@ -17,18 +17,18 @@ use Rattle.config.specs.declared.Setup.{Setup}
 use Rattle.fees.specs.declared.Outcome.{Outcome}
 use Rattle.clock.specs.declared.Clock.{Clock}
 use Rattle.clock.specs.declared.Ticked.{Ticked}
-use Rattle.meaning.specs.State.{Book, Votes, Held, Report, Response, Store, State, Sent, Reply, Answer}
-use Rattle.meaning.specs.State.Answer.{refused, done}
-use Rattle.meaning.specs.State.{after, ignored, withPlace, withBook, withVotes, withStore, withClock, withStatus, withAcks, opOf}
-use Rattle.meaning.specs.Book.{commitUpTo, install, agree}
-use Rattle.meaning.specs.Sending.{primary}
-use Rattle.meaning.specs.Normal.{heardBy, committed, resend, acked, filledGap, committedThen, accepted, onRequest, acceptFromPrimary}
-use Rattle.meaning.specs.Normal.{stateTransfer, prepared, takePrepare, onPrepare, takeCommit, onCommit, onPrepareOk, onGetState, fillGap, caughtUp, catchUp, onNewState}
-use Rattle.meaning.specs.ViewChange.{better, chosen, heldBy, ownReport, markSent, votedFor, recorded, noReports, clearedStore, enterNormal}
-use Rattle.meaning.specs.ViewChange.{catchingUpWith, catchUpWithView, startedWith, startView, startChosen, recordDoViewChange, sendDoViewChange}
-use Rattle.meaning.specs.ViewChange.{maybeSendDoViewChange, changingTo, startViewChange, onStartViewChange, onDoViewChange, joined, onStartView}
-use Rattle.meaning.specs.Recovery.{noted, noResponses, forgotten, onRecovery, recovered, recoverWith, recoverFrom, recoverLatest, onRecoveryResponse}
-use Rattle.meaning.specs.Steps.{primaryTick, nextView, followTick, changeTick, onIdle}
+use Rattle.model.specs.State.{Book, Votes, Held, Report, Response, Store, State, Sent, Reply, Answer}
+use Rattle.model.specs.State.Answer.{refused, done}
+use Rattle.model.specs.State.{after, ignored, withPlace, withBook, withVotes, withStore, withClock, withStatus, withAcks, opOf}
+use Rattle.model.specs.Book.{commitUpTo, install, agree}
+use Rattle.model.specs.Sending.{primary}
+use Rattle.model.specs.Normal.{heardBy, committed, resend, acked, filledGap, committedThen, accepted, onRequest, acceptFromPrimary}
+use Rattle.model.specs.Normal.{stateTransfer, prepared, takePrepare, onPrepare, takeCommit, onCommit, onPrepareOk, onGetState, fillGap, caughtUp, catchUp, onNewState}
+use Rattle.model.specs.ViewChange.{better, chosen, heldBy, ownReport, markSent, votedFor, recorded, noReports, clearedStore, enterNormal}
+use Rattle.model.specs.ViewChange.{catchingUpWith, catchUpWithView, startedWith, startView, startChosen, recordDoViewChange, sendDoViewChange}
+use Rattle.model.specs.ViewChange.{maybeSendDoViewChange, changingTo, startViewChange, onStartViewChange, onDoViewChange, joined, onStartView}
+use Rattle.model.specs.Recovery.{noted, noResponses, forgotten, onRecovery, recovered, recoverWith, recoverFrom, recoverLatest, onRecoveryResponse}
+use Rattle.model.specs.Steps.{primaryTick, nextView, followTick, changeTick, onIdle}
 use Rattle.safety.specs.Demand.{At, Every, Sound, SoundReport, SoundResponse}
 use Rattle.safety.proofs.Books.{BookInv, Grown, Ok, same-ok, append-ok, commit-ok, agreed-ok, gap-ok, join-ok, then-ok}
 

@@ -14,10 +14,10 @@ use Rattle.numbers.proofs.WordLaws.{split₂, and-true}
 use Rattle.entries.specs.Rising.{follows, rising}
 use Rattle.entries.specs.declared.Entry.{Entry}
 use Rattle.config.specs.declared.Setup.{Setup}
-use Rattle.meaning.specs.State.{Row, State}
-use Rattle.meaning.specs.Book.{Seen, find, put, rowOf}
-use Rattle.meaning.proofs.LogLift.{rising-front}
-use Rattle.meaning.proofs.LatestLaws.{Latest, latest-none, latest-same, latest-more, unbroken, latest-lift}
+use Rattle.model.specs.State.{Row, State}
+use Rattle.model.specs.Book.{Seen, find, put, rowOf}
+use Rattle.model.proofs.LogLift.{rising-front}
+use Rattle.model.proofs.LatestLaws.{Latest, latest-none, latest-same, latest-more, unbroken, latest-lift}
 use Rattle.safety.specs.Demand.{bare, rowsOf, Safe}
 use Rattle.safety.proofs.Tables.{bare-there}
 

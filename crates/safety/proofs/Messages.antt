@@ -25,9 +25,9 @@ use Rattle.frames.specs.declared.Checked.the-variants.{Passed, Refused}
 use Rattle.frames.proofs.MessageLaws.{Said}
 use Rattle.frames.proofs.RefusalLaws.{Fit, passed}
 use Rattle.writers.specs.Writers.{stateSize, sizeOf}
-use Rattle.meaning.specs.State.{State, Answer}
-use Rattle.meaning.specs.State.Answer.{refused, done}
-use Rattle.meaning.specs.Steps.{fitted, carriedLog, heldIn, onMessage, onChecked, onFrame, onTick}
+use Rattle.model.specs.State.{State, Answer}
+use Rattle.model.specs.State.Answer.{refused, done}
+use Rattle.model.specs.Steps.{fitted, carriedLog, heldIn, onMessage, onChecked, onFrame, onTick}
 use Rattle.safety.specs.Demand.{Call, answer}
 use Rattle.safety.specs.Demand.Call.{frame, tick}
 use Rattle.safety.proofs.Handlers.{Good, cases, ignored-good, request-good, prepare-good, prepareOk-good, commit-good, getState-good, newState-good}

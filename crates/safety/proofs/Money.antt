@@ -16,7 +16,7 @@ use Rattle.entries.specs.declared.Operation.{Operation}
 use Rattle.entries.specs.declared.Operation.the-variants.{Fee, Refund, Ask}
 use Rattle.fees.specs.Fees.{gives, rule}
 use Rattle.fees.specs.declared.Outcome.{Outcome}
-use Rattle.meaning.specs.Book.{outcome, totalsAfter, through}
+use Rattle.model.specs.Book.{outcome, totalsAfter, through}
 use Rattle.safety.specs.Money.{feeTaken, refundPaid, feesOf, refundsOf, allFees, allRefunds, sum}
 
 -- the rules on one total: what it was, with the fee, is what it is, with the refund

@@ -30,19 +30,18 @@ use Rattle.frames.specs.declared.Message.the-variants.{Request, Prepare, Prepar
 use Rattle.frames.specs.declared.Checked.{Checked}
 use Rattle.frames.specs.declared.Checked.the-variants.{Passed, Refused}
 use Rattle.frames.proofs.RefusalLaws.{Fit, passed}
-use Rattle.handlers.proofs.FrameLaws.{carried-in-bytes}
-use Rattle.meaning.specs.State.{Book, Held, Report, Response, State, Sent, Reply, Answer}
-use Rattle.meaning.specs.State.Answer.{refused, done}
-use Rattle.meaning.specs.State.{after, ignored, withBook, withStore, withVotes, withClock, withAcks, opOf}
-use Rattle.meaning.specs.Book.{appendAll, commitUpTo, install}
-use Rattle.meaning.specs.Sending.{primary}
-use Rattle.meaning.specs.Normal.{heardBy, committed, resend, blanked, filledGap, committedThen, onRequest, acceptFromPrimary}
-use Rattle.meaning.specs.Normal.{stateTransfer, prepared, takePrepare, onPrepare, takeCommit, onCommit, onPrepareOk, onGetState, fillGap, caughtUp, catchUp, onNewState}
-use Rattle.meaning.specs.ViewChange.{enterNormal, catchUpWithView, startedWith, startView, startChosen, recordDoViewChange, sendDoViewChange}
-use Rattle.meaning.specs.ViewChange.{maybeSendDoViewChange, startViewChange, onStartViewChange, onDoViewChange, joined, onStartView}
-use Rattle.meaning.specs.Recovery.{latestView, forgotten, onRecovery, recovered, recoverWith, recoverFrom, recoverLatest, onRecoveryResponse}
-use Rattle.meaning.specs.Steps.{fitted, carriedLog, heldIn, stateOk, onMessage, onChecked, primaryTick, nextView, followTick, changeTick, onIdle, onFrame, onTick, newAt}
-use Rattle.meaning.proofs.BookLaws.{commitAll-log}
+use Rattle.model.specs.State.{Book, Held, Report, Response, State, Sent, Reply, Answer}
+use Rattle.model.specs.State.Answer.{refused, done}
+use Rattle.model.specs.State.{after, ignored, withBook, withStore, withVotes, withClock, withAcks, opOf}
+use Rattle.model.specs.Book.{appendAll, commitUpTo, install}
+use Rattle.model.specs.Sending.{primary}
+use Rattle.model.specs.Normal.{heardBy, committed, resend, blanked, filledGap, committedThen, onRequest, acceptFromPrimary}
+use Rattle.model.specs.Normal.{stateTransfer, prepared, takePrepare, onPrepare, takeCommit, onCommit, onPrepareOk, onGetState, fillGap, caughtUp, catchUp, onNewState}
+use Rattle.model.specs.ViewChange.{enterNormal, catchUpWithView, startedWith, startView, startChosen, recordDoViewChange, sendDoViewChange}
+use Rattle.model.specs.ViewChange.{maybeSendDoViewChange, startViewChange, onStartViewChange, onDoViewChange, joined, onStartView}
+use Rattle.model.specs.Recovery.{latestView, forgotten, onRecovery, recovered, recoverWith, recoverFrom, recoverLatest, onRecoveryResponse}
+use Rattle.model.specs.Steps.{fitted, carriedLog, heldIn, stateOk, onMessage, onChecked, primaryTick, nextView, followTick, changeTick, onIdle, onFrame, onTick, newAt}
+use Rattle.model.proofs.BookLaws.{commitAll-log}
 use Rattle.book.proofs.EntryRules.{num-fits, entry-fits}
 use Rattle.safety.specs.Demand.{Call, answer, run, Created, At, Every, Safe}
 use Rattle.safety.specs.Demand.Call.{frame, tick}
@@ -53,6 +52,7 @@ use Rattle.safety.proofs.Changes.{all-append, all-take, all-drop, In, B
 use Rattle.safety.proofs.Changes.{append-in, appendAll-in, commit-in, install-in, no-acks, blanked-acks, acks-from, tick-in}
 use Rattle.safety.proofs.Changes.{clock-in, book-in, status-in, acks-in, heard-in, committed-in, accepted-in, acked-in, sent-in, vote-in}
 use Rattle.safety.proofs.Changes.{recorded-in, noted-in, forgotten-in, own-fits, entered-in, catching-in, changing-in, new-in}
+use Rattle.frames.proofs.MessageLaws.{carried-in-bytes}
 
 -- what a call answers: in the ranges again, where the new state is safe, which demand 3 shows
 data Fine (u : Setup) (m : State) : Answer → Type 0 where

@@ -16,15 +16,15 @@ use Rattle.entries.specs.declared.Entry.{Entry}
 use Rattle.config.specs.Setup.{setupOk}
 use Rattle.config.specs.declared.Setup.{Setup}
 use Rattle.frames.specs.declared.Status.{Status}
-use Rattle.meaning.specs.State.{Held, Report, Response, State, Sent, Reply, Answer, opOf}
-use Rattle.meaning.specs.State.Answer.{refused, done}
-use Rattle.meaning.specs.Book.{through, answersOf, emptyBook}
-use Rattle.meaning.specs.ViewChange.{noReports}
-use Rattle.meaning.specs.Recovery.{noResponses}
-use Rattle.meaning.specs.Steps.{fitted, heldOk, heldOkIn, reportsOk, responsesOk, stateOk, newAt, create, recover}
+use Rattle.model.specs.State.{Held, Report, Response, State, Sent, Reply, Answer, opOf}
+use Rattle.model.specs.State.Answer.{refused, done}
+use Rattle.model.specs.Book.{through, answersOf, emptyBook}
+use Rattle.model.specs.ViewChange.{noReports}
+use Rattle.model.specs.Recovery.{noResponses}
+use Rattle.model.specs.Steps.{fitted, heldOk, heldOkIn, reportsOk, responsesOk, stateOk, newAt, create, recover}
 use Rattle.safety.specs.Demand.{Call, run, Created, bare, rowsOf, At, Every, Sound, SoundReport, SoundResponse, zeros, Safe, Later, Demand3}
 use Rattle.safety.specs.Demand.Created.{new, back}
-use Rattle.meaning.proofs.BookLaws.{through-length, answers-length}
+use Rattle.model.proofs.BookLaws.{through-length, answers-length}
 use Rattle.safety.proofs.Money.{member-total, all-totals}
 use Rattle.safety.proofs.Tables.{table-length, table-there}
 use Rattle.safety.proofs.Books.{BookInv, Grown}

@@ -11,9 +11,9 @@ use borrow.Author.Tests.{ltb-true, eqb-true, eqb-false, ne-eqb, eq-eqb}
 use Rattle.numbers.proofs.WordLaws.{split, split₂, if-true, if-false, and-left, and-right}
 use Rattle.entries.specs.declared.Entry.{Entry}
 use Rattle.fees.specs.declared.Outcome.{Outcome}
-use Rattle.meaning.specs.State.{Row}
-use Rattle.meaning.specs.Book.{Seen, find, put, rowOf, keep, rebuilt, Rises}
-use Rattle.meaning.proofs.TableLaws.{above-more, put-length, absent}
+use Rattle.model.specs.State.{Row}
+use Rattle.model.specs.Book.{Seen, find, put, rowOf, keep, rebuilt, Rises}
+use Rattle.model.proofs.TableLaws.{above-more, put-length, absent}
 use Rattle.safety.specs.Demand.{bare, rowsOf}
 
 -- ---- without the replies

@@ -9,10 +9,10 @@ use lib.ListN.{length, take, getD, replicate}
 use Rattle.entries.specs.Rising.{rising}
 use Rattle.entries.specs.declared.Entry.{Entry}
 use Rattle.config.specs.declared.Setup.{Setup}
-use Rattle.meaning.specs.State.{Row, Held, Report, Response, State, Sent, Reply, Answer, after}
-use Rattle.meaning.specs.State.Answer.{done}
-use Rattle.meaning.specs.Book.{answersOf, find, put, rowOf, Rises}
-use Rattle.meaning.specs.Steps.{onFrame, onTick, create, recover, stateOk}
+use Rattle.model.specs.State.{Row, Held, Report, Response, State, Sent, Reply, Answer, after}
+use Rattle.model.specs.State.Answer.{done}
+use Rattle.model.specs.Book.{answersOf, find, put, rowOf, Rises}
+use Rattle.model.specs.Steps.{onFrame, onTick, create, recover, stateOk}
 use Rattle.safety.specs.Money.{feesOf, refundsOf, allFees, allRefunds, sum}
 
 -- an outside call, with the sizes of the areas for messages and for replies

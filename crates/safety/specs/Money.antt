@@ -4,7 +4,7 @@ use mathlib.Core.List.{List, [], _∷_}
 use lib.Dec.{eqb}
 use Rattle.numbers.specs.Words.{if_then_else_}
 use Rattle.entries.specs.declared.Entry.{Entry}
-use Rattle.meaning.specs.Book.{outcome, totalsAfter}
+use Rattle.model.specs.Book.{outcome, totalsAfter}
 
 -- the fee that the rules took for an entry (outcome 1)
 unfoldable pub feeTaken : List ℕ → Entry → ℕ

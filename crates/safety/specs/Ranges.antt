@@ -6,7 +6,7 @@ use lib.ListN.{length}
 use Rattle.numbers.specs.Numbers.{Bytes}
 use Rattle.entries.specs.Entries.{EntryFits}
 use Rattle.config.specs.declared.Setup.{Setup}
-use Rattle.meaning.specs.State.{Held, Report, Response, State}
+use Rattle.model.specs.State.{Held, Report, Response, State}
 use Rattle.safety.specs.Demand.{Call, At, Every}
 use Rattle.safety.specs.Demand.Call.{frame, tick}
 

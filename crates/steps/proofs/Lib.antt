@@ -1,2 +1,5 @@
 pub mod StepLaws
 pub mod SendLaws
+pub mod StepLift
+pub mod SendLift
+pub mod AckLift

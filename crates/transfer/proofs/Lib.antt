@@ -1,2 +1,3 @@
 pub mod GetStateLaws
 pub mod NewStateLaws
+pub mod TransferLift

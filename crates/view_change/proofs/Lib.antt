@@ -1,2 +1,3 @@
 pub mod StartViewChangeLaws
 pub mod StartViewLaws
+pub mod StartViewLift

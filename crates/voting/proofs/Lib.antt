@@ -1,2 +1,3 @@
 pub mod VoteLaws
 pub mod TickLaws
+pub mod VoteLift

@@ -1,0 +1,235 @@
+-- Rows that stand for the model's table do what the model does to it: append, commit, install, and all that a call changes.
+--     put-entry, append-lift                 append_to_log, for each entry
+--     reply-lift, commit-lift                commit_op, for each entry
+--     rebuild-lift, blank-means              install_log, and the unused rows that it begins with
+--     follow-append, follow-install          the rows brought up to what a call did to the log
+-- Assumes nothing.
+use Prim.Native.Nat.{ℕ, zero, suc, _+_, _-_, _≤_, _<_}
+use native.Mathlib.Numerals.{sub-one}
+use native.Mathlib.Omega.{arith}
+use mathlib.Core.Path.{_≡_, refl, sym, ap, _∙_}
+use mathlib.Core.Bool.{Bool, true, false, false≢true}
+use mathlib.Core.List.{List, [], _∷_, _++_}
+use mathlib.Core.Option.{Option, none, some}
+use lib.Dec.{eqb}
+use lib.ListN.{length, take, drop, replicate, length-replicate, length-append}
+use lib.Seq.{drop-at, drop-append-seam}
+use borrow.Author.Tests.{eqb-true, eqb-false, eq-eqb}
+use Rattle.numbers.specs.Words.{if_then_else_, _and_}
+use Rattle.numbers.proofs.WordLaws.{split, split₂, if-true, if-false, and-true, and-left, and-right}
+use Rattle.entries.specs.declared.Entry.{Entry}
+use Rattle.fees.specs.declared.Outcome.{Outcome}
+use Rattle.rows.specs.declared.Change.{Change}
+use Rattle.rows.specs.Rows.{spotOf, isThere, putRow, appended, isLatest, replied, committed, keptRow, rebuilt, renewed, followed}
+use Rattle.rows.specs.Shape.{Shape, rowAt}
+use Rattle.rows.specs.Lawful.{Holds, Lawful}
+use Rattle.model.specs.State.{Row, Book}
+use Rattle.model.specs.Book.{outcome, totalsAfter, answersOf, Seen, find, put, rowOf, append, appendAll, keep, keptFor, install}
+use Rattle.model.specs.Book.{commitOne, commitAll, due, commitUpTo}
+use Rattle.model.specs.Book as M
+use Rattle.layout.specs.Layout.{meant, tableOf}
+use Rattle.model.proofs.BookLaws.{outcome-code, commitAll-log, commitAll-results, appendAll-log, appendAll-rest}
+use Rattle.model.proofs.TableLaws.{put-length}
+use Rattle.layout.proofs.RowLift.{Means, unused, find-there, find-row, find-none, replace-lift, put-lift}
+
+-- What a call changed, b being the book before it and a the book after: log and os are read from what it left, its log and its results.
+pub record Reads (k : Change) (b a : Book) (log : List Entry) (os : List Outcome) : Type 0 where
+  pub op : k .op .0 ≡ length (b .log)
+  pub commit : k .commit .0 ≡ b .commit
+  pub results : length (b .results) ≡ b .commit
+  pub log-is : log ≡ a .log
+  pub results-are : os ≡ a .results
+
+until-log : (b : Book) (j : ℕ) → commitUpTo b j .log ≡ b .log
+unfolding commitUpTo
+until-log b j = commitAll-log b (due b j)
+
+module _ {R : Type 0} (h : Shape R) where
+  meant-is : (x : R) (e : Entry) (k : Option Outcome) → Holds h x e k → meant h x ≡ rowOf e k
+  unfolding meant rowOf
+  meant-is x e k p = λ i. record { client = p .client i; request = p .request i; kept = p .kept i }
+
+  latest-there : (xs : List R) (e : Entry) → isLatest h xs e ≡ true
+      → (isThere h xs (e .client) ≡ true) × (h .request (rowAt h xs (spotOf h xs (e .client))) ≡ e .request)
+  unfolding isLatest
+  latest-there xs e l = (and-left _ _ l, eqb-true _ _ (and-right _ _ l))
+
+  there-used : (xs : List R) (c : ℕ) → isThere h xs c ≡ true → h .used (rowAt h xs (spotOf h xs c)) ≡ true
+  unfolding isThere
+  there-used xs c p = and-left _ _ p
+
+  -- ---- what the rows have of an entry's client
+
+  module _ (law : Lawful h) (w : ℕ) (old : List R) (t : List Row) (m : Means h w t old) (e : Entry) where
+    same : find (tableOf h old) (e .client) ≡ find t (e .client)
+    same = ap (λ (l : List Row). find l (e .client)) (m .table)
+
+    seen : isThere h old (e .client) ≡ true
+        → (find t (e .client) .request ≡ h .request (rowAt h old (spotOf h old (e .client))))
+        × (find t (e .client) .kept ≡ h .kept (rowAt h old (spotOf h old (e .client))))
+    seen p = rw (← same) (find-row h old (m .ordered) law (e .client) p)
+
+    unseen : isThere h old (e .client) ≡ false → find t (e .client) .kept ≡ none
+    unfolding find
+    unseen p = rw (← same) (ap (λ (z : Seen). z .kept) (find-none h old (m .ordered) law (e .client) p))
+
+    -- the test of commit_op
+    latest-is : isLatest h old e ≡ (find t (e .client) .there and eqb (find t (e .client) .request) (e .request))
+    unfolding isLatest _and_
+    latest-is = go (isThere h old (e .client)) refl
+      where
+        there : find t (e .client) .there ≡ isThere h old (e .client)
+        there = rw (← same) (find-there h old (m .ordered) law (e .client))
+
+        go : (b : Bool) → isThere h old (e .client) ≡ b
+            → (isThere h old (e .client) and eqb (h .request (rowAt h old (spotOf h old (e .client)))) (e .request))
+            ≡ (find t (e .client) .there and eqb (find t (e .client) .request) (e .request))
+        go true p = cc (there, seen p .0)
+        go false p = cc (there, p)
+
+    kept-latest : isLatest h old e ≡ true → h .kept (rowAt h old (spotOf h old (e .client))) ≡ keptFor t e
+    unfolding keptFor
+    kept-latest l =
+        let p = latest-there old e l in
+        let q = seen (p .0) in
+        sym (if-true _ _ _ (eq-eqb _ _ (q .0 ∙ p .1)) ∙ q .1)
+
+    kept-none : isLatest h old e ≡ false → none ≡ keptFor t e
+    unfolding keptFor isLatest
+    kept-none l = go (isThere h old (e .client)) refl
+      where
+        go : (b : Bool) → isThere h old (e .client) ≡ b
+            → none ≡ (if eqb (find t (e .client) .request) (e .request) then find t (e .client) .kept else none)
+        go true p =
+            split (λ (k : Option Outcome). none ≡ k) _ _ _
+            (λ eq. absurd (false≢true (sym l ∙ and-true _ _ p (ap (λ (r : ℕ). eqb r (e .request)) (sym (seen p .0)) ∙ eq)))) (λ _. refl)
+        go false p = split (λ (k : Option Outcome). none ≡ k) _ _ _ (λ _. sym (unseen p)) (λ _. refl)
+
+    -- the row of an uncommitted entry, and of a committed one
+    kept-open : Holds h (keptRow h old 0 e) e none
+    unfolding keptRow
+    kept-open = split (λ (x : R). Holds h x e none) _ _ _ (λ _. law .fresh e) (λ ne. absurd (eqb-false 0 0 ne refl))
+
+    kept-done : (left : ℕ) → Holds h (keptRow h old (suc left) e) e (keptFor t e)
+    unfolding keptRow
+    kept-done left =
+        let x : R = rowAt h old (spotOf h old (e .client)) in
+        split (λ (y : R). Holds h y e (keptFor t e)) _ _ _ (λ eq. let z : suc left ≡ 0 = eqb-true _ _ eq in absurd (omega arith)) λ _.
+        split (λ (y : R). Holds h y e (keptFor t e)) (isLatest h old e) (h .again e x) (h .fresh e)
+        (λ l. rw (← kept-latest l) (law .again e x (there-used old (e .client) (latest-there old e l .0))))
+        (λ l. rw (← kept-none l) (law .fresh e))
+
+  module _ (law : Lawful h) (n : ℕ) where
+    -- ---- append
+
+    pub put-entry : (t : List Row) (xs : List R) (x : R) (e : Entry) (k : Option Outcome) → Holds h x e k → Means h n t xs → length t < n
+        → Means h n (put t (rowOf e k)) (putRow h xs x)
+    put-entry t xs x e k p m l = rw (← meant-is x e k p) (put-lift h law n t xs m x (p .used) (λ _. l))
+
+    pub append-lift : (b : Book) (xs : List R) (es : List Entry) → Means h n (b .table) xs → length (b .table) + length es ≤ n
+        → Means h n (appendAll b es .table) (appended h xs es)
+    unfolding appendAll append appended
+    append-lift b xs [] m l = m
+    append-lift b xs (e ∷ es) m l =
+        append-lift (append b e) (putRow h xs (h .fresh e)) es (put-entry (b .table) xs (h .fresh e) e none (law .fresh e) m (omega arith))
+        (omega (arith, put-length (b .table) (rowOf e none)))
+
+    -- ---- commit
+
+    pub reply-lift : (t : List Row) (xs : List R) (e : Entry) (o : Outcome) → Means h n t xs → 1 ≤ o .code → o .code ≤ 6
+        → Means h n (keep t e o) (replied h xs e o)
+    unfolding keep replied
+    reply-lift t xs e o m a b =
+        let p : Holds h (h .answered e o) e (some o) = law .answered e o a b in
+        split₂ (λ (ys : List R) (l : List Row). Means h n l ys) _ _ _ _ _ _ (latest-is law n xs t m e)
+        (λ l.
+        rw (← meant-is (h .answered e o) e (some o) p)
+        (replace-lift h law n t xs m (h .answered e o) (p .used) (e .client) (p .client) (latest-there xs e l .0)))
+        (λ _. m)
+
+    pub commit-lift : (b : Book) (xs : List R) (es : List Entry) → Means h n (b .table) xs
+        → Means h n (commitAll b es .table) (committed h xs es (answersOf (b .totals) es))
+    unfolding commitAll commitOne committed answersOf
+    commit-lift b xs [] m = m
+    commit-lift b xs (e ∷ es) m =
+        let k = outcome-code (b .totals) e in
+        commit-lift (commitOne b e) _ es (reply-lift (b .table) xs e (outcome (b .totals) e) m (k .0) (k .1))
+
+    -- ---- install
+
+    pub rebuild-lift : (w : ℕ) (old : List R) (t : List Row) (left : ℕ) (new : List R) (s : List Row) (es : List Entry) → Means h w t old
+        → Means h n s new → length s + length es ≤ n → Means h n (M.rebuilt t left s es) (rebuilt h old left new es)
+    unfolding M.rebuilt rebuilt
+    rebuild-lift w old t zero new s [] m m′ l = m′
+    rebuild-lift w old t (suc left) new s [] m m′ l = m′
+    rebuild-lift w old t zero new s (e ∷ es) m m′ l =
+        rebuild-lift w old t zero _ _ es m (put-entry s new (keptRow h old 0 e) e none (kept-open law w old t m e) m′ (omega arith))
+        (omega (arith, put-length s (rowOf e none)))
+    rebuild-lift w old t (suc left) new s (e ∷ es) m m′ l =
+        rw sub-one
+        (rebuild-lift w old t left _ _ es m
+        (put-entry s new (keptRow h old (suc left) e) e (keptFor t e) (kept-done law w old t m e left) m′ (omega arith))
+        (omega (arith, put-length s (rowOf e (keptFor t e)))))
+
+    pub blank-means : Means h n [] (replicate n (h .blank))
+    blank-means =
+        record {
+          long = length-replicate n (h .blank);
+          table = blank-table n;
+          ordered = record { rises = rw (blank-table n) tt; unused-last = λ i _. blank-row n i };
+        }
+      where
+        blank-row : (k i : ℕ) → h .used (rowAt h (replicate k (h .blank)) i) ≡ false
+        blank-row zero i = law .blank
+        blank-row (suc k) zero = law .blank
+        blank-row (suc k) (suc i) = blank-row k i
+
+        blank-table : (k : ℕ) → tableOf h (replicate k (h .blank)) ≡ []
+        blank-table k = unused h (replicate k (h .blank)) (blank-row k 0)
+
+    -- ---- all that a call changes
+
+    committed-front : (xs : List R) (ts : List ℕ) (j : ℕ) (es : List Entry)
+        → committed h xs es (answersOf ts (take j es)) ≡ committed h xs (take j es) (answersOf ts (take j es))
+    unfolding committed answersOf
+    committed-front xs ts zero [] = refl
+    committed-front xs ts zero (e ∷ es) = refl
+    committed-front xs ts (suc j) [] = refl
+    committed-front xs ts (suc j) (e ∷ es) = committed-front (replied h xs e (outcome ts e)) (totalsAfter ts e) j es
+
+    -- a commit up to j, by the log and by all results as they are read after it
+    settle-lift : (b : Book) (j c : ℕ) (xs : List R) (log : List Entry) (os : List Outcome) → Means h n (b .table) xs → c ≡ b .commit
+        → length (b .results) ≡ b .commit → log ≡ commitUpTo b j .log → os ≡ commitUpTo b j .results
+        → Means h n (commitUpTo b j .table) (committed h xs (drop c log) (drop c os))
+    unfolding commitUpTo due
+    settle-lift b j c xs log os m p q v w =
+        rw (p, v, w, commitAll-log b (due b j), commitAll-results b (due b j), drop-at (b .results) (answersOf (b .totals) (due b j)) (b .commit) q)
+        (rw (committed-front xs (b .totals) (j - b .commit) (drop (b .commit) (b .log))) (commit-lift b xs (due b j) m))
+
+    -- the log was appended to, and then committed up to j
+    pub follow-append : (k : Change) (b : Book) (es : List Entry) (j : ℕ) (xs : List R) (log : List Entry) (os : List Outcome)
+        → k .installed ≡ false → Reads k b (commitUpTo (appendAll b es) j) log os → Means h n (b .table) xs
+        → length (b .table) ≤ length (b .log) → length log ≤ n → Means h n (commitUpTo (appendAll b es) j .table) (followed h k xs log os)
+    unfolding followed renewed
+    follow-append k b es j xs log os anew p m fits room =
+        let w : log ≡ b .log ++ es = p .log-is ∙ until-log (appendAll b es) j ∙ appendAll-log b es in
+        let l : length log ≡ length (b .log) + length es = rw w (length-append (b .log) es) in
+        let d : drop (k .op .0) log ≡ es = rw (p .op, w) (drop-append-seam (b .log) es) in
+        let q = appendAll-rest b es in
+        rw (if-false (k .installed) (rebuilt h xs (k .commit .0) (replicate (length xs) (h .blank)) log) (appended h xs (drop (k .op .0) log)) anew, d)
+        (settle-lift (appendAll b es) j (k .commit .0) (appended h xs es) log os (append-lift b xs es m (omega arith))
+        (p .commit ∙ sym (q .commit)) (cc (q .commit, q .results, p .results)) (p .log-is) (p .results-are))
+
+    -- the log was installed anew, and then committed up to j
+    pub follow-install : (k : Change) (b : Book) (new : List Entry) (j : ℕ) (xs : List R) (log : List Entry) (os : List Outcome)
+        → k .installed ≡ true → Reads k b (commitUpTo (install b new) j) log os → Means h n (b .table) xs
+        → length log ≤ n → Means h n (commitUpTo (install b new) j .table) (followed h k xs log os)
+    unfolding followed renewed install
+    follow-install k b new j xs log os anew p m room =
+        let w : log ≡ new = p .log-is ∙ until-log (install b new) j in
+        let e : rebuilt h xs (k .commit .0) (replicate (length xs) (h .blank)) log ≡ rebuilt h xs (b .commit) (replicate n (h .blank)) new =
+        cc (p .commit, m .long, w) in
+        rw (if-true (k .installed) _ (appended h xs (drop (k .op .0) log)) anew, e)
+        (settle-lift (install b new) j (k .commit .0) _ log os
+        (rebuild-lift n xs (b .table) (b .commit) (replicate n (h .blank)) [] new m blank-means (rw (← w) (omega arith)))
+        (p .commit) (p .results) (p .log-is) (p .results-are))

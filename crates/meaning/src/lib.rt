@@ -1,1 +1,0 @@
-// The replica as a model, under specs/. No code.

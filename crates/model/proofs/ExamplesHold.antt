@@ -1,0 +1,51 @@
+-- The examples hold: antt computes them. Assumes nothing.
+use mathlib.Core.Path.{_≡_, refl}
+use mathlib.Core.List.{[], _∷_, _++_}
+use mathlib.Core.Option.{none, some}
+use Rattle.fees.specs.Fees.{gives}
+use Rattle.model.specs.State.Answer.{done}
+use Rattle.model.specs.Book.{rebuilt}
+use Rattle.model.specs.Normal.{onPrepareOk}
+use Rattle.model.specs.Examples.{All, setup, row, answer, answerSeen}
+use Rattle.model.specs.Marked.{marked, asked, once, firstAck}
+use Rattle.model.specs.Directed.{AllRun, fee}
+use Rattle.model.specs.Misread.{fourAcked, misread}
+use Rattle.model.specs.Surprises.{surprises}
+use Rattle.model.proofs.Open.{open-marked, open-misread, open-surprises}
+use Rattle.model.specs.Examples.Event.{idle}
+use Rattle.model.specs.ExampleFrames.{heartbeats, prepares}
+
+-- the marked examples of document 01 with *
+pub marked-hold : All marked
+unfolding open-marked
+marked-hold = (refl, (refl, (refl, (refl, (refl, (refl, (refl, tt)))))))
+
+-- the directed ones
+pub misread-hold : AllRun misread
+unfolding open-misread
+misread-hold = (refl, (refl, (refl, (refl, (refl, (refl, (refl, (refl, (refl, (refl, (refl, (refl, (refl, (refl, (refl, tt)))))))))))))))
+
+pub surprises-hold : AllRun surprises
+unfolding open-surprises
+surprises-hold = (refl, (refl, (refl, (refl, (refl, (refl, (refl, (refl, (refl, (refl, (refl, (refl, (refl, (refl, (refl, (refl, tt))))))))))))))))
+
+-- install_log keeps a reply only where the number equals the old row's. No call leads to such an old row, so it is said of the table alone.
+pub other-number : rebuilt (row 1 6 (some (gives 1 10)) ∷ []) 1 [] (fee 1 5 10 ∷ []) ≡ row 1 5 none ∷ []
+unfolding open-misread
+other-number = refl
+
+-- An ack fires only when the count reaches the quorum exactly: the fifth of five is kept and commits nothing. No call leads to four acks of an op
+-- that isn't committed, so it is said of the handler alone.
+pub past-quorum : onPrepareOk (setup 5 0 3 8) (fourAcked 15) 0 1 4 ≡ done (fourAcked 31) [] []
+unfolding open-misread
+past-quorum = refl
+
+-- It keeps one for a committed entry only.
+pub uncommitted-entry : rebuilt (row 1 5 (some (gives 1 10)) ∷ []) 0 [] (fee 1 5 10 ∷ []) ≡ row 1 5 none ∷ []
+unfolding open-misread
+uncommitted-entry = refl
+
+-- A primary's tick sends the heartbeat, and prepares again what isn't committed.
+pub prepares-again : answerSeen (asked firstAck once) (answer (setup 3 0 3 8) (asked firstAck once) idle) .messages ≡ heartbeats ++ prepares
+unfolding open-marked
+prepares-again = refl

@@ -1,0 +1,7 @@
+pub mod BookLaws
+pub mod TableLaws
+pub mod StepLaws
+pub mod LogLift
+pub mod LatestLaws
+pub mod ExamplesHold
+pub mod Open

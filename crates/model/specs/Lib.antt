@@ -1,0 +1,13 @@
+pub mod State
+pub mod Book
+pub mod Sending
+pub mod Normal
+pub mod ViewChange
+pub mod Recovery
+pub mod Steps
+pub mod Examples
+pub mod ExampleFrames
+pub mod Marked
+pub mod Directed
+pub mod Misread
+pub mod Surprises
