@@ -1,201 +1,201 @@
 -- The definitions answer as recorded: antt computes it. By tools/model-replay. Assumes nothing.
 use mathlib.Core.Path.{refl}
-use Rattle.against_rust.specs.Shape.{Holds}
+use Rattle.against_rust.specs.Shape.{RunHolds}
 use Rattle.against_rust.specs.Runs0.{run0, run1, run2, run3, run4, run5, run6, run7, run8, run9, run10, run11, run12, run13, run14, run15, run16, run17, run18, run19, run20, run21, run22, run23, run24, run25, run26, run27, run28, run29, run30, run31, run32, run33, run34, run35, run36, run37, run38, run39, run40, run41, run42, run43, run44, run45, run46, run47, run48}
 use Rattle.against_rust.proofs.OpenRuns.{open-runs}
 
-pub hold0 : Holds run0
+pub hold0 : RunHolds run0
 unfolding open-runs run0
 hold0 = refl
 
-pub hold1 : Holds run1
+pub hold1 : RunHolds run1
 unfolding open-runs run1
 hold1 = refl
 
-pub hold2 : Holds run2
+pub hold2 : RunHolds run2
 unfolding open-runs run2
 hold2 = refl
 
-pub hold3 : Holds run3
+pub hold3 : RunHolds run3
 unfolding open-runs run3
 hold3 = refl
 
-pub hold4 : Holds run4
+pub hold4 : RunHolds run4
 unfolding open-runs run4
 hold4 = refl
 
-pub hold5 : Holds run5
+pub hold5 : RunHolds run5
 unfolding open-runs run5
 hold5 = refl
 
-pub hold6 : Holds run6
+pub hold6 : RunHolds run6
 unfolding open-runs run6
 hold6 = refl
 
-pub hold7 : Holds run7
+pub hold7 : RunHolds run7
 unfolding open-runs run7
 hold7 = refl
 
-pub hold8 : Holds run8
+pub hold8 : RunHolds run8
 unfolding open-runs run8
 hold8 = refl
 
-pub hold9 : Holds run9
+pub hold9 : RunHolds run9
 unfolding open-runs run9
 hold9 = refl
 
-pub hold10 : Holds run10
+pub hold10 : RunHolds run10
 unfolding open-runs run10
 hold10 = refl
 
-pub hold11 : Holds run11
+pub hold11 : RunHolds run11
 unfolding open-runs run11
 hold11 = refl
 
-pub hold12 : Holds run12
+pub hold12 : RunHolds run12
 unfolding open-runs run12
 hold12 = refl
 
-pub hold13 : Holds run13
+pub hold13 : RunHolds run13
 unfolding open-runs run13
 hold13 = refl
 
-pub hold14 : Holds run14
+pub hold14 : RunHolds run14
 unfolding open-runs run14
 hold14 = refl
 
-pub hold15 : Holds run15
+pub hold15 : RunHolds run15
 unfolding open-runs run15
 hold15 = refl
 
-pub hold16 : Holds run16
+pub hold16 : RunHolds run16
 unfolding open-runs run16
 hold16 = refl
 
-pub hold17 : Holds run17
+pub hold17 : RunHolds run17
 unfolding open-runs run17
 hold17 = refl
 
-pub hold18 : Holds run18
+pub hold18 : RunHolds run18
 unfolding open-runs run18
 hold18 = refl
 
-pub hold19 : Holds run19
+pub hold19 : RunHolds run19
 unfolding open-runs run19
 hold19 = refl
 
-pub hold20 : Holds run20
+pub hold20 : RunHolds run20
 unfolding open-runs run20
 hold20 = refl
 
-pub hold21 : Holds run21
+pub hold21 : RunHolds run21
 unfolding open-runs run21
 hold21 = refl
 
-pub hold22 : Holds run22
+pub hold22 : RunHolds run22
 unfolding open-runs run22
 hold22 = refl
 
-pub hold23 : Holds run23
+pub hold23 : RunHolds run23
 unfolding open-runs run23
 hold23 = refl
 
-pub hold24 : Holds run24
+pub hold24 : RunHolds run24
 unfolding open-runs run24
 hold24 = refl
 
-pub hold25 : Holds run25
+pub hold25 : RunHolds run25
 unfolding open-runs run25
 hold25 = refl
 
-pub hold26 : Holds run26
+pub hold26 : RunHolds run26
 unfolding open-runs run26
 hold26 = refl
 
-pub hold27 : Holds run27
+pub hold27 : RunHolds run27
 unfolding open-runs run27
 hold27 = refl
 
-pub hold28 : Holds run28
+pub hold28 : RunHolds run28
 unfolding open-runs run28
 hold28 = refl
 
-pub hold29 : Holds run29
+pub hold29 : RunHolds run29
 unfolding open-runs run29
 hold29 = refl
 
-pub hold30 : Holds run30
+pub hold30 : RunHolds run30
 unfolding open-runs run30
 hold30 = refl
 
-pub hold31 : Holds run31
+pub hold31 : RunHolds run31
 unfolding open-runs run31
 hold31 = refl
 
-pub hold32 : Holds run32
+pub hold32 : RunHolds run32
 unfolding open-runs run32
 hold32 = refl
 
-pub hold33 : Holds run33
+pub hold33 : RunHolds run33
 unfolding open-runs run33
 hold33 = refl
 
-pub hold34 : Holds run34
+pub hold34 : RunHolds run34
 unfolding open-runs run34
 hold34 = refl
 
-pub hold35 : Holds run35
+pub hold35 : RunHolds run35
 unfolding open-runs run35
 hold35 = refl
 
-pub hold36 : Holds run36
+pub hold36 : RunHolds run36
 unfolding open-runs run36
 hold36 = refl
 
-pub hold37 : Holds run37
+pub hold37 : RunHolds run37
 unfolding open-runs run37
 hold37 = refl
 
-pub hold38 : Holds run38
+pub hold38 : RunHolds run38
 unfolding open-runs run38
 hold38 = refl
 
-pub hold39 : Holds run39
+pub hold39 : RunHolds run39
 unfolding open-runs run39
 hold39 = refl
 
-pub hold40 : Holds run40
+pub hold40 : RunHolds run40
 unfolding open-runs run40
 hold40 = refl
 
-pub hold41 : Holds run41
+pub hold41 : RunHolds run41
 unfolding open-runs run41
 hold41 = refl
 
-pub hold42 : Holds run42
+pub hold42 : RunHolds run42
 unfolding open-runs run42
 hold42 = refl
 
-pub hold43 : Holds run43
+pub hold43 : RunHolds run43
 unfolding open-runs run43
 hold43 = refl
 
-pub hold44 : Holds run44
+pub hold44 : RunHolds run44
 unfolding open-runs run44
 hold44 = refl
 
-pub hold45 : Holds run45
+pub hold45 : RunHolds run45
 unfolding open-runs run45
 hold45 = refl
 
-pub hold46 : Holds run46
+pub hold46 : RunHolds run46
 unfolding open-runs run46
 hold46 = refl
 
-pub hold47 : Holds run47
+pub hold47 : RunHolds run47
 unfolding open-runs run47
 hold47 = refl
 
-pub hold48 : Holds run48
+pub hold48 : RunHolds run48
 unfolding open-runs run48
 hold48 = refl

@@ -1,209 +1,209 @@
 -- The definitions answer as recorded: antt computes it. By tools/model-replay. Assumes nothing.
 use mathlib.Core.Path.{refl}
-use Rattle.against_rust.specs.Shape.{Holds}
+use Rattle.against_rust.specs.Shape.{RunHolds}
 use Rattle.against_rust.specs.Runs1.{run49, run50, run51, run52, run53, run54, run55, run56, run57, run58, run59, run60, run61, run62, run63, run64, run65, run66, run67, run68, run69, run70, run71, run72, run73, run74, run75, run76, run77, run78, run79, run80, run81, run82, run83, run84, run85, run86, run87, run88, run89, run90, run91, run92, run93, run94, run95, run96, run97, run98, run99}
 use Rattle.against_rust.proofs.OpenRuns.{open-runs}
 
-pub hold49 : Holds run49
+pub hold49 : RunHolds run49
 unfolding open-runs run49
 hold49 = refl
 
-pub hold50 : Holds run50
+pub hold50 : RunHolds run50
 unfolding open-runs run50
 hold50 = refl
 
-pub hold51 : Holds run51
+pub hold51 : RunHolds run51
 unfolding open-runs run51
 hold51 = refl
 
-pub hold52 : Holds run52
+pub hold52 : RunHolds run52
 unfolding open-runs run52
 hold52 = refl
 
-pub hold53 : Holds run53
+pub hold53 : RunHolds run53
 unfolding open-runs run53
 hold53 = refl
 
-pub hold54 : Holds run54
+pub hold54 : RunHolds run54
 unfolding open-runs run54
 hold54 = refl
 
-pub hold55 : Holds run55
+pub hold55 : RunHolds run55
 unfolding open-runs run55
 hold55 = refl
 
-pub hold56 : Holds run56
+pub hold56 : RunHolds run56
 unfolding open-runs run56
 hold56 = refl
 
-pub hold57 : Holds run57
+pub hold57 : RunHolds run57
 unfolding open-runs run57
 hold57 = refl
 
-pub hold58 : Holds run58
+pub hold58 : RunHolds run58
 unfolding open-runs run58
 hold58 = refl
 
-pub hold59 : Holds run59
+pub hold59 : RunHolds run59
 unfolding open-runs run59
 hold59 = refl
 
-pub hold60 : Holds run60
+pub hold60 : RunHolds run60
 unfolding open-runs run60
 hold60 = refl
 
-pub hold61 : Holds run61
+pub hold61 : RunHolds run61
 unfolding open-runs run61
 hold61 = refl
 
-pub hold62 : Holds run62
+pub hold62 : RunHolds run62
 unfolding open-runs run62
 hold62 = refl
 
-pub hold63 : Holds run63
+pub hold63 : RunHolds run63
 unfolding open-runs run63
 hold63 = refl
 
-pub hold64 : Holds run64
+pub hold64 : RunHolds run64
 unfolding open-runs run64
 hold64 = refl
 
-pub hold65 : Holds run65
+pub hold65 : RunHolds run65
 unfolding open-runs run65
 hold65 = refl
 
-pub hold66 : Holds run66
+pub hold66 : RunHolds run66
 unfolding open-runs run66
 hold66 = refl
 
-pub hold67 : Holds run67
+pub hold67 : RunHolds run67
 unfolding open-runs run67
 hold67 = refl
 
-pub hold68 : Holds run68
+pub hold68 : RunHolds run68
 unfolding open-runs run68
 hold68 = refl
 
-pub hold69 : Holds run69
+pub hold69 : RunHolds run69
 unfolding open-runs run69
 hold69 = refl
 
-pub hold70 : Holds run70
+pub hold70 : RunHolds run70
 unfolding open-runs run70
 hold70 = refl
 
-pub hold71 : Holds run71
+pub hold71 : RunHolds run71
 unfolding open-runs run71
 hold71 = refl
 
-pub hold72 : Holds run72
+pub hold72 : RunHolds run72
 unfolding open-runs run72
 hold72 = refl
 
-pub hold73 : Holds run73
+pub hold73 : RunHolds run73
 unfolding open-runs run73
 hold73 = refl
 
-pub hold74 : Holds run74
+pub hold74 : RunHolds run74
 unfolding open-runs run74
 hold74 = refl
 
-pub hold75 : Holds run75
+pub hold75 : RunHolds run75
 unfolding open-runs run75
 hold75 = refl
 
-pub hold76 : Holds run76
+pub hold76 : RunHolds run76
 unfolding open-runs run76
 hold76 = refl
 
-pub hold77 : Holds run77
+pub hold77 : RunHolds run77
 unfolding open-runs run77
 hold77 = refl
 
-pub hold78 : Holds run78
+pub hold78 : RunHolds run78
 unfolding open-runs run78
 hold78 = refl
 
-pub hold79 : Holds run79
+pub hold79 : RunHolds run79
 unfolding open-runs run79
 hold79 = refl
 
-pub hold80 : Holds run80
+pub hold80 : RunHolds run80
 unfolding open-runs run80
 hold80 = refl
 
-pub hold81 : Holds run81
+pub hold81 : RunHolds run81
 unfolding open-runs run81
 hold81 = refl
 
-pub hold82 : Holds run82
+pub hold82 : RunHolds run82
 unfolding open-runs run82
 hold82 = refl
 
-pub hold83 : Holds run83
+pub hold83 : RunHolds run83
 unfolding open-runs run83
 hold83 = refl
 
-pub hold84 : Holds run84
+pub hold84 : RunHolds run84
 unfolding open-runs run84
 hold84 = refl
 
-pub hold85 : Holds run85
+pub hold85 : RunHolds run85
 unfolding open-runs run85
 hold85 = refl
 
-pub hold86 : Holds run86
+pub hold86 : RunHolds run86
 unfolding open-runs run86
 hold86 = refl
 
-pub hold87 : Holds run87
+pub hold87 : RunHolds run87
 unfolding open-runs run87
 hold87 = refl
 
-pub hold88 : Holds run88
+pub hold88 : RunHolds run88
 unfolding open-runs run88
 hold88 = refl
 
-pub hold89 : Holds run89
+pub hold89 : RunHolds run89
 unfolding open-runs run89
 hold89 = refl
 
-pub hold90 : Holds run90
+pub hold90 : RunHolds run90
 unfolding open-runs run90
 hold90 = refl
 
-pub hold91 : Holds run91
+pub hold91 : RunHolds run91
 unfolding open-runs run91
 hold91 = refl
 
-pub hold92 : Holds run92
+pub hold92 : RunHolds run92
 unfolding open-runs run92
 hold92 = refl
 
-pub hold93 : Holds run93
+pub hold93 : RunHolds run93
 unfolding open-runs run93
 hold93 = refl
 
-pub hold94 : Holds run94
+pub hold94 : RunHolds run94
 unfolding open-runs run94
 hold94 = refl
 
-pub hold95 : Holds run95
+pub hold95 : RunHolds run95
 unfolding open-runs run95
 hold95 = refl
 
-pub hold96 : Holds run96
+pub hold96 : RunHolds run96
 unfolding open-runs run96
 hold96 = refl
 
-pub hold97 : Holds run97
+pub hold97 : RunHolds run97
 unfolding open-runs run97
 hold97 = refl
 
-pub hold98 : Holds run98
+pub hold98 : RunHolds run98
 unfolding open-runs run98
 hold98 = refl
 
-pub hold99 : Holds run99
+pub hold99 : RunHolds run99
 unfolding open-runs run99
 hold99 = refl

@@ -1,57 +1,57 @@
 -- The definitions answer as recorded: antt computes it. By tools/model-replay. Assumes nothing.
 use mathlib.Core.Path.{refl}
-use Rattle.against_rust.specs.Shape.{Holds}
+use Rattle.against_rust.specs.Shape.{RunHolds}
 use Rattle.against_rust.specs.Runs2.{run100, run101, run102, run103, run104, run105, run106, run107, run108, run109, run110, run111, run112}
 use Rattle.against_rust.proofs.OpenRuns.{open-runs}
 
-pub hold100 : Holds run100
+pub hold100 : RunHolds run100
 unfolding open-runs run100
 hold100 = refl
 
-pub hold101 : Holds run101
+pub hold101 : RunHolds run101
 unfolding open-runs run101
 hold101 = refl
 
-pub hold102 : Holds run102
+pub hold102 : RunHolds run102
 unfolding open-runs run102
 hold102 = refl
 
-pub hold103 : Holds run103
+pub hold103 : RunHolds run103
 unfolding open-runs run103
 hold103 = refl
 
-pub hold104 : Holds run104
+pub hold104 : RunHolds run104
 unfolding open-runs run104
 hold104 = refl
 
-pub hold105 : Holds run105
+pub hold105 : RunHolds run105
 unfolding open-runs run105
 hold105 = refl
 
-pub hold106 : Holds run106
+pub hold106 : RunHolds run106
 unfolding open-runs run106
 hold106 = refl
 
-pub hold107 : Holds run107
+pub hold107 : RunHolds run107
 unfolding open-runs run107
 hold107 = refl
 
-pub hold108 : Holds run108
+pub hold108 : RunHolds run108
 unfolding open-runs run108
 hold108 = refl
 
-pub hold109 : Holds run109
+pub hold109 : RunHolds run109
 unfolding open-runs run109
 hold109 = refl
 
-pub hold110 : Holds run110
+pub hold110 : RunHolds run110
 unfolding open-runs run110
 hold110 = refl
 
-pub hold111 : Holds run111
+pub hold111 : RunHolds run111
 unfolding open-runs run111
 hold111 = refl
 
-pub hold112 : Holds run112
+pub hold112 : RunHolds run112
 unfolding open-runs run112
 hold112 = refl

@@ -109,5 +109,5 @@ starts n id made = createOf n id
 starts n id (set v k) = record { client = record { n = n; id = id; view = viewOf v; next = k; pending = Nothing }; refusal = 0 }
 
 -- the client answers as recorded
-abbrev pub Holds : Run → Type 0
-Holds r = seenFrom (starts (r .n) (r .id) (r .start)) (r .lines) ≡ r .first ∷ allWanted (r .lines)
+abbrev pub ClientRunHolds : Run → Type 0
+ClientRunHolds r = seenFrom (starts (r .n) (r .id) (r .start)) (r .lines) ≡ r .first ∷ allWanted (r .lines)

@@ -13,7 +13,7 @@ use Rattle.entries.specs.Entries.{encodeEntry}
 use Rattle.config.specs.declared.Setup.{Setup}
 use Rattle.fees.specs.declared.Outcome.{Outcome}
 use Rattle.frames.specs.Looks.{statusNumber}
-use Rattle.model.specs.State.{Row, State, Answer, after}
+use Rattle.model.specs.State.{ClientEntry, State, Answer, after}
 use Rattle.model.specs.State.Answer.{refused, done}
 use Rattle.model.specs.Sending.{messagesOut, repliesOut}
 use Rattle.model.specs.Steps.{onFrame, onTick, create, recover}
@@ -86,7 +86,7 @@ unfoldable pub keptBytes : Option Outcome → List ℕ
 keptBytes none = big 9 0
 keptBytes (some o) = big 1 (o .code) ++ big 8 (o .total)
 
-unfoldable pub rowBytes : Row → List ℕ
+unfoldable pub rowBytes : ClientEntry → List ℕ
 rowBytes r = big 8 (r .client) ++ big 8 (r .request) ++ keptBytes (r .kept)
 
 -- log rows totals acks applied
@@ -136,5 +136,5 @@ module _ (u : Setup) where
   starts (back v x a) = recover u v x a
 
 -- the model answers as recorded
-abbrev pub Holds : Run → Type 0
-Holds r = seenFrom (r .setup) (r .first) (starts (r .setup) (r .start)) (r .lines) ≡ r .first ∷ allWanted (r .lines)
+abbrev pub RunHolds : Run → Type 0
+RunHolds r = seenFrom (r .setup) (r .first) (starts (r .setup) (r .start)) (r .lines) ≡ r .first ∷ allWanted (r .lines)

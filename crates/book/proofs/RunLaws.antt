@@ -21,57 +21,57 @@ use Rattle.numbers.proofs.RunLaws.{put-part, put-length, over-lend, over-nil}
 use Rattle.entries.specs.Places.{resultPlace, entryIn}
 use Rattle.entries.specs.declared.Entry.{Entry}
 use Rattle.entries.proofs.PlaceLaws.{result-next}
-use Rattle.fees.specs.Fees.{outcomeOf, totalsAfter}
+use Rattle.fees.specs.Fees.{outcomeOn, totalBytesAfter}
 use Rattle.fees.specs.Results.{resultIn, encodeResult}
 use Rattle.fees.specs.declared.Outcome.{Outcome}
 use Rattle.fees.proofs.ResultLaws.{result-codec}
 use Rattle.writers.specs.Writers.{header, reply}
-use Rattle.book.specs.Runs.{applied, committed, replyTo, replies}
+use Rattle.book.specs.Runs.{applied, moneyCommitted, replyTo, replies}
 use Rattle.book.specs.Memory.{Money, money}
 
 -- ---- commits
 
-pub applied-of : (M : ℕ) (e : Entry) (i : ℕ) (r t : List ℕ) {t′ part : List ℕ} (o : Outcome) (at : ℕ) → o ≡ outcomeOf M t e → t′ ≡ totalsAfter M t e
+pub applied-of : (M : ℕ) (e : Entry) (i : ℕ) (r t : List ℕ) {t′ part : List ℕ} (o : Outcome) (at : ℕ) → o ≡ outcomeOn M t e → t′ ≡ totalBytesAfter M t e
     → at ≡ resultPlace i → part ≡ over (encodeResult o) (take (length r - at) (drop at r))
     → money (take at r ++ (part ++ drop (length r - at) (drop at r))) t′ ≡ applied M e i (money r t)
 unfolding applied
 applied-of M e i r t o at p q h w =
     let a = put-part r (encodeResult o) at w
     ∙ ap (λ (y : Outcome). putAt at (encodeResult y) r) p
-    ∙ ap (λ (b : ℕ). putAt b (encodeResult (outcomeOf M t e)) r) h in
+    ∙ ap (λ (b : ℕ). putAt b (encodeResult (outcomeOn M t e)) r) h in
     λ j. money (a j) (q j)
 
-pub commit-none : (M : ℕ) (log : List ℕ) (from : ℕ) (x : Money) → x ≡ committed M log from 0 x
-unfolding committed
+pub commit-none : (M : ℕ) (log : List ℕ) (from : ℕ) (x : Money) → x ≡ moneyCommitted M log from 0 x
+unfolding moneyCommitted
 commit-none M log from x = refl
 
-pub commit-more : (M : ℕ) (log : List ℕ) (from k : ℕ) (x y z : Money) (e : Entry) → y ≡ committed M log from k x
-    → e ≡ entryIn log (from + k) → z ≡ applied M e (from + k) y → z ≡ committed M log from (k + 1) x
-unfolding committed
+pub commit-more : (M : ℕ) (log : List ℕ) (from k : ℕ) (x y z : Money) (e : Entry) → y ≡ moneyCommitted M log from k x
+    → e ≡ entryIn log (from + k) → z ≡ applied M e (from + k) y → z ≡ moneyCommitted M log from (k + 1) x
+unfolding moneyCommitted
 commit-more M log from k x y z e p q w = rw (w, q, p, add-one)
 
-pub totals-length : (M : ℕ) (s : List ℕ) (e : Entry) → 8 * M ≤ length s → length (totalsAfter M s e) ≡ length s
-unfolding totalsAfter
+pub totals-length : (M : ℕ) (s : List ℕ) (e : Entry) → 8 * M ≤ length s → length (totalBytesAfter M s e) ≡ length s
+unfolding totalBytesAfter
 totals-length M s e h =
-    let w = big 8 (outcomeOf M s e .total) in
+    let w = big 8 (outcomeOn M s e .total) in
     split (λ (t : List ℕ). length t ≡ length s) (ltb (e .member) M) (putAt (8 * e .member) w s) s
-    (λ l. put-length (8 * e .member) w s (omega (arith, length-big 8 (outcomeOf M s e .total), ltb-true (e .member) M l)))
+    (λ l. put-length (8 * e .member) w s (omega (arith, length-big 8 (outcomeOn M s e .total), ltb-true (e .member) M l)))
     (λ l. refl)
 
 pub applied-lengths : (M : ℕ) (e : Entry) (i : ℕ) (x : Money) → 8 * M ≤ length (x .totals) → resultPlace (i + 1) ≤ length (x .results)
     → (length (applied M e i x .results) ≡ length (x .results)) × (length (applied M e i x .totals) ≡ length (x .totals))
 unfolding applied
 applied-lengths M e i x h g =
-    let o = outcomeOf M (x .totals) e in
+    let o = outcomeOn M (x .totals) e in
     (put-length (resultPlace i) (encodeResult o) (x .results) (omega (arith, result-next i, result-codec .width o)), totals-length M (x .totals) e h)
 
 pub committed-lengths : (M : ℕ) (log : List ℕ) (from k : ℕ) (x : Money) → 8 * M ≤ length (x .totals) → 9 * (from + k) ≤ length (x .results)
-    → (length (committed M log from k x .results) ≡ length (x .results)) × (length (committed M log from k x .totals) ≡ length (x .totals))
-unfolding committed
+    → (length (moneyCommitted M log from k x .results) ≡ length (x .results)) × (length (moneyCommitted M log from k x .totals) ≡ length (x .totals))
+unfolding moneyCommitted
 committed-lengths M log from zero x h g = (refl, refl)
 committed-lengths M log from (suc k) x h g =
     let p = committed-lengths M log from k x h (omega arith) in
-    let q = applied-lengths M (entryIn log (from + k)) (from + k) (committed M log from k x) (omega (arith, p .1)) (omega (arith, p .0)) in
+    let q = applied-lengths M (entryIn log (from + k)) (from + k) (moneyCommitted M log from k x) (omega (arith, p .1)) (omega (arith, p .0)) in
     (q .0 ∙ p .0, q .1 ∙ p .1)
 
 -- ---- replies

@@ -6,7 +6,7 @@ use Rattle.numbers.specs.Numbers.{putAt}
 use Rattle.numbers.specs.declared.View.{View}
 use Rattle.entries.specs.Places.{resultPlace, entryIn}
 use Rattle.entries.specs.declared.Entry.{Entry}
-use Rattle.fees.specs.Fees.{outcomeOf, totalsAfter}
+use Rattle.fees.specs.Fees.{outcomeOn, totalBytesAfter}
 use Rattle.fees.specs.Results.{resultIn, encodeResult}
 use Rattle.fees.specs.declared.Outcome.{Outcome}
 use Rattle.writers.specs.Writers.{reply}
@@ -14,12 +14,12 @@ use Rattle.book.specs.Memory.{Money, money}
 
 -- the entry of op number i + 1 goes through the fee rules of M members: one result more, its member's total changed
 unfoldable pub applied : (M : ℕ) → Entry → (i : ℕ) → Money → Money
-applied M e i x = money (putAt (resultPlace i) (encodeResult (outcomeOf M (x .totals) e)) (x .results)) (totalsAfter M (x .totals) e)
+applied M e i x = money (putAt (resultPlace i) (encodeResult (outcomeOn M (x .totals) e)) (x .results)) (totalBytesAfter M (x .totals) e)
 
 -- commit_up_to: the k entries after the first `from`, in order
-unfoldable pub committed : (M : ℕ) (log : List ℕ) (from k : ℕ) → Money → Money
-committed M log from zero x = x
-committed M log from (suc k) x = applied M (entryIn log (from + k)) (from + k) (committed M log from k x)
+unfoldable pub moneyCommitted : (M : ℕ) (log : List ℕ) (from k : ℕ) → Money → Money
+moneyCommitted M log from zero x = x
+moneyCommitted M log from (suc k) x = applied M (entryIn log (from + k)) (from + k) (moneyCommitted M log from k x)
 
 -- the reply to an entry, with what it gave
 unfoldable pub replyTo : View → Entry → Outcome → List ℕ

@@ -6,7 +6,7 @@ ghost use Rattle.numbers.specs.Numbers.{over};
 ghost use Rattle.entries.specs.Entries.{encodeEntry, entries};
 ghost use Rattle.entries.specs.Places.{entryPlace, resultPlace};
 ghost use Rattle.book.specs.Log.{withEntries, risesAfter, noneBreaks, isSame, keepsFirst};
-ghost use Rattle.book.specs.Runs.{applied, committed, replies};
+ghost use Rattle.book.specs.Runs.{applied, moneyCommitted, replies};
 ghost use Rattle.book.specs.Memory.{money};
 use entries::Entry;
 use numbers::View;
@@ -108,7 +108,7 @@ pub fn commit_up_to(
     count: usize,
 )
     requires { ⌜ (from + count ≤ 4096) × ((8 * members ≤ length (now totals)) × ((9 * (from + count) ≤ length (now results)) × (entryPlace (from + count) ≤ length (now log)))) ⌝ }
-    ensures { λ r. ⌜ money (now (results .exit)) (now (totals .exit)) ≡ committed members (now (log .entry)) from count (money (now (results .entry)) (now (totals .entry))) ⌝ }
+    ensures { λ r. ⌜ money (now (results .exit)) (now (totals .exit)) ≡ moneyCommitted members (now (log .entry)) from count (money (now (results .entry)) (now (totals .entry))) ⌝ }
 {
     let mut k = 0;
     while k < count {

@@ -22,7 +22,7 @@ use Rattle.client.specs.declared.Client.{Client}
 use Rattle.client.specs.declared.AfterRequest.{AfterRequest}
 use Rattle.client.specs.declared.Resent.{Resent}
 use Rattle.client.specs.declared.Pending.the-variants.{Nothing}
-use Rattle.client.specs.Client.{createOf, requestRefusal, requestedOf, requestedArea, laterOf, heardOf, repliedOf, resend, idleRefusal, idledOf, idledArea}
+use Rattle.client.specs.Client.{createOf, requestRefusal, requestedOf, requestedArea, raisedView, heardReply, repliedOf, framesAgain, idleRefusal, idledOf, idledArea}
 use Rattle.client.proofs.StepLaws.{request-refused, idle-refused, idle-nothing}
 
 -- ---- a request
@@ -42,24 +42,24 @@ module _ (c : Client) (operation member cents : ℕ) where
 -- ---- a reply
 
 module _ (c : Client) (number : ℕ) (view : View) where
-  pub replied-done : replicasOk (c .n) ≡ true → repliedOf c number view ≡ heardOf c number view
+  pub replied-done : replicasOk (c .n) ≡ true → repliedOf c number view ≡ heardReply c number view
   unfolding repliedOf
-  replied-done h = if-true (replicasOk (c .n)) (heardOf c number view) _ h
+  replied-done h = if-true (replicasOk (c .n)) (heardReply c number view) _ h
 
   pub replied-keeps : replicasOk (c .n) ≡ false → repliedOf c number view ≡ record { client = c; answer = record { refusal = 1; done = false } }
   unfolding repliedOf
-  replied-keeps h = if-false (replicasOk (c .n)) (heardOf c number view) _ h
+  replied-keeps h = if-false (replicasOk (c .n)) (heardReply c number view) _ h
 
   pub replied-refusal : repliedOf c number view .answer .refusal ≡ (if replicasOk (c .n) then 0 else 1)
   unfolding repliedOf if_then_else_
   replied-refusal = go (replicasOk (c .n))
     where
-      go : (b : Bool) → (if b then heardOf c number view else record { client = c; answer = record { refusal = 1; done = false } }) .answer .refusal ≡ (if b then 0 else 1)
+      go : (b : Bool) → (if b then heardReply c number view else record { client = c; answer = record { refusal = 1; done = false } }) .answer .refusal ≡ (if b then 0 else 1)
       go true = refl
       go false = refl
 
-  later-both : (v w : View) → (v .0 ≤ laterOf v w .0) × (w .0 ≤ laterOf v w .0)
-  unfolding laterOf
+  later-both : (v w : View) → (v .0 ≤ raisedView v w .0) × (w .0 ≤ raisedView v w .0)
+  unfolding raisedView
   later-both v w =
       split (λ (x : View). (v .0 ≤ x .0) × (w .0 ≤ x .0)) (ltb (v .0) (w .0)) w v
       (λ h. (omega (arith, ltb-true (v .0) (w .0) h), omega arith)) (λ h. (omega arith, omega (arith, ltb-false (v .0) (w .0) h)))
@@ -82,7 +82,7 @@ module _ (c : Client) where
 
   -- nothing is pending, so any area does
   free : (room : ℕ) → replicasOk (c .n) ≡ true → c .pending ≡ Nothing → idleRefusal c room ≡ 0
-  unfolding idleRefusal resend if_then_else_
+  unfolding idleRefusal framesAgain if_then_else_
   free room h p = rw (h, p, le-ltb room 0 (omega arith))
 
   pub idle-free : (s : List ℕ) → replicasOk (c .n) ≡ true → c .pending ≡ Nothing

@@ -18,7 +18,7 @@ use Rattle.config.specs.Setup.{replicasOk}
 use Rattle.writers.specs.Writers.{header, encode}
 use Rattle.client.specs.declared.Client.{Client}
 use Rattle.client.specs.declared.Pending.the-variants.{Waiting}
-use Rattle.client.specs.Client.{requestRefusal, requestTo, framesTo, resend, idleRefusal}
+use Rattle.client.specs.Client.{requestRefusal, requestTo, framesTo, framesAgain, idleRefusal}
 
 -- ---- what is not refused
 
@@ -58,9 +58,9 @@ two true true e = absurd (omega arith)
 two true false e = (refl, refl)
 
 -- the frames of a re-send fit
-pub idle-ready : (c : Client) (room : ℕ) → idleRefusal c room ≡ 0 → length (resend (c .n) (c .pending)) ≤ room
+pub idle-ready : (c : Client) (room : ℕ) → idleRefusal c room ≡ 0 → length (framesAgain (c .n) (c .pending)) ≤ room
 unfolding idleRefusal
-idle-ready c room e = ltb-false room _ (two (replicasOk (c .n)) (ltb room (length (resend (c .n) (c .pending)))) e .1)
+idle-ready c room e = ltb-false room _ (two (replicasOk (c .n)) (ltb room (length (framesAgain (c .n) (c .pending)))) e .1)
 
 -- ---- lengths
 
@@ -75,7 +75,7 @@ frames-length (suc k) e = length-append (framesTo k e) _ ∙ omega (arith, frame
 
 -- of the pending request, where it is known which
 pub idle-fits : (c : Client) (room : ℕ) (e : Entry) → idleRefusal c room ≡ 0 → c .pending ≡ Waiting e → c .n * 39 ≤ room
-unfolding resend
+unfolding framesAgain
 idle-fits c room e z p =
-    let s : length (resend (c .n) (c .pending)) ≡ c .n * 39 = ap (λ q. length (resend (c .n) q)) p ∙ frames-length (c .n) e in
+    let s : length (framesAgain (c .n) (c .pending)) ≡ c .n * 39 = ap (λ q. length (framesAgain (c .n) q)) p ∙ frames-length (c .n) e in
     omega (arith, idle-ready c room z)

@@ -20,8 +20,8 @@ use Rattle.numbers.specs.declared.View.{View}
 use Rattle.numbers.proofs.WordLaws.{and-both, if-true, if-false}
 use Rattle.numbers.proofs.NumberLaws.{be-big, both-within, eq-or-not}
 use Rattle.writers.specs.Writers.{header, reply}
-use Rattle.client.specs.declared.Outcome.{Outcome}
-use Rattle.client.specs.declared.Outcome.the-variants.{Fee, Refund, Ask, NoMember, PastLimit, PastTotal}
+use Rattle.client.specs.declared.ReplyOutcome.{ReplyOutcome}
+use Rattle.client.specs.declared.ReplyOutcome.the-variants.{Fee, Refund, Ask, NoMember, PastLimit, PastTotal}
 use Rattle.client.specs.declared.Read.the-variants.{Reply, Malformed}
 use Rattle.client.specs.Replies.{outcomeNumber, outcomeOf, replyOk, replySaid, readReply, readNumber}
 
@@ -31,7 +31,7 @@ reply-long s h = eqb-true (length s) 36 (and-both (eqb (length s) 36) _ h .0)
 
 -- ---- outcomes and their numbers
 
-pub outcome-back : (o : Outcome) → outcomeOf (outcomeNumber o) ≡ o
+pub outcome-back : (o : ReplyOutcome) → outcomeOf (outcomeNumber o) ≡ o
 unfolding outcomeOf if_then_else_
 outcome-back Fee = refl
 outcome-back Refund = refl
@@ -40,7 +40,7 @@ outcome-back NoMember = refl
 outcome-back PastLimit = refl
 outcome-back PastTotal = refl
 
-pub outcome-within : (o : Outcome) → (1 ≤ outcomeNumber o) × (outcomeNumber o ≤ 6)
+pub outcome-within : (o : ReplyOutcome) → (1 ≤ outcomeNumber o) × (outcomeNumber o ≤ 6)
 outcome-within Fee = (lit≤ tt, lit≤ tt)
 outcome-within Refund = (lit≤ tt, lit≤ tt)
 outcome-within Ask = (lit≤ tt, lit≤ tt)
@@ -93,7 +93,7 @@ module _ (v : View) (client request k total : ℕ) (vf : v .0 < 2 ^ 32) (cf : cl
   pub read-written : readReply (reply v client request k total) ≡ Reply v client request (outcomeOf k) total
   read-written = accepted (reply v client request k total) written-ok ∙ written-said
 
-pub read-outcome : (v : View) (client request total : ℕ) (o : Outcome) → v .0 < 2 ^ 32 → client < 2 ^ 64 → request < 2 ^ 64 → total < 2 ^ 64
+pub read-outcome : (v : View) (client request total : ℕ) (o : ReplyOutcome) → v .0 < 2 ^ 32 → client < 2 ^ 64 → request < 2 ^ 64 → total < 2 ^ 64
     → readReply (reply v client request (outcomeNumber o) total) ≡ Reply v client request o total
 read-outcome v client request total o vf cf rf tf =
     read-written v client request (outcomeNumber o) total vf cf rf tf (outcome-within o .0) (outcome-within o .1)

@@ -27,7 +27,7 @@ use Rattle.client.specs.declared.Client.{Client}
 use Rattle.client.specs.declared.AfterRequest.{AfterRequest}
 use Rattle.client.specs.declared.AfterReply.{AfterReply}
 use Rattle.client.specs.Client.{requestRefusal, nextEntry, requestTo, asked, requestedOf, repliedOf, framesTo}
-use Rattle.client.specs.Calls.{Call, request, reply, idle, afterCall, afterCalls}
+use Rattle.client.specs.Calls.{ClientCall, request, reply, idle, afterCall, afterCalls}
 use Rattle.client.proofs.RefusalLaws.{frame-length, frames-length}
 
 module _ (c : Client) (operation member cents room : ℕ) where
@@ -50,19 +50,19 @@ reply-same : (c : Client) (number : ℕ) (view : View) → repliedOf c number vi
 unfolding repliedOf
 reply-same c number view = split (λ (x : AfterReply). x .client .next ≡ c .next) (replicasOk (c .n)) _ _ (λ h. refl) (λ h. refl)
 
-pub next-stays : (c : Client) (k : Call) → c .next ≤ afterCall c k .next
+pub next-stays : (c : Client) (k : ClientCall) → c .next ≤ afterCall c k .next
 unfolding afterCall
 next-stays c (request operation member cents room) = request-least c operation member cents room
 next-stays c (reply number view) = omega (arith, reply-same c number view)
 next-stays c (idle room) = le-refl (c .next)
 
-pub next-least : (c : Client) (ks : List Call) → c .next ≤ afterCalls c ks .next
+pub next-least : (c : Client) (ks : List ClientCall) → c .next ≤ afterCalls c ks .next
 unfolding afterCalls
 next-least c [] = le-refl (c .next)
 next-least c (k ∷ ks) = le-trans (next-stays c k) (next-least (afterCall c k) ks)
 
 -- the first request, what was called after it, and the second request
-pub never-twice : (c : Client) (o m x r : ℕ) (ks : List Call) (o′ m′ x′ r′ : ℕ) → let d = afterCalls (requestedOf c o m x r .client) ks in
+pub never-twice : (c : Client) (o m x r : ℕ) (ks : List ClientCall) (o′ m′ x′ r′ : ℕ) → let d = afterCalls (requestedOf c o m x r .client) ks in
     requestRefusal c o x r ≡ 0 → requestRefusal d o′ x′ r′ ≡ 0
     → requestedOf c o m x r .answer .number < requestedOf d o′ m′ x′ r′ .answer .number
 never-twice c o m x r ks o′ m′ x′ r′ h g =

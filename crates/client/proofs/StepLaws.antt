@@ -16,7 +16,7 @@ use Rattle.client.specs.declared.Client.{Client}
 use Rattle.client.specs.declared.Pending.the-variants.{Nothing, Waiting}
 use Rattle.client.specs.declared.AfterRequest.{AfterRequest}
 use Rattle.client.specs.declared.Resent.{Resent}
-use Rattle.client.specs.Client.{requestRefusal, nextEntry, requestTo, requestedOf, requestedArea, framesTo, resend, idleRefusal, idledOf, idledArea}
+use Rattle.client.specs.Client.{requestRefusal, nextEntry, requestTo, requestedOf, requestedArea, framesTo, framesAgain, idleRefusal, idledOf, idledArea}
 use Rattle.client.proofs.RefusalLaws.{frame-length}
 
 module _ (c : Client) (operation member cents : ℕ) (s : List ℕ) (no : ℕ) (e : no ≡ requestRefusal c operation cents (length s)) where
@@ -45,10 +45,10 @@ module _ (c : Client) (s : List ℕ) (no : ℕ) (e : no ≡ idleRefusal c (lengt
 
   pub idle-nothing : no ≡ 0 → c .pending ≡ Nothing
       → (_≡_ {A = Resent} (record { refusal = 0; written = 0 }) (idledOf c (length s))) × (s ≡ idledArea c s)
-  unfolding idledOf idledArea resend if_then_else_
+  unfolding idledOf idledArea framesAgain if_then_else_
   idle-nothing h p = (rw (← e, eq-eqb no 0 h, p), rw (← e, eq-eqb no 0 h, p) (over-nil s))
 
   pub idle-waiting : no ≡ 0 → (x : Entry) (k : ℕ) {t : List ℕ} → c .pending ≡ Waiting x → Wrote (framesTo (c .n) x) s t k
       → (_≡_ {A = Resent} (record { refusal = 0; written = k }) (idledOf c (length s))) × (t ≡ idledArea c s)
-  unfolding idledOf idledArea resend if_then_else_
+  unfolding idledOf idledArea framesAgain if_then_else_
   idle-waiting h x k p w = (rw (← e, eq-eqb no 0 h, p, w .count), rw (← e, eq-eqb no 0 h, p) (w .bytes))

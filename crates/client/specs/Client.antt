@@ -18,7 +18,7 @@ use Rattle.client.specs.declared.Pending.{Pending}
 use Rattle.client.specs.declared.Pending.the-variants.{Nothing, Waiting}
 use Rattle.client.specs.declared.Client.{Client}
 use Rattle.client.specs.declared.AfterCreate.{AfterCreate}
-use Rattle.client.specs.declared.Sent.{Sent}
+use Rattle.client.specs.declared.RequestSent.{RequestSent}
 use Rattle.client.specs.declared.AfterRequest.{AfterRequest}
 use Rattle.client.specs.declared.Heard.{Heard}
 use Rattle.client.specs.declared.AfterReply.{AfterReply}
@@ -80,36 +80,36 @@ requestedArea c operation member cents s =
 -- ---- a reply
 
 -- the greater of two views
-unfoldable pub laterOf : View → View → View
-laterOf v w = if ltb (v .0) (w .0) then w else v
+unfoldable pub raisedView : View → View → View
+raisedView v w = if ltb (v .0) (w .0) then w else v
 
 -- whether a request is pending and has this number
-unfoldable pub answersOf : Pending → ℕ → Bool
-answersOf Nothing number = false
-answersOf (Waiting e) number = eqb (e .request) number
+unfoldable pub awaits : Pending → ℕ → Bool
+awaits Nothing number = false
+awaits (Waiting e) number = eqb (e .request) number
 
 -- what is pending after a reply: it clears the request that it answers
 unfoldable pub leftPending : Pending → ℕ → Pending
-leftPending p number = if answersOf p number then Nothing else p
+leftPending p number = if awaits p number then Nothing else p
 
 -- the view is raised whether the number matches or not
-abbrev pub heardOf : Client → ℕ → View → AfterReply
-heardOf c number view =
+abbrev pub heardReply : Client → ℕ → View → AfterReply
+heardReply c number view =
     record {
       client = record {
         n = c .n;
         id = c .id;
-        view = laterOf (c .view) view;
+        view = raisedView (c .view) view;
         next = c .next;
         pending = leftPending (c .pending) number;
       };
-      answer = record { refusal = 0; done = answersOf (c .pending) number };
+      answer = record { refusal = 0; done = awaits (c .pending) number };
     }
 
 unfoldable pub repliedOf : Client → ℕ → View → AfterReply
 repliedOf c number view =
     if replicasOk (c .n)
-    then heardOf c number view
+    then heardReply c number view
     else record { client = c; answer = record { refusal = 1; done = false } }
 
 -- ---- an idle call: the record stays as it is
@@ -120,21 +120,21 @@ framesTo zero e = []
 framesTo (suc k) e = framesTo k e ++ requestTo k e
 
 -- what is sent again: nothing where nothing is pending
-unfoldable pub resend : (n : ℕ) → Pending → List ℕ
-resend n Nothing = []
-resend n (Waiting e) = framesTo n e
+unfoldable pub framesAgain : (n : ℕ) → Pending → List ℕ
+framesAgain n Nothing = []
+framesAgain n (Waiting e) = framesTo n e
 
 unfoldable pub idleRefusal : Client → (room : ℕ) → ℕ
 idleRefusal c room =
     if not (replicasOk (c .n)) then 1 else
-    if ltb room (length (resend (c .n) (c .pending))) then 9 else
+    if ltb room (length (framesAgain (c .n) (c .pending))) then 9 else
     0
 
 unfoldable pub idledOf : Client → (room : ℕ) → Resent
 idledOf c room =
     if eqb (idleRefusal c room) 0
-    then record { refusal = 0; written = length (resend (c .n) (c .pending)) }
+    then record { refusal = 0; written = length (framesAgain (c .n) (c .pending)) }
     else record { refusal = idleRefusal c room; written = 0 }
 
 unfoldable pub idledArea : Client → List ℕ → List ℕ
-idledArea c s = if eqb (idleRefusal c (length s)) 0 then over (resend (c .n) (c .pending)) s else s
+idledArea c s = if eqb (idleRefusal c (length s)) 0 then over (framesAgain (c .n) (c .pending)) s else s

@@ -8,13 +8,13 @@ use lib.ListN.{length}
 use Rattle.numbers.specs.Words.{if_then_else_, _and_}
 use Rattle.numbers.specs.Numbers.{num, viewAt, within}
 use Rattle.frames.specs.Kinds.{kindOf}
-use Rattle.client.specs.declared.Outcome.{Outcome}
-use Rattle.client.specs.declared.Outcome.the-variants.{Fee, Refund, Ask, NoMember, PastLimit, PastTotal}
+use Rattle.client.specs.declared.ReplyOutcome.{ReplyOutcome}
+use Rattle.client.specs.declared.ReplyOutcome.the-variants.{Fee, Refund, Ask, NoMember, PastLimit, PastTotal}
 use Rattle.client.specs.declared.Read.{Read}
 use Rattle.client.specs.declared.Read.the-variants.{Reply, Malformed}
 
 -- the document's number of each outcome
-abbrev pub outcomeNumber : Outcome → ℕ
+abbrev pub outcomeNumber : ReplyOutcome → ℕ
 outcomeNumber Fee = 1
 outcomeNumber Refund = 2
 outcomeNumber Ask = 3
@@ -23,7 +23,7 @@ outcomeNumber PastLimit = 5
 outcomeNumber PastTotal = 6
 
 -- The outcome of a number. Only 1 to 6 pass `replyOk`; any other number is read as PastTotal.
-unfoldable pub outcomeOf : ℕ → Outcome
+unfoldable pub outcomeOf : ℕ → ReplyOutcome
 outcomeOf k =
     if eqb k 1 then Fee else
     if eqb k 2 then Refund else

@@ -3,7 +3,7 @@ ghost use mathlib.Core.Path.{_≡_};
 ghost use Prim.Native.Nat.{_*_, _≤_};
 ghost use lib.ListN.{length};
 ghost use Rattle.numbers.specs.Numbers.{Wrote};
-ghost use Rattle.client.specs.Client.{freshClient, createOf, requestRefusal, requestedOf, requestedArea, laterOf, answersOf, leftPending, repliedOf, framesTo, resend, idleRefusal, idledOf, idledArea};
+ghost use Rattle.client.specs.Client.{freshClient, createOf, requestRefusal, requestedOf, requestedArea, raisedView, awaits, leftPending, repliedOf, framesTo, framesAgain, idleRefusal, idledOf, idledArea};
 ghost use Rattle.client.specs.Replies.{outcomeOf, replyOk, readReply};
 use entries::Entry;
 use numbers::View;
@@ -29,7 +29,7 @@ pub struct AfterCreate {
 }
 
 // What a request answers: the refusal number, the request's number, and the bytes written.
-pub struct Sent {
+pub struct RequestSent {
     pub refusal: u8,
     pub number: u64,
     pub written: usize,
@@ -37,7 +37,7 @@ pub struct Sent {
 
 pub struct AfterRequest {
     pub client: Client,
-    pub answer: Sent,
+    pub answer: RequestSent,
 }
 
 // What a reply answers: the refusal number, and whether the pending request is done.
@@ -119,7 +119,7 @@ pub fn requested(c: Client, operation: u8, member: u32, cents: u64, area: &mut [
     if no != 0 {
         return AfterRequest {
             client: c,
-            answer: Sent {
+            answer: RequestSent {
                 refusal: no,
                 number: 0,
                 written: 0,
@@ -143,7 +143,7 @@ pub fn requested(c: Client, operation: u8, member: u32, cents: u64, area: &mut [
             next: c.next + 1,
             pending: Pending::Waiting { entry },
         },
-        answer: Sent {
+        answer: RequestSent {
             refusal: 0,
             number: c.next,
             written,
@@ -155,7 +155,7 @@ pub fn requested(c: Client, operation: u8, member: u32, cents: u64, area: &mut [
 
 // The greater of two views.
 fn later(v: View, w: View) -> View
-    ensures { λ r. ⌜ r ≡ laterOf v w ⌝ }
+    ensures { λ r. ⌜ r ≡ raisedView v w ⌝ }
 {
     if v.0 < w.0 {
         return w;
@@ -165,7 +165,7 @@ fn later(v: View, w: View) -> View
 
 // Whether a request is pending and has this number.
 fn answers(p: Pending, number: u64) -> bool
-    ensures { λ r. ⌜ r ≡ answersOf p number ⌝ }
+    ensures { λ r. ⌜ r ≡ awaits p number ⌝ }
 {
     match p {
         Pending::Nothing => false,
@@ -217,7 +217,7 @@ pub fn replied(c: Client, number: u64, view: View) -> AfterReply
 
 // How many bytes the frames to n replicas have, or 0 where nothing is pending.
 fn resend_len(n: u8, p: Pending) -> usize
-    ensures { λ r. ⌜ r ≡ length (resend n p) ⌝ }
+    ensures { λ r. ⌜ r ≡ length (framesAgain n p) ⌝ }
 {
     match p {
         Pending::Nothing => 0,
@@ -280,7 +280,7 @@ pub fn idled(c: Client, area: &mut [u8]) -> Resent
 // ---- a Reply, read
 
 // What the fee rules gave: document 01's outcomes 1 to 6.
-pub enum Outcome {
+pub enum ReplyOutcome {
     Fee,
     Refund,
     Ask,
@@ -294,23 +294,23 @@ pub enum Read {
         view: View,
         client: u64,
         request: u64,
-        outcome: Outcome,
+        outcome: ReplyOutcome,
         total: u64,
     },
     Malformed,
 }
 
 // Any number but 1 to 5 is read as PastTotal.
-fn outcome_of(number: u8) -> Outcome
+fn outcome_of(number: u8) -> ReplyOutcome
     ensures { λ r. ⌜ r ≡ outcomeOf number ⌝ }
 {
     match number {
-        1 => Outcome::Fee,
-        2 => Outcome::Refund,
-        3 => Outcome::Ask,
-        4 => Outcome::NoMember,
-        5 => Outcome::PastLimit,
-        _ => Outcome::PastTotal,
+        1 => ReplyOutcome::Fee,
+        2 => ReplyOutcome::Refund,
+        3 => ReplyOutcome::Ask,
+        4 => ReplyOutcome::NoMember,
+        5 => ReplyOutcome::PastLimit,
+        _ => ReplyOutcome::PastTotal,
     }
 }
 

@@ -25,7 +25,7 @@ use Rattle.entries.proofs.EntryLaws.{entryOf-encode}
 use Rattle.client.specs.declared.Client.{Client}
 use Rattle.client.specs.declared.Pending.{Pending}
 use Rattle.client.specs.declared.Pending.the-variants.{Nothing, Waiting}
-use Rattle.client_bytes.specs.Layout.{pendingOf, encodePending, recordOf, encodeRecord, recordOk, Holds}
+use Rattle.client_bytes.specs.Layout.{pendingOf, encodePending, recordOf, encodeRecord, recordOk, HoldsClient}
 
 -- ---- reading by places
 
@@ -111,7 +111,7 @@ module _ (c : Client) where
       }
 
   pub record-held : {run : List ℕ} (before : List ℕ) → c .n < 2 ^ 8 → c .id < 2 ^ 64 → c .view .0 < 2 ^ 32 → c .next < 2 ^ 64
-      → pendingOf (encodePending (c .pending)) ≡ c .pending → length before ≡ 54 → run ≡ over (encodeRecord c) before → Holds c run
+      → pendingOf (encodePending (c .pending)) ≡ c .pending → length before ≡ 54 → run ≡ over (encodeRecord c) before → HoldsClient c run
   unfolding over
   record-held {run} before f g h k back l p =
       let e : run ≡ encodeRecord c =

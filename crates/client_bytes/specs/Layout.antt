@@ -32,7 +32,7 @@ unfoldable pub recordOk : List ℕ → Bool
 recordOk s = if not (eqb (length s) 54) then false else leb (num 1 21 s) 1
 
 -- A writer's promise: the run is the record's bytes, it passes, and the record is read back from it.
-pub record Holds (c : Client) (run : List ℕ) : Type 0 where
+pub record HoldsClient (c : Client) (run : List ℕ) : Type 0 where
   pub bytes : run ≡ encodeRecord c
   pub ok : recordOk run ≡ true
   pub back : recordOf run ≡ c

@@ -3,7 +3,7 @@ ghost use mathlib.Core.Path.{_≡_};
 ghost use Prim.Native.Nat.{_≤_};
 ghost use lib.ListN.{length, drop};
 ghost use Rattle.numbers.specs.Numbers.{over};
-ghost use Rattle.client_bytes.specs.Layout.{pendingOf, encodePending, recordOf, recordOk, Holds};
+ghost use Rattle.client_bytes.specs.Layout.{pendingOf, encodePending, recordOf, recordOk, HoldsClient};
 use client::Client;
 use client::Pending;
 
@@ -51,7 +51,7 @@ fn write_pending(area: &mut [u8], p: Pending)
 // The run holds the record.
 pub fn write_client(run: &mut [u8], c: Client)
     requires { ⌜ length (now run) ≡ 54 ⌝ }
-    ensures { λ r. ⌜ Holds c (now (run .exit)) ⌝ }
+    ensures { λ r. ⌜ HoldsClient c (now (run .exit)) ⌝ }
 {
     numbers::write_u8(run, c.n);
     numbers::write_u64(&mut run[1..], c.id);

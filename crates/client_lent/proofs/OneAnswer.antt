@@ -6,7 +6,7 @@ use Prim.Native.Nat.{ℕ}
 use lib.ListN.{length}
 use Rattle.numbers.specs.declared.View.{View}
 use Rattle.client.specs.declared.Client.{Client}
-use Rattle.client.specs.declared.Sent.{Sent}
+use Rattle.client.specs.declared.RequestSent.{RequestSent}
 use Rattle.client.specs.declared.Heard.{Heard}
 use Rattle.client.specs.declared.Resent.{Resent}
 use Rattle.client.specs.Client.{requestedOf, requestedArea, repliedOf, idledOf, idledArea}
@@ -16,7 +16,7 @@ use Rattle.client.proofs.OneAnswer.{one}
 pub both : {A B C : Type 0} {x y z : A} {u v w : B} {p q r : C} → (x ≡ z) × ((u ≡ w) × (p ≡ r)) → (y ≡ z) × ((v ≡ w) × (q ≡ r)) → (x ≡ y) × ((u ≡ v) × (p ≡ q))
 both m n = (one (m .0) (n .0), (one (m .1 .0) (n .1 .0), one (m .1 .1) (n .1 .1)))
 
-pub request-one : (h : Client) (operation member cents : ℕ) (s : List ℕ) (r t : Sent) (c d : Client) (x y : List ℕ)
+pub request-one : (h : Client) (operation member cents : ℕ) (s : List ℕ) (r t : RequestSent) (c d : Client) (x y : List ℕ)
     → (r ≡ requestedOf h operation member cents (length s) .answer) × ((c ≡ requestedOf h operation member cents (length s) .client) × (x ≡ requestedArea h operation member cents s))
     → (t ≡ requestedOf h operation member cents (length s) .answer) × ((d ≡ requestedOf h operation member cents (length s) .client) × (y ≡ requestedArea h operation member cents s))
     → (r ≡ t) × ((c ≡ d) × (x ≡ y))

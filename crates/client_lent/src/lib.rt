@@ -4,12 +4,18 @@ ghost use lib.ListN.{length};
 ghost use Rattle.client.specs.Client.{requestedOf, requestedArea, repliedOf, idledOf, idledArea};
 use client::Client;
 use client::Heard;
+use client::RequestSent;
 use client::Resent;
-use client::Sent;
 use numbers::View;
 
 // The Rust's `on_request`: the answer, the record behind the reference, and the area, are those of `client::requested`.
-pub fn request(c: &mut Client, operation: u8, member: u32, cents: u64, area: &mut [u8]) -> Sent
+pub fn request(
+    c: &mut Client,
+    operation: u8,
+    member: u32,
+    cents: u64,
+    area: &mut [u8],
+) -> RequestSent
     ensures { λ r. ⌜ (r ≡ requestedOf (now (c .entry)) operation member cents (length (now (area .entry))) .answer) × ((now (c .exit) ≡ requestedOf (now (c .entry)) operation member cents (length (now (area .entry))) .client) × (now (area .exit) ≡ requestedArea (now (c .entry)) operation member cents (now (area .entry)))) ⌝ }
 {
     let r = client::requested(*c, operation, member, cents, area);

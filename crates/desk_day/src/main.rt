@@ -1,8 +1,8 @@
 // A desk's day: requests, a lost reply and its re-send, a duplicate reply, a view change learned from a reply, refused requests, frames
 // that are no Reply, and a client at its last request number. Each frame is printed as hex and each answer in words. The replicas are played by hand.
 use client::Client;
-use client::Outcome;
 use client::Read;
+use client::ReplyOutcome;
 use numbers::View;
 
 // The first n bytes of the area as hex, a line to each 39 bytes.
@@ -71,14 +71,14 @@ fn wait(c: Client) {
     say_frames(&area, r.written);
 }
 
-fn say_outcome(o: Outcome) {
+fn say_outcome(o: ReplyOutcome) {
     match o {
-        Outcome::Fee => text::say(b", fee"),
-        Outcome::Refund => text::say(b", refund"),
-        Outcome::Ask => text::say(b", ask"),
-        Outcome::NoMember => text::say(b", no such member"),
-        Outcome::PastLimit => text::say(b", past the limit"),
-        Outcome::PastTotal => text::say(b", past the total"),
+        ReplyOutcome::Fee => text::say(b", fee"),
+        ReplyOutcome::Refund => text::say(b", refund"),
+        ReplyOutcome::Ask => text::say(b", ask"),
+        ReplyOutcome::NoMember => text::say(b", no such member"),
+        ReplyOutcome::PastLimit => text::say(b", past the limit"),
+        ReplyOutcome::PastTotal => text::say(b", past the total"),
     }
 }
 

@@ -27,11 +27,11 @@ use Rattle.book.specs.Memory.{money, Runs, runs}
 use Rattle.state.specs.State.{withLog, normalIn}
 use Rattle.state.specs.Answers.{completed}
 use Rattle.state.specs.Lengths.{acksLength}
-use Rattle.state.specs.declared.Answer.{Answer}
+use Rattle.state.specs.declared.Returned.{Returned}
 use Rattle.state.specs.declared.Replica.{Replica}
 use Rattle.steps.specs.Steps.{Sound, committedTo, settled}
 use Rattle.view_change.specs.StartViewChange.{callsLength, callsOf}
-use Rattle.view_change.specs.StartView.{Holding}
+use Rattle.view_change.specs.StartView.{LogHeld}
 use Rattle.view_change.proofs.StartViewChangeLaws.{calls-long}
 use Rattle.do_view_change.specs.Begin.{callsFirst, firstLength, startViewsLength, startViewsOf, ownAcks, entered, owed, begun, begunIn, beginStep}
 
@@ -75,14 +75,14 @@ views-small u o ok l =
     let z = sized u ok in
     mul-le-mul {n₁ = u .n - 1} {m₁ = 19 + 32 * o} {n₂ = 6} {m₂ = 131091} (omega (arith, z .seven)) (omega (arith, l, z .room-high))
 
-views-long : (u : Replica) (log : List ℕ) → Holding u (length log) → length (startViewsOf u log) ≡ startViewsLength u
+views-long : (u : Replica) (log : List ℕ) → LogHeld u (length log) → length (startViewsOf u log) ≡ startViewsLength u
 unfolding sizeOf lengthOf
 views-long u log h =
     others-length (u .setup .id) (StartView (u .view) (u .op) (u .commit)) (take (32 * u .op .0) log)
     (length-take-le (32 * u .op .0) log (omega (arith, h .op-le, h .log-long)))
     (u .setup .n) (sized (u .setup) (h .sized) .own)
 
-module _ (t u : Replica) (first : Bool) (log out : List ℕ) (ok : setupOk (t .setup) ≡ true) (h : Holding u (length log)) where
+module _ (t u : Replica) (first : Bool) (log out : List ℕ) (ok : setupOk (t .setup) ≡ true) (h : LogHeld u (length log)) where
   all-long : length (callsFirst first t ++ startViewsOf u log) ≡ firstLength first t + startViewsLength u
   all-long =
       length-append (callsFirst first t) (startViewsOf u log)
@@ -240,20 +240,20 @@ module _ (t : Replica) (o g : Op) (log results totals : List ℕ) (h : Sound (en
         (sym after)
         (h .sized, (omega (arith, l, h .commit-le), (h .op-le, f)))
 
-    holding : Holding u (length log)
+    holding : LogHeld u (length log)
     holding =
-        subst (λ (s : Replica). Holding s (length log)) (sym after)
+        subst (λ (s : Replica). LogHeld s (length log)) (sym after)
         (record { sized = h .sized; op-le = h .op-le; log-long = h .log-long })
 
     -- what send_start_views asks; k is the room for messages
     pub sends-ask : (first : Bool) (k : ℕ) → firstLength first t + startViewsLength (entered t o) ≤ k
-        → (setupOk (t .setup) ≡ true) × (Holding u (length log) × (firstLength first t + startViewsLength u ≤ k))
+        → (setupOk (t .setup) ≡ true) × (LogHeld u (length log) × (firstLength first t + startViewsLength u ≤ k))
     sends-ask first k f = (
       h .sized,
       (holding, subst (λ (s : Replica). firstLength first t + startViewsLength s ≤ k) (sym after) f),
     )
 
-    pub begins : (first : Bool) (acks out reps : List ℕ) (a : Answer) (w : ℕ) (rs ts ks os ps : List ℕ)
+    pub begins : (first : Bool) (acks out reps : List ℕ) (a : Returned) (w : ℕ) (rs ts ks os ps : List ℕ)
         → runs log rs ts ≡ settled e g (runs log results totals)
         → ps ≡ over (replies (t .view) log rs (t .commit .0) (u .commit .0 - t .commit .0)) reps
         → ks ≡ over (ownAcks u) acks

@@ -25,7 +25,7 @@ use Rattle.writers.specs.Writers as W
 use Rattle.writers.specs.Writers.{sizeOf, lengthOf}
 use Rattle.writers.proofs.WriterLaws.{others-length}
 use Rattle.book.specs.Log.{withEntries}
-use Rattle.book.specs.Runs.{committed, replies}
+use Rattle.book.specs.Runs.{moneyCommitted, replies}
 use Rattle.book.specs.Memory.{Money, money, Memory, memory}
 use Rattle.book.proofs.RunLaws.{replies-length}
 use Rattle.state.specs.Statuses.{isRecovering}
@@ -33,11 +33,11 @@ use Rattle.state.specs.declared.Replica.{Replica}
 use Rattle.steps.specs.Steps.{committedTo}
 use Rattle.do_view_change.specs.Begin.{callsFirst, firstLength, startViewsLength, startViewsOf, ownAcks, entered, owed, begunIn, beginStep}
 use Rattle.do_view_change.specs.Record.{Recorded, Gathering, startedBy}
-use Rattle.model.specs.State.{opNumber, Row, Book, State, Sent, opOf}
-use Rattle.model.specs.Book.{due, commitUpTo, commitReplies, install}
+use Rattle.model.specs.State.{opNumber, ClientEntry, Book, State, Sent, opOf}
+use Rattle.model.specs.Book.{dueEntries, commitUpTo, commitReplies, install}
 use Rattle.model.specs.Sending.{sentBytes, messagesOut, repliesOut, startViewOf, startViewToOthers}
 use Rattle.model.specs.ViewChange.{noReports, ownVote, clearedStore, enterNormal, acksFrom, startedWith}
-use Rattle.layout.specs.Layout.{Runs, storeOf, bookOf, modelOf}
+use Rattle.layout.specs.Layout.{LentRuns, storeOf, bookOf, modelOf}
 use Rattle.layout.specs.Shown.{Given, Step, Grew, Did}
 use Rattle.layout.specs.Shown.Grew.{anew}
 use Rattle.model.proofs.BookLaws.{commitAll-log}
@@ -85,11 +85,11 @@ pub record First (t : Replica) (first : Bool) (ms : List Sent) : Type 0 where
   pub bytes : messagesOut ms ≡ callsFirst first t
   pub long : length (callsFirst first t) ≡ firstLength first t
 
-module _ (c : Given) (t : Replica) (table : List Row) (applied : List Entry) (h : Changing c t) (first : Bool) (ms : List Sent) (f : First t first ms) where
+module _ (c : Given) (t : Replica) (table : List ClientEntry) (applied : List Entry) (h : Changing c t) (first : Bool) (ms : List Sent) (f : First t first ms) where
   abbrev m : State
   m = modelOf t (c .runs) table applied
 
-  -- a log of o entries in `part`, to be committed up to g
+  -- a log of o entries in `part`, to be moneyCommitted up to g
   module _ (o g : Op) (part : List ℕ) (o-le : o .0 ≤ t .setup .room) (c-le : t .commit .0 ≤ o .0) (g-le : g .0 ≤ o .0)
       (long : 32 * o .0 ≤ length part) (ok : entriesOk (o .0) part ≡ true) (bytes : Bytes part) where
     abbrev pub fresh-book : Book
@@ -107,7 +107,7 @@ module _ (c : Given) (t : Replica) (table : List Row) (applied : List Entry) (h 
     x = money (c .runs .results) (c .runs .totals)
 
     abbrev y : Money
-    y = committed (t .setup .members) log (t .commit .0) (owed t g) x
+    y = moneyCommitted (t .setup .members) log (t .commit .0) (owed t g) x
 
     -- the state after it
     abbrev u : Replica
@@ -146,7 +146,7 @@ module _ (c : Given) (t : Replica) (table : List Row) (applied : List Entry) (h 
 
     log-is : book-after .log ≡ entries (o .0) part
     unfolding commitUpTo install
-    log-is = commitAll-log fresh-book (due fresh-book (g .0))
+    log-is = commitAll-log fresh-book (dueEntries fresh-book (g .0))
 
     op-is : length (book-after .log) ≡ o .0
     op-is = ap length log-is ∙ cells-length 32 entryOf (o .0) part
@@ -167,7 +167,7 @@ module _ (c : Given) (t : Replica) (table : List Row) (applied : List Entry) (h 
     acks-are = over-all (ownAcks u) (c .runs .acks) own-acks-long ∙ λ i. acksFrom (t .setup) (sym commit-is i) (sym op-is i)
 
     -- the runs after it
-    abbrev left : Runs
+    abbrev left : LentRuns
     left =
         record {
           log = log;

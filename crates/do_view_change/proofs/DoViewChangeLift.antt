@@ -36,14 +36,14 @@ use Rattle.state.specs.Answers.{refusal, completed}
 use Rattle.state.specs.declared.Replica.{Replica}
 use Rattle.steps.specs.Steps.{spoke}
 use Rattle.reports.specs.Sound.{reportOk, reportsOk}
-use Rattle.view_change.specs.StartView.{Holding}
+use Rattle.view_change.specs.StartView.{LogHeld}
 use Rattle.view_change.proofs.StartViewChangeLaws.{calls-long}
 use Rattle.do_view_change.specs.Begin.{callsFirst, firstLength}
 use Rattle.do_view_change.specs.Record.{Recorded, Told, reportOf, recordStep, reportLength, reportTo, toldPrimary, sendStep, doViewChangeStep}
-use Rattle.model.specs.State.{Row, Book, State, Sent, Report, Answer, opOf}
+use Rattle.model.specs.State.{ClientEntry, Book, State, Sent, Reported, Answer, opOf}
 use Rattle.model.specs.State.Answer.{done}
 use Rattle.model.specs.Sending.{sentBytes, messagesOut, primary, isPrimary, toPrimary, sendStartViewChange, doViewChangeToPrimary}
-use Rattle.model.specs.ViewChange.{heldBy, ownReport, changingTo, recordDoViewChange, sendDoViewChange, onDoViewChange}
+use Rattle.model.specs.ViewChange.{heldBy, ourReport, changingTo, recordDoViewChange, sendDoViewChange, onDoViewChange}
 use Rattle.layout.specs.Layout.{bookOf, modelOf}
 use Rattle.model.specs.Steps.{fitted}
 use Rattle.layout.specs.Shown.{Given, Grew, Shown}
@@ -117,7 +117,7 @@ changing-stored s v stored b =
 -- ---- send_do_view_change
 
 -- from a state t to go on from, messages go out and nothing else happens
-module _ (c : Given) (t : Replica) (table : List Row) (applied : List Entry) (h : Changing c t) where
+module _ (c : Given) (t : Replica) (table : List ClientEntry) (applied : List Entry) (h : Changing c t) where
   abbrev now : State
   now = modelOf t (c .runs) table applied
 
@@ -140,7 +140,7 @@ module _ (c : Given) (t : Replica) (table : List Row) (applied : List Entry) (h 
       spoke-shown c t (modelOf (c .state) (c .runs) table applied .book) now (h .setup) now-reads
       (subst (λ (b : Book). Grew b false (now .book)) book-same (no-growth (now .book)))
 
-module _ (c : Given) (t : Replica) (table : List Row) (applied : List Entry) (h : Changing c t) (first : Bool) (ms : List Sent) (f : First t first ms)
+module _ (c : Given) (t : Replica) (table : List ClientEntry) (applied : List Entry) (h : Changing c t) (first : Bool) (ms : List Sent) (f : First t first ms)
     (kept : StoredOk t (c .runs .stored)) where
   abbrev was : State
   was = modelOf t (c .runs) table applied
@@ -177,7 +177,7 @@ module _ (c : Given) (t : Replica) (table : List Row) (applied : List Entry) (h 
   pub send-shown : Shown c (ofRecorded (sendStep (c .state) t first (memoryOf c)))
       (modelOf (c .state) (c .runs) table applied .book)
       (fitted (length (c .out)) (length (c .reps)) (sendDoViewChange (t .setup) (modelOf t (c .runs) table applied) ms))
-  unfolding sendStep toldPrimary sendDoViewChange leads isPrimary primary ownReport heldBy modelOf bookOf
+  unfolding sendStep toldPrimary sendDoViewChange leads isPrimary primary ourReport heldBy modelOf bookOf
   send-shown =
       split₂
       (λ (d : Recorded) (a : Answer).
@@ -191,26 +191,26 @@ module _ (c : Given) (t : Replica) (table : List Row) (applied : List Entry) (h 
 -- ---- on_do_view_change
 
 -- our log, to be sent in a StartView
-pub holding : (c : Given) → Changing c (c .state) → Holding (c .state) (length (c .runs .log))
+pub holding : (c : Given) → Changing c (c .state) → LogHeld (c .state) (length (c .runs .log))
 holding c h =
     let g = h .gathering .sound in
     record { sized = g .sized; op-le = g .op-le; log-long = g .log-long }
 
 -- start_view_change, as it is read
-pub change-reads : (c : Given) (table : List Row) (applied : List Entry) (v : View) → Changing c (c .state)
+pub change-reads : (c : Given) (table : List ClientEntry) (applied : List Entry) (v : View) → Changing c (c .state)
     → modelOf (S.changingTo (c .state) v) (c .runs) table applied
     ≡ changingTo (c .state .setup) (modelOf (c .state) (c .runs) table applied) (v .0)
 change-reads c table applied v h =
     changing-reads (c .state) (c .runs) table applied v (sized (c .state .setup) (h .gathering .sound .sized) .seven) (h .looks)
 
-module _ (c : Given) (table : List Row) (applied : List Entry) (h : Changing c (c .state)) (kept : StoredOk (c .state) (c .runs .stored)) where
+module _ (c : Given) (table : List ClientEntry) (applied : List Entry) (h : Changing c (c .state)) (kept : StoredOk (c .state) (c .runs .stored)) where
   abbrev m : State
   m = modelOf (c .state) (c .runs) table applied
 
   module _ (v : View) (r : ℕ) (l : View) (o k : Op) (part : List ℕ) (told : Told (c .state) r o k part)
       (ok : entriesOk (o .0) part ≡ true) (bytes : Bytes part) where
     -- what is reported
-    abbrev d : Report
+    abbrev d : Reported
     d = record { lastNormal = l .0; held = record { commit = k .0; log = entries (o .0) part } }
 
     abbrev Goal : Recorded → Answer → Type 0

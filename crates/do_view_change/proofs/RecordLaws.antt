@@ -23,7 +23,7 @@ use Rattle.state.specs.State.{withReports}
 use Rattle.state.specs.Statuses.{noReport}
 use Rattle.state.specs.Answers.{refusal, completed}
 use Rattle.state.specs.Lengths.{acksLength, storedPlace}
-use Rattle.state.specs.declared.Answer.{Answer}
+use Rattle.state.specs.declared.Returned.{Returned}
 use Rattle.state.specs.declared.Replica.{Replica}
 use Rattle.state.specs.declared.Report.{Report}
 use Rattle.state.specs.declared.Reports.{Reports}
@@ -156,11 +156,11 @@ module _ (s t : Replica) (r : ℕ) (d : Report) (first : Bool) (fresh : List ℕ
     pub keep-room : j ≡ Keep → firstLength first t ≤ length (m .out)
     keep-room e = keep-fits t u r first (length (m .out)) (length (m .reps)) (m .runs .log) (m .stored) fresh j ej e
 
-    pub says-no : (k : ℕ) (a : Answer) → j ≡ No k → a ≡ refusal k s → recorded a m ≡ recordStep s t r d first fresh m
+    pub says-no : (k : ℕ) (a : Returned) → j ≡ No k → a ≡ refusal k s → recorded a m ≡ recordStep s t r d first fresh m
     unfolding byDecision
-    says-no k a e p = ap (λ (x : Answer). recorded x m) p ∙ ap (λ (x : Decision). byDecision x s t u r (d .op) first fresh m) (sym e) ∙ goes
+    says-no k a e p = ap (λ (x : Returned). recorded x m) p ∙ ap (λ (x : Decision). byDecision x s t u r (d .op) first fresh m) (sym e) ∙ goes
 
-    pub says-keep : setupOk (t .setup) ≡ true → (a : Answer) (t′ : Replica) (w : ℕ) (stored out : List ℕ) → j ≡ Keep
+    pub says-keep : setupOk (t .setup) ≡ true → (a : Returned) (t′ : Replica) (w : ℕ) (stored out : List ℕ) → j ≡ Keep
         → stored ≡ keptLog (t .setup .room) r (d .op) fresh (m .stored) → Wrote (callsFirst first t) (m .out) out w → t′ ≡ withReports t u
         → a ≡ completed t′ w 0 false
         → recorded a (record { runs = m .runs; acks = m .acks; stored = stored; out = out; reps = m .reps })
@@ -172,7 +172,7 @@ module _ (s t : Replica) (r : ℕ) (d : Report) (first : Bool) (fresh : List ℕ
         (λ i. recorded (c i) (record { runs = m .runs; acks = m .acks; stored = q i; out = x .bytes i; reps = m .reps }))
         ∙ ap (λ (x : Decision). byDecision x s t u r (d .op) first fresh m) (sym e) ∙ goes
 
-    pub says-start : (b : Best) (g : Op) (a : Answer) (log results totals acks out reps : List ℕ) → j ≡ Start b g
+    pub says-start : (b : Best) (g : Op) (a : Returned) (log results totals acks out reps : List ℕ) → j ≡ Start b g
         → log ≡ chosenOver b r (t .setup .room) (m .stored) fresh (m .runs .log)
         → begun a (money results totals) acks out reps ≡ beginStep t (b .report .op) g first log (m .runs .money) (m .acks) (m .out) (m .reps)
         → recorded a (memory log results totals acks (m .stored) out reps) ≡ recordStep s t r d first fresh m

@@ -42,11 +42,11 @@ use Rattle.do_view_change.specs.Record.{Told, reportOf, decidedBy, decid
 use Rattle.do_view_change.specs.declared.Decision.{Decision}
 use Rattle.do_view_change.specs.declared.Decision.the-variants.{Keep, No, Start}
 use Rattle.model.specs.State as M
-use Rattle.model.specs.State.{Row, Book, State, Sent, Answer, withStore}
+use Rattle.model.specs.State.{ClientEntry, Book, State, Sent, Answer, setStore}
 use Rattle.model.specs.State.Answer.{refused, done}
 use Rattle.model.specs.Book.{commitUpTo, commitReplies, install, agree}
 use Rattle.model.specs.Sending.{messagesOut, repliesOut, startViewToOthers}
-use Rattle.model.specs.ViewChange.{filled, chosen, recorded, clearedStore, enterNormal, startedWith}
+use Rattle.model.specs.ViewChange.{filled, chosen, reportNoted, clearedStore, enterNormal, startedWith}
 use Rattle.model.specs.ViewChange.{startView, startChosen, recordDoViewChange}
 use Rattle.layout.specs.Layout.{bookOf, modelOf}
 use Rattle.model.specs.Steps.{fitted}
@@ -66,7 +66,7 @@ swapped true false x y = refl
 swapped false true x y = refl
 swapped false false x y = refl
 
-module _ (c : Given) (t : Replica) (table : List Row) (applied : List Entry) (h : Changing c t) (first : Bool) (ms : List Sent) (f : First t first ms)
+module _ (c : Given) (t : Replica) (table : List ClientEntry) (applied : List Entry) (h : Changing c t) (first : Bool) (ms : List Sent) (f : First t first ms)
     (kept : StoredOk t (c .runs .stored)) where
   abbrev m : State
   m = modelOf t (c .runs) table applied
@@ -94,7 +94,7 @@ module _ (c : Given) (t : Replica) (table : List Row) (applied : List Entry) (h 
 
     -- the model's state with it
     abbrev next : State
-    next = recorded m r (reportIn (λ _. fresh) r d)
+    next = reportNoted m r (reportIn (λ _. fresh) r d)
 
     size : Sized u
     size = sized u (h .gathering .sound .sized)
@@ -137,14 +137,14 @@ module _ (c : Given) (t : Replica) (table : List Row) (applied : List Entry) (h 
     first-long = ap length (f .bytes) ∙ f .long
 
     next-book : book ≡ next .book
-    unfolding recorded withStore modelOf bookOf
+    unfolding reportNoted setStore modelOf bookOf
     next-book = rw (h .setup, h .op, h .commit)
 
     abbrev waits : Step
     waits = ofRecorded (keptBy t (withReport (t .reports) r d) r o first fresh (memoryOf c))
 
     wait-reads : modelOf (waits .answer .state) (waits .runs) (next .book .table) (next .book .applied) ≡ next
-    unfolding recorded withStore modelOf bookOf keptBy
+    unfolding reportNoted setStore modelOf bookOf keptBy
     wait-reads =
         recorded-reads t (c .runs) table applied (h .looks) r d fresh (told .sender) few refl (told .op-le) (told .long) held row-ok
 
@@ -190,7 +190,7 @@ module _ (c : Given) (t : Replica) (table : List Row) (applied : List Entry) (h 
     keep = keepsFirst (t .commit .0) (c .runs .log) (bo .0) (chosenLog best r (u .room) stored fresh)
 
     keep-is : agree (next .book .commit) (entries (bo .0) part) (next .book .log) ≡ keep
-    unfolding recorded withStore modelOf bookOf
+    unfolding reportNoted setStore modelOf bookOf
     keep-is =
         let s = h .gathering .sound in
         keeps-chosen u stored r fresh best best-whole (kept .bytes) bytes (t .commit .0) (t .op .0) (c .runs .log) (h .log-ok) (h .log-bytes)
@@ -208,7 +208,7 @@ module _ (c : Given) (t : Replica) (table : List Row) (applied : List Entry) (h 
 
     start-is : startView u next (entries (bo .0) part) (g .0) ms
         ≡ (if ltb (bo .0) (g .0) then refused 7 else if keep then begins else refused 7)
-    unfolding startView recorded withStore startedWith enterNormal clearedStore
+    unfolding startView reportNoted setStore startedWith enterNormal clearedStore
     start-is =
         (λ i.
         if not (keep-is i) then refused 7 else
@@ -220,7 +220,7 @@ module _ (c : Given) (t : Replica) (table : List Row) (applied : List Entry) (h 
         → startChosen u next (chosen (next .store .reports)) ms ≡ startView u next (entries (bo .0) part) (g .0) ms
     unfolding startChosen
     chosen-starts e =
-        ap (λ (z : Option M.Report). startChosen u next z ms)
+        ap (λ (z : Option M.Reported). startChosen u next z ms)
         (recorded-chosen t (c .runs) table applied (h .looks) r d fresh (told .sender) few refl e)
         ∙ ap (λ (i : ℕ). startView u next (entries (bo .0) part) i ms)
         (recorded-greatest t (c .runs) table applied (h .looks) r d fresh (told .sender) few refl)

@@ -27,13 +27,13 @@ use Rattle.writers.proofs.WriterLaws.{encode-length}
 use Rattle.state.specs.State.{leads, changingTo}
 use Rattle.state.specs.Statuses.{noReport, isNormal}
 use Rattle.state.specs.Answers.{refusal, completed, quiet}
-use Rattle.state.specs.declared.Answer.{Answer}
+use Rattle.state.specs.declared.Returned.{Returned}
 use Rattle.state.specs.declared.Replica.{Replica}
 use Rattle.state.specs.declared.Report.{Report}
 use Rattle.reports.specs.Sound.{reportOk, reportsOk}
 use Rattle.steps.specs.Steps.{spoke}
 use Rattle.book.specs.Memory.{runs, Memory}
-use Rattle.view_change.specs.StartView.{Holding, sentStartView}
+use Rattle.view_change.specs.StartView.{LogHeld, sentStartView}
 use Rattle.do_view_change.specs.Begin.{callsFirst, firstLength}
 use Rattle.do_view_change.specs.Record.{Recorded, recorded, onlySent, Gathering, Told, reportOf, ownReport}
 use Rattle.do_view_change.specs.Record.{recordStep}
@@ -43,11 +43,11 @@ use Rattle.do_view_change.proofs.BeginLaws.{first-small, first-long}
 -- ---- tell_primary
 
 module _ (s t : Replica) (first : Bool) (log out : List ℕ) (k : ℕ) (ek : k ≡ firstLength first t) where
-  pub tell-short : (a : Answer) → length out < k + reportLength t → a ≡ refusal 9 s → spoke a out ≡ toldPrimary s t first log out
+  pub tell-short : (a : Returned) → length out < k + reportLength t → a ≡ refusal 9 s → spoke a out ≡ toldPrimary s t first log out
   unfolding toldPrimary if_then_else_
   tell-short a h p = rw (← ek, lt-ltb (length out) (k + reportLength t) h, p)
 
-  module _ (h : Holding t (length log)) where
+  module _ (h : LogHeld t (length log)) where
     pub tell-small : k + reportLength t ≤ 131168
     tell-small =
         let z = sized (t .setup) (h .sized) in
@@ -88,7 +88,7 @@ module _ (s t : Replica) (first : Bool) (log out : List ℕ) (k : ℕ) (ek : k �
         pub both-small : w + n ≤ 131168
         both-small = omega (arith, counted, report-long, tell-small)
 
-        pub tells : (a : Answer) → a ≡ completed t (w + n) 0 false
+        pub tells : (a : Returned) → a ≡ completed t (w + n) 0 false
             → spoke a (take w cur ++ (part ++ drop (length cur - w) (drop w cur))) ≡ toldPrimary s t first log out
         unfolding toldPrimary reportTo if_then_else_
         tells a p =
@@ -102,7 +102,7 @@ module _ (s t : Replica) (first : Bool) (m : Memory) (b : Bool) (eb : b ≡ lead
   unfolding sendStep
   leads-so e d p = p ∙ sym (if-true (leads t) _ _ (sym eb ∙ e))
 
-  pub follows-so : b ≡ false → (a : Answer) (out : List ℕ) → spoke a out ≡ toldPrimary s t first (m .runs .log) (m .out)
+  pub follows-so : b ≡ false → (a : Returned) (out : List ℕ) → spoke a out ≡ toldPrimary s t first (m .runs .log) (m .out)
       → recorded a (record { runs = m .runs; acks = m .acks; stored = m .stored; out = out; reps = m .reps }) ≡ sendStep s t first m
   unfolding sendStep
   follows-so e a out p = (λ i. onlySent m (p i)) ∙ sym (if-false (leads t) _ _ (sym eb ∙ e))
@@ -145,16 +145,16 @@ moved-told s v t r o c part e h =
     (record { sender = h .sender; op-le = h .op-le; commit-le = h .commit-le; long = h .long })
 
 module _ (s : Replica) (v : View) (r : ℕ) (last : View) (o c : Op) (part : List ℕ) (m : Memory) where
-  pub too-old : v .0 < s .view .0 → (a : Answer) → a ≡ quiet s → recorded a m ≡ doViewChangeStep s v r last o c part m
+  pub too-old : v .0 < s .view .0 → (a : Returned) → a ≡ quiet s → recorded a m ≡ doViewChangeStep s v r last o c part m
   unfolding doViewChangeStep
-  too-old h a p = ap (λ (x : Answer). recorded x m) p ∙ sym (if-true _ _ _ (lt-ltb (v .0) (s .view .0) h))
+  too-old h a p = ap (λ (x : Returned). recorded x m) p ∙ sym (if-true _ _ _ (lt-ltb (v .0) (s .view .0) h))
 
   module _ (g : s .view .0 ≤ v .0) (i : ℕ) (ei : i ≡ primaryOf (s .setup .n) v) where
-    pub not-ours : (i ≡ s .setup .id → ⊥) → (a : Answer) → a ≡ quiet s → recorded a m ≡ doViewChangeStep s v r last o c part m
+    pub not-ours : (i ≡ s .setup .id → ⊥) → (a : Returned) → a ≡ quiet s → recorded a m ≡ doViewChangeStep s v r last o c part m
     unfolding doViewChangeStep
     not-ours h a p =
         let q : not (eqb (primaryOf (s .setup .n) v) (s .setup .id)) ≡ true = rw (← ei) (ap not (ne-eqb i (s .setup .id) h)) in
-        ap (λ (x : Answer). recorded x m) p ∙ sym (if-false _ _ _ (le-ltb (v .0) (s .view .0) g) ∙ if-true _ _ _ q)
+        ap (λ (x : Returned). recorded x m) p ∙ sym (if-false _ _ _ (le-ltb (v .0) (s .view .0) g) ∙ if-true _ _ _ q)
 
     module _ (h : i ≡ s .setup .id) where
       ours : not (eqb (primaryOf (s .setup .n) v) (s .setup .id)) ≡ false
@@ -168,7 +168,7 @@ module _ (s : Replica) (v : View) (r : ℕ) (last : View) (o c : Op) (part : Lis
           ∙ sym (if-false _ _ _ (le-ltb (v .0) (s .view .0) g) ∙ if-false _ _ _ ours ∙ if-true _ _ _ (lt-ltb (s .view .0) (v .0) l))
 
       module _ (l : v .0 ≤ s .view .0) (b : Bool) (eb : b ≡ isNormal (s .status)) where
-        pub tells-view : b ≡ true → (a : Answer) (out : List ℕ) → spoke a out ≡ sentStartView s r (m .runs .log) (m .out)
+        pub tells-view : b ≡ true → (a : Returned) (out : List ℕ) → spoke a out ≡ sentStartView s r (m .runs .log) (m .out)
             → recorded a (record { runs = m .runs; acks = m .acks; stored = m .stored; out = out; reps = m .reps })
             ≡ doViewChangeStep s v r last o c part m
         unfolding doViewChangeStep

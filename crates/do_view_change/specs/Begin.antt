@@ -13,11 +13,11 @@ use Rattle.config.specs.Setup.{setupOk}
 use Rattle.config.specs.Replicas.{withMember}
 use Rattle.frames.specs.declared.Message.the-variants.{StartView}
 use Rattle.writers.specs.Writers.{toOthers}
-use Rattle.book.specs.Runs.{committed, replies}
+use Rattle.book.specs.Runs.{moneyCommitted, replies}
 use Rattle.book.specs.Memory.{Money}
 use Rattle.state.specs.State.{withLog, normalIn}
 use Rattle.state.specs.Answers.{completed}
-use Rattle.state.specs.declared.Answer.{Answer}
+use Rattle.state.specs.declared.Returned.{Returned}
 use Rattle.state.specs.declared.Replica.{Replica}
 use Rattle.steps.specs.Steps.{committedTo}
 use Rattle.view_change.specs.StartViewChange.{callsLength, callsOf}
@@ -37,7 +37,7 @@ startViewsLength s = (s .setup .n - 1) * startViewLength s
 abbrev pub startViewsOf : Replica → List ℕ → List ℕ
 startViewsOf s log = toOthers (s .setup .n) (s .setup .id) (StartView (s .view) (s .op) (s .commit)) (take (32 * s .op .0) log)
 
--- acks of a view that begins: our own for each op that isn't committed, none for the others
+-- acks of a view that begins: our own for each op that isn't moneyCommitted, none for the others
 unfoldable pub ownAcks : Replica → List ℕ
 ownAcks s =
     replicate (ackPlace (s .commit .0)) 0
@@ -48,19 +48,19 @@ ownAcks s =
 abbrev pub entered : Replica → Op → Replica
 entered t o = withLog (normalIn t (t .view)) o (t .commit)
 
--- how many ops are committed on the way to commit number g
+-- how many ops are moneyCommitted on the way to commit number g
 abbrev pub owed : Replica → Op → ℕ
 owed t g = g .0 - t .commit .0
 
 -- what it leaves: the answer, results and totals, acks, and the two areas
 pub record Begun : Type 0 where
-  pub answer : Answer
+  pub answer : Returned
   pub money : Money
   pub acks : List ℕ
   pub out : List ℕ
   pub reps : List ℕ
 
-abbrev pub begun : Answer → Money → (acks out reps : List ℕ) → Begun
+abbrev pub begun : Returned → Money → (acks out reps : List ℕ) → Begun
 begun a x acks out reps = record { answer = a; money = x; acks = acks; out = out; reps = reps }
 
 -- from state t, with the installed log of o entries; u is the state after it
@@ -76,5 +76,5 @@ begunIn t u g first log x acks out reps =
 unfoldable pub beginStep : (t : Replica) (o g : Op) (first : Bool) (log : List ℕ) → Money → (acks out reps : List ℕ) → Begun
 beginStep t o g first log x acks out reps =
     begunIn t (committedTo (entered t o) g) g first log
-    (committed (t .setup .members) log (t .commit .0) (owed t g) x)
+    (moneyCommitted (t .setup .members) log (t .commit .0) (owed t g) x)
     acks out reps

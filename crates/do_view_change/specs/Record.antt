@@ -18,7 +18,7 @@ use Rattle.state.specs.State.{leads, changingTo, withReports}
 use Rattle.state.specs.Statuses.{isNormal}
 use Rattle.state.specs.Answers.{refusal, completed, quiet}
 use Rattle.state.specs.Lengths.{acksLength, storedLength}
-use Rattle.state.specs.declared.Answer.{Answer}
+use Rattle.state.specs.declared.Returned.{Returned}
 use Rattle.state.specs.declared.Replica.{Replica}
 use Rattle.state.specs.declared.Report.{Report}
 use Rattle.state.specs.declared.Reports.{Reports}
@@ -37,10 +37,10 @@ use Rattle.do_view_change.specs.declared.Decision.the-variants.{Keep, No
 
 -- what a call leaves
 pub record Recorded : Type 0 where
-  pub answer : Answer
+  pub answer : Returned
   pub memory : Memory
 
-abbrev pub recorded : Answer → Memory → Recorded
+abbrev pub recorded : Returned → Memory → Recorded
 recorded a m = record { answer = a; memory = m }
 
 -- a call that only sends

@@ -9,12 +9,12 @@ ghost use Rattle.config.specs.Setup.{setupOk};
 ghost use Rattle.book.specs.Memory.{money, runs};
 ghost use Rattle.state.specs.Lengths.{acksLength};
 ghost use Rattle.steps.specs.Steps.{Sound};
-ghost use Rattle.view_change.specs.StartView.{Holding};
+ghost use Rattle.view_change.specs.StartView.{LogHeld};
 ghost use Rattle.do_view_change.specs.Begin.{callsFirst, firstLength, startViewsLength, startViewsOf, ownAcks, entered, owed, begun, beginStep};
 use frames::Message;
 use numbers::Op;
-use state::Answer;
 use state::Replica;
+use state::Returned;
 
 // How long the StartViewChanges are that go out first.
 pub fn first_len(first: bool, t: Replica) -> usize
@@ -49,7 +49,7 @@ pub fn start_views_len(t: Replica, o: Op) -> usize
 
 // StartView to all others, after what goes out first.
 fn send_start_views(t: Replica, u: Replica, first: bool, log: &[u8], out: &mut [u8]) -> usize
-    requires { ⌜ (setupOk (t .setup) ≡ true) × (Holding u (length (now log)) × (firstLength first t + startViewsLength u ≤ length (now out))) ⌝ }
+    requires { ⌜ (setupOk (t .setup) ≡ true) × (LogHeld u (length (now log)) × (firstLength first t + startViewsLength u ≤ length (now out))) ⌝ }
     ensures { λ k. ⌜ Wrote (callsFirst first t ++ startViewsOf u (now (log .entry))) (now (out .entry)) (now (out .exit)) k ⌝ }
 {
     let view = u.view;
@@ -83,7 +83,7 @@ pub fn begin(
     acks: &mut [u8],
     out: &mut [u8],
     reps: &mut [u8],
-) -> Answer
+) -> Returned
     requires { ⌜ Sound (entered t o) (runs (now log) (now results) (now totals)) × ((g .0 ≤ o .0) × ((length (now acks) ≡ acksLength (t .setup)) × ((firstLength first t + startViewsLength (entered t o) ≤ length (now out)) × (36 * owed t g ≤ length (now reps))))) ⌝ }
     ensures { λ r. ⌜ begun r (money (now (results .exit)) (now (totals .exit))) (now (acks .exit)) (now (out .exit)) (now (reps .exit)) ≡ beginStep t o g first (now (log .entry)) (money (now (results .entry)) (now (totals .entry))) (now (acks .entry)) (now (out .entry)) (now (reps .entry)) ⌝ }
 {

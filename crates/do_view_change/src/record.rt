@@ -7,7 +7,7 @@ ghost use Rattle.config.specs.Setup.{setupOk};
 ghost use Rattle.reports.specs.Judge.{Fits};
 ghost use Rattle.reports.specs.declared.Judged.the-variants.{Wait, Begin};
 ghost use Rattle.steps.specs.Steps.{spoke};
-ghost use Rattle.view_change.specs.StartView.{Holding};
+ghost use Rattle.view_change.specs.StartView.{LogHeld};
 ghost use Rattle.do_view_change.specs.Begin.{owed};
 ghost use Rattle.do_view_change.specs.Record.{recorded, Gathering, Told, decidedBy, decided, recordStep, ownReport, reportOf, toldPrimary, sendStep, doViewChangeStep};
 ghost use Rattle.book.specs.Memory.{memory};
@@ -17,10 +17,10 @@ use numbers::Op;
 use numbers::View;
 use reports::Best;
 use reports::Judged;
-use state::Answer;
 use state::Replica;
 use state::Report;
 use state::Reports;
+use state::Returned;
 
 // More reports are waited for: what goes out first must fit. `area` and `replies` are the sizes of the two areas.
 fn settle_wait(t: Replica, first: bool, area: usize, replies: usize) -> Decision
@@ -98,7 +98,7 @@ fn record_frame(
     stored: &mut [u8],
     out: &mut [u8],
     reps: &mut [u8],
-) -> Answer
+) -> Returned
     requires { ⌜ Gathering t (memory (now log) (now results) (now totals) (now acks) (now stored) (now out) (now reps)) × Told t r (d .op) (d .commit) (now fresh) ⌝ }
     ensures { λ a. ⌜ recorded a (memory (now (log .exit)) (now (results .exit)) (now (totals .exit)) (now (acks .exit)) (now (stored .exit)) (now (out .exit)) (now (reps .exit))) ≡ recordStep s t r d first (now (fresh .entry)) (memory (now (log .entry)) (now (results .entry)) (now (totals .entry)) (now (acks .entry)) (now (stored .entry)) (now (out .entry)) (now (reps .entry))) ⌝ }
 {
@@ -132,7 +132,7 @@ fn record_own(
     stored: &mut [u8],
     out: &mut [u8],
     reps: &mut [u8],
-) -> Answer
+) -> Returned
     requires { ⌜ Gathering t (memory (now log) (now results) (now totals) (now acks) (now stored) (now out) (now reps)) ⌝ }
     ensures { λ a. ⌜ recorded a (memory (now (log .exit)) (now (results .exit)) (now (totals .exit)) (now (acks .exit)) (now (stored .exit)) (now (out .exit)) (now (reps .exit))) ≡ recordStep s t (t .setup .id) (ownReport t) first (now (log .entry)) (memory (now (log .entry)) (now (results .entry)) (now (totals .entry)) (now (acks .entry)) (now (stored .entry)) (now (out .entry)) (now (reps .entry))) ⌝ }
 {
@@ -179,8 +179,8 @@ fn own_report(s: Replica) -> Report
 }
 
 // Our DoViewChange, to the primary of our view.
-fn tell_primary(s: Replica, t: Replica, first: bool, log: &[u8], out: &mut [u8]) -> Answer
-    requires { ⌜ Holding t (length (now log)) ⌝ }
+fn tell_primary(s: Replica, t: Replica, first: bool, log: &[u8], out: &mut [u8]) -> Returned
+    requires { ⌜ LogHeld t (length (now log)) ⌝ }
     ensures { λ a. ⌜ spoke a (now (out .exit)) ≡ toldPrimary s t first (now (log .entry)) (now (out .entry)) ⌝ }
 {
     if out.len() < begin::first_len(first, t) + (24 + 32 * (t.op.0 as usize)) {
@@ -208,7 +208,7 @@ pub fn send_do_view_change(
     stored: &mut [u8],
     out: &mut [u8],
     reps: &mut [u8],
-) -> Answer
+) -> Returned
     requires { ⌜ Gathering t (memory (now log) (now results) (now totals) (now acks) (now stored) (now out) (now reps)) ⌝ }
     ensures { λ a. ⌜ recorded a (memory (now (log .exit)) (now (results .exit)) (now (totals .exit)) (now (acks .exit)) (now (stored .exit)) (now (out .exit)) (now (reps .exit))) ≡ sendStep s t first (memory (now (log .entry)) (now (results .entry)) (now (totals .entry)) (now (acks .entry)) (now (stored .entry)) (now (out .entry)) (now (reps .entry))) ⌝ }
 {
@@ -234,7 +234,7 @@ pub fn on_do_view_change(
     stored: &mut [u8],
     out: &mut [u8],
     reps: &mut [u8],
-) -> Answer
+) -> Returned
     requires { ⌜ Gathering s (memory (now log) (now results) (now totals) (now acks) (now stored) (now out) (now reps)) × Told s r o c (now part) ⌝ }
     ensures { λ a. ⌜ recorded a (memory (now (log .exit)) (now (results .exit)) (now (totals .exit)) (now (acks .exit)) (now (stored .exit)) (now (out .exit)) (now (reps .exit))) ≡ doViewChangeStep s v r last o c (now (part .entry)) (memory (now (log .entry)) (now (results .entry)) (now (totals .entry)) (now (acks .entry)) (now (stored .entry)) (now (out .entry)) (now (reps .entry))) ⌝ }
 {

@@ -18,7 +18,7 @@ use Rattle.entries.specs.Entries.{operationOf}
 use Rattle.entries.specs.declared.Entry.{Entry}
 use Rattle.entries.specs.declared.Operation.{Operation}
 use Rattle.entries.specs.declared.Operation.the-variants.{Fee, Refund, Ask}
-use Rattle.fees.specs.Fees.{gives, rule, totalAt, outcomeOf, totalsAfter}
+use Rattle.fees.specs.Fees.{gives, rule, totalAt, outcomeOn, totalBytesAfter}
 use Rattle.fees.specs.declared.Outcome.{Outcome}
 
 module _ (t cents : ℕ) where
@@ -50,16 +50,16 @@ module _ (t cents : ℕ) where
 module _ (M : ℕ) (s : List ℕ) (e : Entry) where
   pub inside : (x : ℕ) (op : Operation) (o : Outcome) (part : List ℕ) → e .member < M → x ≡ totalAt (e .member) s → op ≡ operationOf (e .operation)
       → o ≡ rule x op (e .cents) → part ≡ over (big 8 (o .total)) (take (length s - 8 * e .member) (drop (8 * e .member) s))
-      → (o ≡ outcomeOf M s e) × (take (8 * e .member) s ++ (part ++ drop (length s - 8 * e .member) (drop (8 * e .member) s)) ≡ totalsAfter M s e)
-  unfolding outcomeOf totalsAfter
+      → (o ≡ outcomeOn M s e) × (take (8 * e .member) s ++ (part ++ drop (length s - 8 * e .member) (drop (8 * e .member) s)) ≡ totalBytesAfter M s e)
+  unfolding outcomeOn totalBytesAfter
   inside x op o part h p k q w =
-      let r : o ≡ outcomeOf M s e = rw (q, p, k) (sym (if-true _ _ _ (lt-ltb _ _ h))) in (
+      let r : o ≡ outcomeOn M s e = rw (q, p, k) (sym (if-true _ _ _ (lt-ltb _ _ h))) in (
         r,
         put-part s (big 8 (o .total)) (8 * e .member) w
             ∙ ap (λ (z : Outcome). putAt (8 * e .member) (big 8 (z .total)) s) r
             ∙ sym (if-true _ _ _ (lt-ltb _ _ h)),
       )
 
-  pub outside : M ≤ e .member → (gives 4 0 ≡ outcomeOf M s e) × (s ≡ totalsAfter M s e)
-  unfolding outcomeOf totalsAfter
+  pub outside : M ≤ e .member → (gives 4 0 ≡ outcomeOn M s e) × (s ≡ totalBytesAfter M s e)
+  unfolding outcomeOn totalBytesAfter
   outside h = (sym (if-false _ _ _ (le-ltb _ _ h)), sym (if-false _ _ _ (le-ltb _ _ h)))

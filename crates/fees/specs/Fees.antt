@@ -27,9 +27,9 @@ abbrev pub totalAt : ℕ → List ℕ → ℕ
 totalAt member s = num 8 (8 * member) s
 
 -- what an entry gives on M totals
-unfoldable pub outcomeOf : ℕ → List ℕ → Entry → Outcome
-outcomeOf M s e = if ltb (e .member) M then rule (totalAt (e .member) s) (operationOf (e .operation)) (e .cents) else gives 4 0
+unfoldable pub outcomeOn : ℕ → List ℕ → Entry → Outcome
+outcomeOn M s e = if ltb (e .member) M then rule (totalAt (e .member) s) (operationOf (e .operation)) (e .cents) else gives 4 0
 
 -- the totals after it
-unfoldable pub totalsAfter : ℕ → List ℕ → Entry → List ℕ
-totalsAfter M s e = if ltb (e .member) M then putAt (8 * e .member) (big 8 (outcomeOf M s e .total)) s else s
+unfoldable pub totalBytesAfter : ℕ → List ℕ → Entry → List ℕ
+totalBytesAfter M s e = if ltb (e .member) M then putAt (8 * e .member) (big 8 (outcomeOn M s e .total)) s else s

@@ -4,7 +4,7 @@ ghost use Prim.Native.Nat.{_+_, _*_, _≤_};
 ghost use lib.ListN.{length, drop};
 ghost use Rattle.numbers.specs.Numbers.{over};
 ghost use Rattle.entries.specs.Places.{resultPlace};
-ghost use Rattle.fees.specs.Fees.{rule, outcomeOf, totalsAfter};
+ghost use Rattle.fees.specs.Fees.{rule, outcomeOn, totalBytesAfter};
 ghost use Rattle.fees.specs.Results.{resultOf, resultIn, encodeResult};
 use entries::Entry;
 use entries::Operation;
@@ -60,7 +60,7 @@ pub fn by_rule(total: u64, op: Operation, cents: u64) -> Outcome
 // One entry on the first `members` totals of the run, 8 bytes each.
 pub fn apply(totals: &mut [u8], members: u32, e: Entry) -> Outcome
     requires { ⌜ 8 * members ≤ length (now totals) ⌝ }
-    ensures { λ r. ⌜ (r ≡ outcomeOf members (now (totals .entry)) e) × (now (totals .exit) ≡ totalsAfter members (now (totals .entry)) e) ⌝ }
+    ensures { λ r. ⌜ (r ≡ outcomeOn members (now (totals .entry)) e) × (now (totals .exit) ≡ totalBytesAfter members (now (totals .entry)) e) ⌝ }
 {
     if e.member < members {
         let at = 8 * (e.member as usize);

@@ -19,7 +19,7 @@ use Rattle.numbers.specs.declared.Op.{Op}
 use Rattle.numbers.proofs.WordLaws.{if-true, if-false}
 use Rattle.numbers.proofs.NumberLaws.{within-both}
 use Rattle.frames.specs.Kinds.{roomOf, countOf, wellFormed}
-use Rattle.frames.specs.Messages.{stateOf, messageOf, parseFrame, parsedNumber, stateRow, carriedOf, carriedBytes}
+use Rattle.frames.specs.Messages.{responseState, messageOf, parseFrame, parsedNumber, stateRow, carriedOf, carriedBytes}
 use Rattle.frames.specs.declared.RecoveryState.{RecoveryState}
 use Rattle.frames.specs.declared.RecoveryState.the-variants.{Absent, Present}
 use Rattle.frames.specs.declared.Message.{Message}
@@ -73,7 +73,7 @@ kind-said s =
       k8 = refl;
       k9 = refl;
       k10 = refl;
-      k11 = state-kind (num 1 19 s) (stateOf s);
+      k11 = state-kind (num 1 19 s) (responseState s);
     }
 
 -- a carried log stands in the frame: of a RecoveryResponse
@@ -85,7 +85,7 @@ state-size r false o c = lit≤ tt
 
 -- of each kind
 size-said : (s : List ℕ) (k : ℕ) → 1 ≤ k → k ≤ 11 → carriedOf (messageOf k s) .start + 32 * carriedOf (messageOf k s) .whole ≤ roomOf k s + 32 * countOf k s
-unfolding messageOf stateOf carriedOf roomOf countOf if_then_else_
+unfolding messageOf responseState carriedOf roomOf countOf if_then_else_
 size-said s =
     each-kind (λ k. carriedOf (messageOf k s) .start + 32 * carriedOf (messageOf k s) .whole ≤ roomOf k s + 32 * countOf k s)
     record {

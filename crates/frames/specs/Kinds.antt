@@ -19,8 +19,8 @@ abbrev pub fieldsEnd : ℕ → ℕ
 fieldsEnd k = getD (0 ∷ 7 ∷ 19 ∷ 16 ∷ 15 ∷ 16 ∷ 23 ∷ 12 ∷ 24 ∷ 19 ∷ 20 ∷ 21 ∷ []) k 0
 
 -- the mark of kind 11: 1 with a log, 0 without
-abbrev pub markOf : List ℕ → ℕ
-markOf s = num 1 20 s
+abbrev pub responseMark : List ℕ → ℕ
+responseMark s = num 1 20 s
 
 -- where the fields of kind 11 end with a log: o and c follow the mark
 abbrev pub stateEnd : ℕ
@@ -28,13 +28,13 @@ stateEnd = fieldsEnd 11 + 8
 
 -- where the fields of this frame end
 unfoldable pub roomOf : ℕ → List ℕ → ℕ
-roomOf k s = if eqb k 11 then (if eqb (markOf s) 1 then stateEnd else fieldsEnd 11) else fieldsEnd k
+roomOf k s = if eqb k 11 then (if eqb (responseMark s) 1 then stateEnd else fieldsEnd 11) else fieldsEnd k
 
 -- NewState: start is at most end. RecoveryResponse: its mark is 0 or 1.
 unfoldable pub fieldsOk : ℕ → List ℕ → Bool
 fieldsOk k s =
     if eqb k 6 then leb (num 4 11 s) (num 4 15 s) else
-    if eqb k 11 then leb (markOf s) 1 else
+    if eqb k 11 then leb (responseMark s) 1 else
     true
 
 -- how many entries the frame says that it carries
@@ -45,7 +45,7 @@ countOf k s =
     if eqb k 6 then num 4 15 s - num 4 11 s else
     if eqb k 8 then num 4 16 s else
     if eqb k 9 then num 4 11 s else
-    if eqb k 11 then (if eqb (markOf s) 1 then num 4 21 s else 0) else
+    if eqb k 11 then (if eqb (responseMark s) 1 then num 4 21 s else 0) else
     0
 
 -- the length says what follows it, and the version is 1

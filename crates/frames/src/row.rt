@@ -1,7 +1,7 @@
 // The numbers of a message that are judged on the frame alone.
 ghost use mathlib.Core.Path.{_≡_};
 ghost use Prim.Native.Nat.{_≤_};
-ghost use Rattle.frames.specs.Messages.{row, stateRow, carriedOf};
+ghost use Rattle.frames.specs.Messages.{kindRow, stateRow, carriedOf};
 use crate::Carried;
 use crate::Message;
 use crate::RecoveryState;
@@ -10,7 +10,7 @@ use numbers::Op;
 
 fn row(kind: u8, sender: u8, op: Op, commit: Op, whole: u32) -> Carried
     requires { ⌜ kind ≤ 11 ⌝ }
-    ensures { λ r. ⌜ r ≡ row kind sender op commit whole ⌝ }
+    ensures { λ r. ⌜ r ≡ kindRow kind sender op commit whole ⌝ }
 {
     Carried {
         kind,

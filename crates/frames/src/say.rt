@@ -5,7 +5,7 @@ ghost use lib.ListN.{length, drop};
 ghost use Rattle.numbers.specs.Numbers.{num, viewAt, opAt};
 ghost use Rattle.entries.specs.Entries.{entryOf};
 ghost use Rattle.frames.specs.Kinds.{fieldsEnd, roomOf, countOf};
-ghost use Rattle.frames.specs.Messages.{stateOf, messageOf};
+ghost use Rattle.frames.specs.Messages.{responseState, messageOf};
 use crate::Message;
 use crate::RecoveryState;
 
@@ -121,7 +121,7 @@ fn recovery(frame: &[u8]) -> Message
 
 fn state(frame: &[u8]) -> RecoveryState
     requires { ⌜ roomOf 11 (now frame) ≤ length (now frame) ⌝ }
-    ensures { λ r. ⌜ r ≡ stateOf (now (frame .entry)) ⌝ }
+    ensures { λ r. ⌜ r ≡ responseState (now (frame .entry)) ⌝ }
 {
     if numbers::read_u8(frame, 20) == 1 {
         return RecoveryState::Present {
@@ -134,7 +134,7 @@ fn state(frame: &[u8]) -> RecoveryState
 
 fn recovery_response(frame: &[u8]) -> Message
     requires { ⌜ roomOf 11 (now frame) ≤ length (now frame) ⌝ }
-    ensures { λ r. ⌜ r ≡ Message.RecoveryResponse (viewAt 7 (now (frame .entry))) (num 8 11 (now (frame .entry))) (num 1 19 (now (frame .entry))) (stateOf (now (frame .entry))) ⌝ }
+    ensures { λ r. ⌜ r ≡ Message.RecoveryResponse (viewAt 7 (now (frame .entry))) (num 8 11 (now (frame .entry))) (num 1 19 (now (frame .entry))) (responseState (now (frame .entry))) ⌝ }
 {
     Message::RecoveryResponse {
         view: numbers::read_view(frame, 7),

@@ -6,7 +6,7 @@ ghost use lib.Dec.{eqb};
 ghost use lib.ListN.{length};
 ghost use Rattle.numbers.specs.Words.{if_then_else_};
 ghost use Rattle.numbers.specs.Numbers.{num};
-ghost use Rattle.frames.specs.Kinds.{fieldsEnd, markOf, stateEnd, roomOf, fieldsOk, countOf, headOk, bodyOk, wellFormed};
+ghost use Rattle.frames.specs.Kinds.{fieldsEnd, responseMark, stateEnd, roomOf, fieldsOk, countOf, headOk, bodyOk, wellFormed};
 
 // By kind, where the fields end and the entries begin; of kind 11 without a log.
 const FIELDS_END: [usize; 12] = [0, 7, 19, 16, 15, 16, 23, 12, 24, 19, 20, 21];
@@ -54,8 +54,8 @@ fn count_new_state(frame: &[u8]) -> u32
 }
 
 fn count_response(frame: &[u8]) -> u32
-    requires { ⌜ (fieldsEnd 11 ≤ length (now frame)) × (markOf (now frame) ≡ 1 → stateEnd ≤ length (now frame)) ⌝ }
-    ensures { λ r. ⌜ r ≡ (if eqb (markOf (now (frame .entry))) 1 then num 4 21 (now (frame .entry)) else 0) ⌝ }
+    requires { ⌜ (fieldsEnd 11 ≤ length (now frame)) × (responseMark (now frame) ≡ 1 → stateEnd ≤ length (now frame)) ⌝ }
+    ensures { λ r. ⌜ r ≡ (if eqb (responseMark (now (frame .entry))) 1 then num 4 21 (now (frame .entry)) else 0) ⌝ }
 {
     if numbers::read_u8(frame, 20) == 1 {
         return numbers::read_u32(frame, 21);

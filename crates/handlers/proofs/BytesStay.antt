@@ -16,7 +16,7 @@ use Rattle.clock.specs.declared.Duty.the-variants.{Change}
 use Rattle.frames.specs.Messages.{carriedBytes}
 use Rattle.frames.specs.declared.Message.{Message}
 use Rattle.frames.specs.declared.Message.the-variants.{Request, Prepare, PrepareOk, Commit, GetState, NewState, StartViewChange, DoViewChange, StartView, Recovery, RecoveryResponse}
-use Rattle.rows.specs.declared.Latest.{Latest}
+use Rattle.client_table.specs.declared.Latest.{Latest}
 use Rattle.state.specs.Lengths.{storedPlace}
 use Rattle.state.specs.declared.Replica.{Replica}
 use Rattle.state.specs.declared.Report.{Report}
@@ -32,12 +32,12 @@ use Rattle.normal.specs.PrepareOk as PrepareOk
 use Rattle.normal.specs.PrepareOk.{Counted, prepareOkStep}
 use Rattle.normal.specs.declared.prepare_ok.Count.{Count}
 use Rattle.normal.specs.declared.prepare_ok.Count.the-variants as Counts
-use Rattle.normal.specs.declared.request.Call.{Call}
-use Rattle.normal.specs.declared.request.Call.the-variants as Calls
+use Rattle.normal.specs.declared.request.RequestVerdict.{RequestVerdict}
+use Rattle.normal.specs.declared.request.RequestVerdict.the-variants as Calls
 use Rattle.view_change.specs.StartView as StartView
 use Rattle.view_change.specs.StartView.{Joined, joinedBy, startViewStep}
-use Rattle.view_change.specs.declared.Verdict.{Verdict}
-use Rattle.view_change.specs.declared.Verdict.the-variants as Joins
+use Rattle.view_change.specs.declared.StartViewVerdict.{StartViewVerdict}
+use Rattle.view_change.specs.declared.StartViewVerdict.the-variants as Joins
 use Rattle.do_view_change.specs.Begin.{begunIn, beginStep}
 use Rattle.do_view_change.specs.Record.{Recorded, keptBy, startedBy, byDecision, recordStep, sendStep, doViewChangeStep}
 use Rattle.book.specs.Memory.{Memory}
@@ -59,7 +59,7 @@ module _ (s : Replica) (m : Memory) (h : InBytes m) where
   abbrev After : Recorded → Type 0
   After d = InBytes (d .memory)
 
-  call-bytes : (e : Entry) (latest : Latest) (k : Call)
+  call-bytes : (e : Entry) (latest : Latest) (k : RequestVerdict)
       → After (ofServed m (Request.byCall k s e latest (m .runs .log) (m .acks) (m .out) (m .reps)))
   unfolding Request.byCall Request.resent Request.accepted
   call-bytes e latest Calls.Nothing = h
@@ -80,9 +80,9 @@ module _ (s : Replica) (m : Memory) (h : InBytes m) where
   unfolding prepareOkStep
   prepare-ok-bytes v o r = split (λ (d : Counted). After (ofCounted m d)) _ _ _ (λ _. h) (λ _. count-bytes o r _)
 
-  join-bytes : (d : Verdict) (v : View) (o c : Op) (part : List ℕ) → Bytes part
-      → After (ofJoined m (StartView.byVerdict d s v o c part (m .runs) (m .acks) (m .out)))
-  unfolding StartView.byVerdict joinedBy
+  join-bytes : (d : StartViewVerdict) (v : View) (o c : Op) (part : List ℕ) → Bytes part
+      → After (ofJoined m (StartView.byStartViewVerdict d s v o c part (m .runs) (m .acks) (m .out)))
+  unfolding StartView.byStartViewVerdict joinedBy
   join-bytes Joins.Ignore v o c part b = h
   join-bytes Joins.Refuse v o c part b = h
   join-bytes Joins.Join v o c part b =

@@ -29,13 +29,13 @@ use Rattle.reports.proofs.WholeLaws.{Whole, over-ok}
 use Rattle.steps.specs.Steps.{Spoke, Left, settled}
 use Rattle.view_change.specs.StartView as StartView
 use Rattle.view_change.specs.StartView.{Joined, clearing, withLogOf, joinedBy, startViewStep}
-use Rattle.view_change.specs.declared.Verdict.{Verdict}
-use Rattle.view_change.specs.declared.Verdict.the-variants as Verdicts
+use Rattle.view_change.specs.declared.StartViewVerdict.{StartViewVerdict}
+use Rattle.view_change.specs.declared.StartViewVerdict.the-variants as Verdicts
 use Rattle.do_view_change.specs.Begin.{begunIn, beginStep}
 use Rattle.do_view_change.specs.Record.{onlySent, reportOf, ownReport, decidedBy, decided, keptBy, startedBy, byDecision, recordStep, toldPrimary, sendStep, doViewChangeStep}
 use Rattle.book.specs.Memory.{Memory}
 use Rattle.do_view_change.specs.declared.Decision.{Decision}
-use Rattle.voting.specs.Votes.{called, maybeStep, sameView, startViewChangeStep}
+use Rattle.voting.specs.Votes.{sentFirst, maybeStep, sameView, startViewChangeStep}
 use Rattle.recovery.specs.Recovery.{Collected, responseOf, recoveredBy, byResponse, collectedBy, responseStep}
 use Rattle.handlers.specs.Handlers.{ofJoined, ofCollected}
 use Rattle.handlers.proofs.Ruled.{Has, RuledBy, cleared, still, wrote, start-view-has, acked-left}
@@ -54,8 +54,8 @@ module _ (s : Replica) (m : Memory) (h : Has s m) (v : View) (o c : Op) (part : 
       subst (λ (i : ℕ). entriesOk i (withEntries 0 (take (32 * o .0) part) (m .runs .log)) ≡ true) (zero-add (o .0))
       (part-ok 0 0 (o .0) (m .runs .log) part (omega arith) (omega (arith, place-is (0 + o .0), short, h .log-long)) long refl ok)
 
-  verdict-ruled : (d : Verdict) → JoinedRuled (StartView.byVerdict d s v o c part (m .runs) (m .acks) (m .out))
-  unfolding StartView.byVerdict joinedBy settled
+  verdict-ruled : (d : StartViewVerdict) → JoinedRuled (StartView.byStartViewVerdict d s v o c part (m .runs) (m .acks) (m .out))
+  unfolding StartView.byStartViewVerdict joinedBy settled
   verdict-ruled Verdicts.Ignore = still h
   verdict-ruled Verdicts.Refuse = still h
   verdict-ruled Verdicts.Join =
@@ -65,7 +65,7 @@ module _ (s : Replica) (m : Memory) (h : Has s m) (v : View) (o c : Op) (part : 
 
   pub start-view-ruled : RuledBy (ofJoined m (startViewStep s v o c part (m .runs) (m .acks) (m .out)))
   unfolding startViewStep
-  start-view-ruled = verdict-ruled (StartView.verdictOf s v o part (m .runs .log))
+  start-view-ruled = verdict-ruled (StartView.startViewVerdict s v o part (m .runs .log))
 
 -- ---- record_do_view_change, from state t; s is the state as it was
 
@@ -123,8 +123,8 @@ module _ (s t : Replica) (m : Memory) (hs : Has s m) (ht : Has t m) where
       (omega (arith, ht .op-le, ht .log-long)) (ht .log-ok))
       (λ _. split SentRuled _ _ _ (λ _. still hs) (λ _. still ht))
 
-  pub called-ruled : (first : Bool) → RuledBy (onlySent m (called s t first (m .out)))
-  unfolding called
+  pub called-ruled : (first : Bool) → RuledBy (onlySent m (sentFirst s t first (m .out)))
+  unfolding sentFirst
   called-ruled first = split SentRuled _ _ _ (λ _. still hs) (λ _. still ht)
 
 module _ (s : Replica) (m : Memory) (h : Has s m) where

@@ -27,9 +27,9 @@ use Rattle.reports.proofs.JudgeLaws.{begin-lies}
 use Rattle.steps.specs.Steps.{Spoke, settled, committedTo}
 use Rattle.book.specs.Memory.{Runs, Memory}
 use Rattle.view_change.specs.StartView as StartView
-use Rattle.view_change.specs.StartView.{Carried, Joined, withLogOf, sentStartView, joinedBy, startViewStep}
-use Rattle.view_change.specs.declared.Verdict.{Verdict}
-use Rattle.view_change.specs.declared.Verdict.the-variants as Verdicts
+use Rattle.view_change.specs.StartView.{LogPassed, Joined, withLogOf, sentStartView, joinedBy, startViewStep}
+use Rattle.view_change.specs.declared.StartViewVerdict.{StartViewVerdict}
+use Rattle.view_change.specs.declared.StartViewVerdict.the-variants as Verdicts
 use Rattle.view_change.proofs.StartViewLaws.{join-keeps, joins-sound}
 use Rattle.do_view_change.specs.Begin.{ownAcks, entered, begunIn, beginStep}
 use Rattle.do_view_change.specs.Record.{recorded, Gathering, onlySent, reportOf, ownReport, decidedBy, decided, keptBy, startedBy, byDecision, recordStep, toldPrimary, sendStep, doViewChangeStep}
@@ -45,7 +45,7 @@ pub sent-start-view-held : {s : Replica} {x : Runs} (to : ℕ) (log out : List �
 unfolding sentStartView
 sent-start-view-held {s} {x} to log out h = split (λ (d : Spoke). Held (s .setup) (d .answer .state) x) _ _ _ (λ _. h) (λ _. h)
 
-module _ (s : Replica) (m : Memory) (h : Gathering s m) (v : View) (o c : Op) (part : List ℕ) (k : Carried s o c)
+module _ (s : Replica) (m : Memory) (h : Gathering s m) (v : View) (o c : Op) (part : List ℕ) (k : LogPassed s o c)
     (l : 32 * o .0 ≤ length part) where
   abbrev JoinedKept : Joined → Type 0
   JoinedKept d = Kept (s .setup) (ofJoined m d)
@@ -60,9 +60,9 @@ module _ (s : Replica) (m : Memory) (h : Gathering s m) (v : View) (o c : Op) (p
         reports = none-ok (s .setup);
       }
 
-  verdict-kept : (d : Verdict) → StartView.verdictOf s v o part (m .runs .log) ≡ d
-      → JoinedKept (StartView.byVerdict d s v o c part (m .runs) (m .acks) (m .out))
-  unfolding StartView.byVerdict joinedBy
+  verdict-kept : (d : StartViewVerdict) → StartView.startViewVerdict s v o part (m .runs .log) ≡ d
+      → JoinedKept (StartView.byStartViewVerdict d s v o c part (m .runs) (m .acks) (m .out))
+  unfolding StartView.byStartViewVerdict joinedBy
   verdict-kept Verdicts.Ignore e = record { held = as-it-was h; acks-long = h .acks-long; stored-long = h .stored-long }
   verdict-kept Verdicts.Refuse e = record { held = as-it-was h; acks-long = h .acks-long; stored-long = h .stored-long }
   verdict-kept Verdicts.Join e =
@@ -80,7 +80,7 @@ module _ (s : Replica) (m : Memory) (h : Gathering s m) (v : View) (o c : Op) (p
 
   pub start-view-kept : JoinedKept (startViewStep s v o c part (m .runs) (m .acks) (m .out))
   unfolding startViewStep
-  start-view-kept = verdict-kept (StartView.verdictOf s v o part (m .runs .log)) refl
+  start-view-kept = verdict-kept (StartView.startViewVerdict s v o part (m .runs .log)) refl
 
 -- ---- record_do_view_change
 

@@ -23,7 +23,7 @@ use Rattle.entries.specs.Entries.{operationOk, entryOf, entriesOk, EntryFits}
 use Rattle.entries.specs.declared.Entry.{Entry}
 use Rattle.config.specs.declared.Setup.{Setup}
 use Rattle.frames.specs.Kinds.{roomOf, fieldsOk, countOf}
-use Rattle.frames.specs.Messages.{stateOf, messageOf, stateRow, carriedOf, carriedBytes}
+use Rattle.frames.specs.Messages.{responseState, messageOf, stateRow, carriedOf, carriedBytes}
 use Rattle.frames.specs.Refusals.{checkFrame}
 use Rattle.frames.specs.declared.Message.{Message}
 use Rattle.frames.specs.declared.Message.the-variants.{Request, Prepare, PrepareOk, NewState, StartViewChange, DoViewChange, StartView, RecoveryResponse}
@@ -187,13 +187,13 @@ module _ (u : Setup) (frame : List ℕ) where
     unfolding carriedOf stateRow
     response-known = known u frame 11 (RecoveryResponse v x r (Present o c)) refl h
 
-    response-state : Present o c ≡ stateOf frame
+    response-state : Present o c ≡ responseState frame
     unfolding messageOf if_then_else_
     response-state = let e = response-known .message in cc
 
     -- its mark is 1
     response-mark : (eqb (num 1 20 frame) 1 ≡ true) × (o .0 ≡ num 4 21 frame)
-    unfolding stateOf
+    unfolding responseState
     response-mark =
         split (λ (t : RecoveryState). Present o c ≡ t → (eqb (num 1 20 frame) 1 ≡ true) × (o .0 ≡ num 4 21 frame)) _ _ _
         (λ b e. (b, cc)) (λ _ e. absurd (let q : _≡_ {A = ℕ} 0 1 = cc in omega arith)) response-state

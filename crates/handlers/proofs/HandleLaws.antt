@@ -22,11 +22,11 @@ use Rattle.frames.specs.Looks.{looksAt}
 use Rattle.frames.specs.declared.RecoveryState.{RecoveryState}
 use Rattle.frames.specs.declared.Message.{Message}
 use Rattle.frames.specs.declared.Message.the-variants.{Request, Prepare, PrepareOk, Commit, GetState, NewState, StartViewChange, DoViewChange, StartView, Recovery, RecoveryResponse}
-use Rattle.rows.specs.declared.Latest.{Latest}
+use Rattle.client_table.specs.declared.Latest.{Latest}
 use Rattle.state.specs.State.{leads}
 use Rattle.state.specs.Statuses.{isNormal, isTransfer, isChanging}
 use Rattle.state.specs.Answers.{quiet}
-use Rattle.state.specs.declared.Answer.{Answer}
+use Rattle.state.specs.declared.Returned.{Returned}
 use Rattle.state.specs.declared.Replica.{Replica}
 use Rattle.book.specs.Memory.{money, runs, Memory, memory}
 use Rattle.steps.specs.Steps.{left, Spoke, spoke}
@@ -57,36 +57,36 @@ module _ (s : Replica) (x : Message) (latest : Latest) (frame log results totals
 
   -- ---- the match
 
-  pub request-is : (e : Entry) → x ≡ Request e → {a : Answer} {log′ acks′ out′ reps′ : List ℕ}
+  pub request-is : (e : Entry) → x ≡ Request e → {a : Returned} {log′ acks′ out′ reps′ : List ℕ}
       → served a log′ acks′ out′ reps′ ≡ requestStep s e latest log acks out reps
       → recorded a (memory log′ results totals acks′ stored out′ reps′) ≡ told
   unfolding handled
   request-is e q p = arm (Request e) q (ap (ofServed m) p)
 
-  pub prepare-is : (v : View) (o c : Op) (e : Entry) → x ≡ Prepare v o c e → {a : Answer} {log′ results′ totals′ out′ : List ℕ}
+  pub prepare-is : (v : View) (o c : Op) (e : Entry) → x ≡ Prepare v o c e → {a : Returned} {log′ results′ totals′ out′ : List ℕ}
       → left a (runs log′ results′ totals′) out′ ≡ prepareStep s v (preparedBy o c e latest) (runs log results totals) out
       → recorded a (memory log′ results′ totals′ acks stored out′ reps) ≡ told
   unfolding handled
   prepare-is v o c e q p = arm (Prepare v o c e) q (ap (ofLeft m) p)
 
-  pub prepare-ok-is : (v : View) (o : Op) (r : ℕ) → x ≡ PrepareOk v o r → {a : Answer} {results′ totals′ acks′ reps′ : List ℕ}
+  pub prepare-ok-is : (v : View) (o : Op) (r : ℕ) → x ≡ PrepareOk v o r → {a : Returned} {results′ totals′ acks′ reps′ : List ℕ}
       → counted a (money results′ totals′) acks′ reps′ ≡ prepareOkStep s v o r log (money results totals) acks reps
       → recorded a (memory log results′ totals′ acks′ stored out reps′) ≡ told
   unfolding handled
   prepare-ok-is v o r q p = arm (PrepareOk v o r) q (ap (ofCounted m) p)
 
-  pub commit-is : (v : View) (c : Op) → x ≡ Commit v c → {a : Answer} {results′ totals′ out′ : List ℕ}
+  pub commit-is : (v : View) (c : Op) → x ≡ Commit v c → {a : Returned} {results′ totals′ out′ : List ℕ}
       → left a (runs log results′ totals′) out′ ≡ commitStep s v c (runs log results totals) out
       → recorded a (memory log results′ totals′ acks stored out′ reps) ≡ told
   unfolding handled
   commit-is v c q p = arm (Commit v c) q (ap (ofLeft m) p)
 
-  pub get-state-is : (r : ℕ) (v : View) (o : Op) → x ≡ GetState r v o → {a : Answer} {out′ : List ℕ}
+  pub get-state-is : (r : ℕ) (v : View) (o : Op) → x ≡ GetState r v o → {a : Returned} {out′ : List ℕ}
       → spoke a out′ ≡ getStateStep s r v o log out → recorded a (memory log results totals acks stored out′ reps) ≡ told
   unfolding handled
   get-state-is r v o q p = arm (GetState r v o) q (ap (onlySent m) p)
 
-  pub new-state-is : (v : View) (a z c : Op) → x ≡ NewState v a z c → {b : Answer} {part log′ results′ totals′ out′ : List ℕ} → part ≡ carriedBytes (NewState v a z c) frame
+  pub new-state-is : (v : View) (a z c : Op) → x ≡ NewState v a z c → {b : Returned} {part log′ results′ totals′ out′ : List ℕ} → part ≡ carriedBytes (NewState v a z c) frame
       → left b (runs log′ results′ totals′) out′ ≡ newStateStep s v (partOf a z c) part (runs log results totals) out
       → recorded b (memory log′ results′ totals′ acks stored out′ reps) ≡ told
   unfolding handled
@@ -104,7 +104,7 @@ module _ (s : Replica) (x : Message) (latest : Latest) (frame log results totals
   do-view-change-is v r l o c q e p =
       arm (DoViewChange v r l o c) q (p ∙ ap (λ (f : List ℕ). doViewChangeStep s v r l o c f m) e)
 
-  pub start-view-is : (v : View) (o c : Op) → x ≡ StartView v o c → {a : Answer} {part log′ results′ totals′ acks′ out′ : List ℕ} → part ≡ carriedBytes (StartView v o c) frame
+  pub start-view-is : (v : View) (o c : Op) → x ≡ StartView v o c → {a : Returned} {part log′ results′ totals′ acks′ out′ : List ℕ} → part ≡ carriedBytes (StartView v o c) frame
       → joined a (runs log′ results′ totals′) acks′ out′ ≡ startViewStep s v o c part (runs log results totals) acks out
       → recorded a (memory log′ results′ totals′ acks′ stored out′ reps) ≡ told
   unfolding handled
@@ -112,12 +112,12 @@ module _ (s : Replica) (x : Message) (latest : Latest) (frame log results totals
       arm (StartView v o c) q
       (ap (ofJoined m) (p ∙ ap (λ (f : List ℕ). startViewStep s v o c f (runs log results totals) acks out) e))
 
-  pub recovery-is : (r k : ℕ) (v : View) → x ≡ Recovery r k v → {a : Answer} {out′ : List ℕ} → spoke a out′ ≡ recoveryStep s r k v log out
+  pub recovery-is : (r k : ℕ) (v : View) → x ≡ Recovery r k v → {a : Returned} {out′ : List ℕ} → spoke a out′ ≡ recoveryStep s r k v log out
       → recorded a (memory log results totals acks stored out′ reps) ≡ told
   unfolding handled
   recovery-is r k v q p = arm (Recovery r k v) q (ap (onlySent m) p)
 
-  pub response-is : (v : View) (k r : ℕ) (t : RecoveryState) → x ≡ RecoveryResponse v k r t → {a : Answer} {part log′ results′ totals′ stored′ : List ℕ} → part ≡ carriedBytes (RecoveryResponse v k r t) frame
+  pub response-is : (v : View) (k r : ℕ) (t : RecoveryState) → x ≡ RecoveryResponse v k r t → {a : Returned} {part log′ results′ totals′ stored′ : List ℕ} → part ≡ carriedBytes (RecoveryResponse v k r t) frame
       → collected a (runs log′ results′ totals′) stored′ ≡ responseStep s v k r t part (runs log results totals) stored
       → recorded a (memory log′ results′ totals′ acks stored′ out reps) ≡ told
   unfolding handled
@@ -127,10 +127,10 @@ module _ (s : Replica) (x : Message) (latest : Latest) (frame log results totals
 
   -- ---- on_message
 
-  pub looks-not : {a : Answer} (b : Bool) → b ≡ looksAt (s .status) (carriedOf x .kind) → not b ≡ true → a ≡ quiet s
+  pub looks-not : {a : Returned} (b : Bool) → b ≡ looksAt (s .status) (carriedOf x .kind) → not b ≡ true → a ≡ quiet s
       → recorded a m ≡ messageStep x s latest frame m
   unfolding messageStep
-  looks-not b e h p = ap (λ (y : Answer). recorded y m) p ∙ sym (if-false _ _ _ (sym e ∙ not-true b h))
+  looks-not b e h p = ap (λ (y : Returned). recorded y m) p ∙ sym (if-false _ _ _ (sym e ∙ not-true b h))
 
   pub looks : {d : Recorded} (b : Bool) → b ≡ looksAt (s .status) (carriedOf x .kind) → not b ≡ false → d ≡ told
       → d ≡ messageStep x s latest frame m
@@ -171,13 +171,13 @@ module _ (s : Replica) (log results totals acks stored out reps : List ℕ) wher
   k = memory log results totals acks stored out reps
 
   module _ (n : Bool) (ne : n ≡ isNormal (s .status)) where
-    pub normal-is : n ≡ true → {a : Answer} {out′ : List ℕ} → spoke a out′ ≡ normalTick s log out
+    pub normal-is : n ≡ true → {a : Returned} {out′ : List ℕ} → spoke a out′ ≡ normalTick s log out
         → recorded a (memory log results totals acks stored out′ reps) ≡ idleStep s k
     unfolding idleStep
     normal-is h p = ap (onlySent k) p ∙ sym (if-true _ _ _ (sym ne ∙ h))
 
     module _ (h : n ≡ false) (f : Bool) (fe : f ≡ isTransfer (s .status)) where
-      pub transfer-is : f ≡ true → (t : Ticked) → t ≡ tickOf (s .setup .timeout) Follow (s .clock) → {a : Answer} {out′ : List ℕ}
+      pub transfer-is : f ≡ true → (t : Ticked) → t ≡ tickOf (s .setup .timeout) Follow (s .clock) → {a : Returned} {out′ : List ℕ}
           → spoke a out′ ≡ askTick s t out → recorded a (memory log results totals acks stored out′ reps) ≡ idleStep s k
       unfolding idleStep
       transfer-is g t q p =
@@ -191,7 +191,7 @@ module _ (s : Replica) (log results totals acks stored out reps : List ℕ) wher
             p ∙ ap (λ (z : Ticked). changeTick s (z .clock) (z .up) k) q
             ∙ sym (if-false _ _ _ (sym ne ∙ h) ∙ if-false _ _ _ (sym fe ∙ g) ∙ if-true _ _ _ (sym be ∙ i))
 
-        pub recovering-is : b ≡ false → {a : Answer} {out′ : List ℕ} → spoke a out′ ≡ recoveringTick s out
+        pub recovering-is : b ≡ false → {a : Returned} {out′ : List ℕ} → spoke a out′ ≡ recoveringTick s out
             → recorded a (memory log results totals acks stored out′ reps) ≡ idleStep s k
         unfolding idleStep
         recovering-is i p =

@@ -32,7 +32,7 @@ use Rattle.frames.specs.declared.Message.{Message}
 use Rattle.frames.specs.declared.Message.the-variants.{Request, Prepare, PrepareOk, Commit, GetState, NewState, StartViewChange, DoViewChange, StartView, Recovery, RecoveryResponse}
 use Rattle.frames.specs.declared.Checked.the-variants.{Passed}
 use Rattle.writers.specs.Writers.{stateSize, sizeOf}
-use Rattle.rows.specs.declared.Latest.{Latest}
+use Rattle.client_table.specs.declared.Latest.{Latest}
 use Rattle.state.specs.State.{leads}
 use Rattle.state.specs.Statuses.{isNormal, isTransfer, isChanging, isRecovering}
 use Rattle.steps.specs.Steps.{Sound, Spoke}
@@ -42,7 +42,7 @@ use Rattle.recovery.specs.Recovery.{responseOf}
 use Rattle.handlers.specs.Handlers as H
 use Rattle.handlers.specs.Handlers.{preparedBy, partOf, handled, messageStep, normalTick, askTick, changingTick, idleStep}
 use Rattle.handlers.proofs.FrameLaws.{request-ok, prepare-ok, call-fit, new-state-fit, report-fit, report-ok, start-view-fit, start-view-ok, response-fit, response-ok}
-use Rattle.model.specs.State.{Row, Held, State, Answer, ignored, opOf}
+use Rattle.model.specs.State.{ClientEntry, Held, State, Answer, ignored, opOf}
 use Rattle.model.specs.Sending.{primary, isPrimary, sendGetState}
 use Rattle.model.specs.Recovery.{onRecoveryResponse}
 use Rattle.layout.specs.Layout.{modelOf}
@@ -65,7 +65,7 @@ use Rattle.reports.proofs.StoredLift.{StoredOk}
 use Rattle.frames.proofs.MessageLaws.{carried-in-bytes}
 
 -- the row that is handed in tells of the client whose entry a message carries
-abbrev pub RowTells : List Row → Message → Latest → Type 0
+abbrev pub RowTells : List ClientEntry → Message → Latest → Type 0
 RowTells table (Request e) latest = Tells table (e .client) latest
 RowTells table (Prepare v o c e) latest = Tells table (e .client) latest
 RowTells table (PrepareOk v o r) latest = Unit
@@ -79,7 +79,7 @@ RowTells table (Recovery r x v) latest = Unit
 RowTells table (RecoveryResponse v x r t) latest = Unit
 
 -- state and memory as calls leave them, with the model's table
-pub record Fit (c : Given) (table : List Row) : Type 0 where
+pub record Fit (c : Given) (table : List ClientEntry) : Type 0 where
   pub gathering : Gathering (c .state) (memoryOf c)
   pub log-ok : entriesOk (c .state .op .0) (c .runs .log) ≡ true
   pub log-bytes : Bytes (c .runs .log)
@@ -149,7 +149,7 @@ unfolding heldIn responseOf stateSize
 held-same v Absent part = refl
 held-same v (Present o k) part = refl
 
-module _ (c : Given) (table : List Row) (applied : List Entry) (h : Fit c table) where
+module _ (c : Given) (table : List ClientEntry) (applied : List Entry) (h : Fit c table) where
   abbrev m : State
   m = modelOf (c .state) (c .runs) table applied
 

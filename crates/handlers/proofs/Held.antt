@@ -21,10 +21,10 @@ use Rattle.book.proofs.RunLaws.{committed-lengths}
 use Rattle.state.specs.State.{heardBy, catchingUpIn, changingTo}
 use Rattle.state.specs.Statuses.{noReport, noReports}
 use Rattle.state.specs.Lengths.{logLength, resultsLength, totalsLength, acksLength, storedLength}
-use Rattle.state.specs.declared.Answer.{Answer}
+use Rattle.state.specs.declared.Returned.{Returned}
 use Rattle.state.specs.declared.Replica.{Replica}
 use Rattle.reports.specs.Sound.{reportOk, reportsOk}
-use Rattle.steps.specs.Steps.{Sound, Spoke, Left, committedTo, settled, asked, transferred, deferred, acked}
+use Rattle.steps.specs.Steps.{Sound, Spoke, Left, committedTo, settled, askedForState, transferred, deferred, committedAndAcked}
 use Rattle.book.specs.Memory.{Runs, Memory}
 use Rattle.steps.specs.declared.Accept.{Accept}
 use Rattle.steps.specs.declared.Accept.the-variants.{Ignore, Hear, Join, Rejoin, Take}
@@ -101,8 +101,8 @@ module _ {s : Replica} {x : Runs} (h : Held (s .setup) s x) where
 
   -- ---- messages alone
 
-  pub asked-held : (t : Replica) (at : Op) (out : List ℕ) → Held (s .setup) t x → Held (s .setup) (asked s t at out .answer .state) x
-  unfolding asked
+  pub asked-held : (t : Replica) (at : Op) (out : List ℕ) → Held (s .setup) t x → Held (s .setup) (askedForState s t at out .answer .state) x
+  unfolding askedForState
   asked-held t at out g = split (λ (d : Spoke). Held (s .setup) (d .answer .state) x) _ _ _ (λ _. h) (λ _. g)
 
   pub heard-held : Held (s .setup) (heardBy s) x
@@ -150,8 +150,8 @@ settled-held {u} {t} {x} k h l =
     }
 
 pub acked-held : {s t : Replica} {x y : Runs} (k : Op) (installed : Bool) (out : List ℕ) → Held (s .setup) s x → Held (s .setup) t y → k .0 ≤ t .op .0
-    → Held (s .setup) (acked s t k installed y out .answer .state) (acked s t k installed y out .runs)
-unfolding acked
+    → Held (s .setup) (committedAndAcked s t k installed y out .answer .state) (committedAndAcked s t k installed y out .runs)
+unfolding committedAndAcked
 acked-held {s} {t} {x} {y} k installed out h g l =
     split (λ (d : Left). Held (s .setup) (d .answer .state) (d .runs)) _ _ _ (λ _. back h g) (λ _. settled-held k g l)
 
@@ -165,5 +165,5 @@ module _ {s : Replica} {m : Memory} (h : Gathering s m) where
   left-kept d g = record { held = g; acks-long = h .acks-long; stored-long = h .stored-long }
 
   -- memory as it was
-  pub still-kept : (a : Answer) → Held (s .setup) (a .state) (m .runs) → Kept (s .setup) (recorded a m)
+  pub still-kept : (a : Returned) → Held (s .setup) (a .state) (m .runs) → Kept (s .setup) (recorded a m)
   still-kept a g = record { held = g; acks-long = h .acks-long; stored-long = h .stored-long }

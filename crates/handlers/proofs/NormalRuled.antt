@@ -11,30 +11,31 @@ use Rattle.numbers.proofs.WordLaws.{split}
 use Rattle.entries.specs.Entries.{operationOk, encodeEntry, entriesOk, EntryFits}
 use Rattle.entries.specs.declared.Entry.{Entry}
 use Rattle.entries.proofs.PlaceLaws.{place-is}
-use Rattle.rows.specs.declared.Latest.{Latest}
+use Rattle.client_table.specs.declared.Latest.{Latest}
 use Rattle.frames.specs.declared.Status.the-variants.{Normal}
 use Rattle.book.specs.Log.{withEntries}
 use Rattle.book.proofs.EntryRules.{ok-back, append-ok, part-ok}
 use Rattle.state.specs.State.{heardBy, withStatus, withLog, normalIn}
 use Rattle.state.specs.declared.Replica.{Replica}
-use Rattle.steps.specs.Steps.{Left, acceptOf, settled, acked}
+use Rattle.steps.specs.Steps.{Left, acceptOf, settled, committedAndAcked}
 use Rattle.normal.specs.Request as Request
 use Rattle.normal.specs.Request.{requestStep}
 use Rattle.normal.specs.Prepare as Prepare
-use Rattle.normal.specs.Prepare.{appendedBy, withEntry, nextOp, lowerOf, prepareStep}
+use Rattle.normal.specs.Prepare.{appendedBy, withEntry, lowerOf, prepareStep}
+use Rattle.normal.specs.Request.{nextOp}
 use Rattle.normal.specs.PrepareOk as PrepareOk
 use Rattle.normal.specs.PrepareOk.{Counted, prepareOkStep}
 use Rattle.normal.specs.Commit.{takenCommit, commitStep}
 use Rattle.normal.specs.declared.prepare.Prepared.{Prepared}
-use Rattle.normal.specs.declared.prepare.Verdict.{Verdict}
-use Rattle.normal.specs.declared.prepare.Verdict.the-variants.{Transfer, Again, Refuse, Append}
+use Rattle.normal.specs.declared.prepare.PrepareVerdict.{PrepareVerdict}
+use Rattle.normal.specs.declared.prepare.PrepareVerdict.the-variants.{Transfer, Again, Refuse, Append}
 use Rattle.normal.specs.declared.prepare_ok.Count.{Count}
 use Rattle.normal.specs.declared.prepare_ok.Count.the-variants as Counts
-use Rattle.normal.specs.declared.request.Call.{Call}
-use Rattle.normal.specs.declared.request.Call.the-variants as Calls
+use Rattle.normal.specs.declared.request.RequestVerdict.{RequestVerdict}
+use Rattle.normal.specs.declared.request.RequestVerdict.the-variants as Calls
 use Rattle.normal.proofs.PrepareLaws.{room-left}
 use Rattle.normal.proofs.RequestLaws.{append-fits}
-use Rattle.transfer.specs.NewState.{withPart, useOf, extended, filled, installed, byUse, newStateStep}
+use Rattle.transfer.specs.NewState.{withPart, useOf, extended, gapFilled, installed, byUse, newStateStep}
 use Rattle.transfer.specs.declared.Part.{Part}
 use Rattle.transfer.specs.declared.Use.{Use}
 use Rattle.transfer.specs.declared.Use.the-variants.{Ignore, Hear, Fill, Install}
@@ -65,7 +66,7 @@ module _ (s : Replica) (m : Memory) (h : Has s m) where
       append-ok (s .op .0) (m .runs .log) e (f .0) (f .1) (omega (arith, place-is (s .op .0 + 1), l, h .log-long)) (h .log-ok)
 
   call-ruled : (e : Entry) (latest : Latest) → EntryFits e × (operationOk (e .operation) (e .cents) ≡ true)
-      → (k : Call) → Request.verdictOf s e latest (length (m .out)) (length (m .reps)) ≡ k
+      → (k : RequestVerdict) → Request.requestVerdict s e latest (length (m .out)) (length (m .reps)) ≡ k
       → RuledBy (ofServed m (Request.byCall k s e latest (m .runs .log) (m .acks) (m .out) (m .reps)))
   unfolding Request.byCall Request.resent Request.accepted
   call-ruled e latest f Calls.Nothing q = still h
@@ -76,11 +77,11 @@ module _ (s : Replica) (m : Memory) (h : Has s m) where
   pub request-ruled : (e : Entry) (latest : Latest) → EntryFits e × (operationOk (e .operation) (e .cents) ≡ true)
       → RuledBy (ofServed m (requestStep s e latest (m .runs .log) (m .acks) (m .out) (m .reps)))
   unfolding requestStep
-  request-ruled e latest f = call-ruled e latest f (Request.verdictOf s e latest (length (m .out)) (length (m .reps))) refl
+  request-ruled e latest f = call-ruled e latest f (Request.requestVerdict s e latest (length (m .out)) (length (m .reps))) refl
 
   verdict-ruled : (p : Prepared) → EntryFits (p .entry) × (operationOk (p .entry .operation) (p .entry .cents) ≡ true)
-      → (d : Verdict) → d ≡ Prepare.verdictOf s p → LeftRuled (Prepare.byVerdict d s p (m .runs) (m .out))
-  unfolding Prepare.byVerdict appendedBy acked settled
+      → (d : PrepareVerdict) → d ≡ Prepare.prepareVerdict s p → LeftRuled (Prepare.byPrepareVerdict d s p (m .runs) (m .out))
+  unfolding Prepare.byPrepareVerdict appendedBy committedAndAcked settled
   verdict-ruled p f Transfer e = still (transferred-has s m h (m .out))
   verdict-ruled p f Again e = split LeftRuled _ _ _ (λ _. still h) (λ _. still h)
   verdict-ruled p f (Refuse k) e = still h
@@ -95,7 +96,7 @@ module _ (s : Replica) (m : Memory) (h : Has s m) where
       → RuledBy (ofLeft m (prepareStep s v p (m .runs) (m .out)))
   unfolding prepareStep Prepare.takenPrepare
   prepare-ruled v p f =
-      split LeftRuled _ _ _ (λ _. verdict-ruled p f (Prepare.verdictOf s p) refl) (λ _. still (deferred-has s m h (acceptOf s v) v (m .out)))
+      split LeftRuled _ _ _ (λ _. verdict-ruled p f (Prepare.prepareVerdict s p) refl) (λ _. still (deferred-has s m h (acceptOf s v) v (m .out)))
 
   -- ---- PrepareOk
 
@@ -112,7 +113,7 @@ module _ (s : Replica) (m : Memory) (h : Has s m) where
   unfolding prepareOkStep
   prepare-ok-ruled v o r =
       split (λ (d : Counted). RuledBy (ofCounted m d)) _ _ _ (λ _. still h)
-      (λ _. count-ruled o r (PrepareOk.verdictOf s o (getD (m .acks) (o .0 - 1) 0) r (length (m .reps))))
+      (λ _. count-ruled o r (PrepareOk.ackVerdict s o (getD (m .acks) (o .0 - 1) 0) r (length (m .reps))))
 
   -- ---- NewState
 
@@ -146,7 +147,7 @@ module _ (s : Replica) (m : Memory) (h : Has s m) where
         joined-ok (s .commit .0) (p .end .0 - p .start .0) (p .end .0) part commits (omega (arith, g, starts)) ends long ok
 
     use-ruled : (d : Use) → useOf s v p ≡ d → LeftRuled (byUse d s p part (m .runs) (m .out))
-    unfolding byUse filled installed extended settled
+    unfolding byUse gapFilled installed extended settled
     use-ruled Ignore e = still h
     use-ruled Hear e = still h
     use-ruled Fill e =

@@ -11,7 +11,7 @@ use Rattle.numbers.specs.declared.Op.{Op}
 use Rattle.numbers.proofs.WordLaws.{split}
 use Rattle.numbers.proofs.RunLaws.{length-over}
 use Rattle.entries.specs.declared.Entry.{Entry}
-use Rattle.rows.specs.declared.Latest.{Latest}
+use Rattle.client_table.specs.declared.Latest.{Latest}
 use Rattle.frames.specs.declared.Status.the-variants.{Normal}
 use Rattle.state.specs.State.{heardBy, withStatus, withLog, normalIn}
 use Rattle.state.specs.declared.Replica.{Replica}
@@ -20,21 +20,22 @@ use Rattle.book.specs.Memory.{Runs, Memory}
 use Rattle.normal.specs.Request as Request
 use Rattle.normal.specs.Request.{requestStep}
 use Rattle.normal.specs.Prepare as Prepare
-use Rattle.normal.specs.Prepare.{appendedBy, withEntry, nextOp, lowerOf, prepareStep}
+use Rattle.normal.specs.Prepare.{appendedBy, withEntry, lowerOf, prepareStep}
+use Rattle.normal.specs.Request.{nextOp}
 use Rattle.normal.specs.PrepareOk as PrepareOk
 use Rattle.normal.specs.PrepareOk.{Counted, prepareOkStep}
 use Rattle.normal.specs.Commit.{takenCommit, commitStep}
 use Rattle.normal.specs.declared.prepare.Prepared.{Prepared}
-use Rattle.normal.specs.declared.prepare.Verdict.{Verdict}
-use Rattle.normal.specs.declared.prepare.Verdict.the-variants.{Transfer, Again, Refuse, Append}
+use Rattle.normal.specs.declared.prepare.PrepareVerdict.{PrepareVerdict}
+use Rattle.normal.specs.declared.prepare.PrepareVerdict.the-variants.{Transfer, Again, Refuse, Append}
 use Rattle.normal.specs.declared.prepare_ok.Count.{Count}
 use Rattle.normal.specs.declared.prepare_ok.Count.the-variants as Counts
-use Rattle.normal.specs.declared.request.Call.{Call}
-use Rattle.normal.specs.declared.request.Call.the-variants as Calls
+use Rattle.normal.specs.declared.request.RequestVerdict.{RequestVerdict}
+use Rattle.normal.specs.declared.request.RequestVerdict.the-variants as Calls
 use Rattle.normal.proofs.PrepareLaws.{room-left, sound-next}
 use Rattle.normal.proofs.PrepareOkLaws.{ready}
 use Rattle.normal.proofs.RequestLaws.{append-fits}
-use Rattle.transfer.specs.NewState.{Carried, withPart, useOf, extended, filled, installed, byUse, newStateStep}
+use Rattle.transfer.specs.NewState.{PartPassed, withPart, useOf, extended, gapFilled, installed, byUse, newStateStep}
 use Rattle.transfer.specs.declared.Part.{Part}
 use Rattle.transfer.specs.declared.Use.{Use}
 use Rattle.transfer.specs.declared.Use.the-variants.{Ignore, Hear, Fill, Install}
@@ -68,8 +69,8 @@ module _ (s : Replica) (x : Runs) (h : Held (s .setup) s x) (out : List ℕ) whe
         reports = h .reports;
       }
 
-  verdict-held : (p : Prepared) (d : Verdict) → d ≡ Prepare.verdictOf s p → HeldBy (Prepare.byVerdict d s p x out)
-  unfolding Prepare.byVerdict appendedBy
+  verdict-held : (p : Prepared) (d : PrepareVerdict) → d ≡ Prepare.prepareVerdict s p → HeldBy (Prepare.byPrepareVerdict d s p x out)
+  unfolding Prepare.byPrepareVerdict appendedBy
   verdict-held p Transfer e = transferred-held h out
   verdict-held p Again e = acked-held (lowerOf (p .commit) (s .op)) false out h (heard-held h) (omega arith)
   verdict-held p (Refuse k) e = h
@@ -80,11 +81,11 @@ module _ (s : Replica) (x : Runs) (h : Held (s .setup) s x) (out : List ℕ) whe
   pub prepare-held : (v : View) (p : Prepared) → HeldBy (prepareStep s v p x out)
   unfolding prepareStep Prepare.takenPrepare
   prepare-held v p =
-      split HeldBy _ _ _ (λ _. verdict-held p (Prepare.verdictOf s p) refl) (λ _. deferred-held h (acceptOf s v) v out)
+      split HeldBy _ _ _ (λ _. verdict-held p (Prepare.prepareVerdict s p) refl) (λ _. deferred-held h (acceptOf s v) v out)
 
   -- ---- NewState
 
-  module _ (v : View) (p : Part) (part : List ℕ) (c : Carried s p) (l : 32 * (p .end .0 - p .start .0) ≤ length part) where
+  module _ (v : View) (p : Part) (part : List ℕ) (c : PartPassed s p) (l : 32 * (p .end .0 - p .start .0) ≤ length part) where
     fill-held : useOf s v p ≡ Fill
         → Held (s .setup) (withLog (withStatus (heardBy s) Normal) (p .end) (s .commit))
         (withPart (s .op .0) (p .end .0 - s .op .0) (drop (32 * (s .op .0 - p .start .0)) part) x)
@@ -104,7 +105,7 @@ module _ (s : Replica) (x : Runs) (h : Held (s .setup) s x) (out : List ℕ) whe
         }
 
     use-held : (u : Use) → useOf s v p ≡ u → HeldBy (byUse u s p part x out)
-    unfolding byUse filled installed extended
+    unfolding byUse gapFilled installed extended
     use-held Ignore e = h
     use-held Hear e = heard-held h
     use-held Fill e =
@@ -121,7 +122,7 @@ module _ (s : Replica) (x : Runs) (h : Held (s .setup) s x) (out : List ℕ) whe
 module _ (s : Replica) (m : Memory) (h : Gathering s m) where
   -- ---- Request
 
-  call-kept : (e : Entry) (latest : Latest) (k : Call) → Request.verdictOf s e latest (length (m .out)) (length (m .reps)) ≡ k
+  call-kept : (e : Entry) (latest : Latest) (k : RequestVerdict) → Request.requestVerdict s e latest (length (m .out)) (length (m .reps)) ≡ k
       → Kept (s .setup) (ofServed m (Request.byCall k s e latest (m .runs .log) (m .acks) (m .out) (m .reps)))
   unfolding Request.byCall Request.resent Request.accepted
   call-kept e latest Calls.Nothing q = record { held = as-it-was h; acks-long = h .acks-long; stored-long = h .stored-long }
@@ -141,11 +142,11 @@ module _ (s : Replica) (m : Memory) (h : Gathering s m) where
 
   pub request-kept : (e : Entry) (latest : Latest) → Kept (s .setup) (ofServed m (requestStep s e latest (m .runs .log) (m .acks) (m .out) (m .reps)))
   unfolding requestStep
-  request-kept e latest = call-kept e latest (Request.verdictOf s e latest (length (m .out)) (length (m .reps))) refl
+  request-kept e latest = call-kept e latest (Request.requestVerdict s e latest (length (m .out)) (length (m .reps))) refl
 
   -- ---- PrepareOk
 
-  count-kept : (o : Op) (r : ℕ) (d : Count) → d ≡ PrepareOk.verdictOf s o (getD (m .acks) (o .0 - 1) 0) r (length (m .reps))
+  count-kept : (o : Op) (r : ℕ) (d : Count) → d ≡ PrepareOk.ackVerdict s o (getD (m .acks) (o .0 - 1) 0) r (length (m .reps))
       → Kept (s .setup) (ofCounted m (PrepareOk.byCount d s o r (m .runs .log) (m .runs .money) (m .acks) (m .reps)))
   unfolding PrepareOk.byCount PrepareOk.committedBy settled
   count-kept o r Counts.Nothing e = record { held = as-it-was h; acks-long = h .acks-long; stored-long = h .stored-long }
@@ -168,4 +169,4 @@ module _ (s : Replica) (m : Memory) (h : Gathering s m) where
   prepare-ok-kept v o r =
       split (λ (d : Counted). Kept (s .setup) (ofCounted m d)) _ _ _
       (λ _. record { held = as-it-was h; acks-long = h .acks-long; stored-long = h .stored-long })
-      (λ _. count-kept o r (PrepareOk.verdictOf s o (getD (m .acks) (o .0 - 1) 0) r (length (m .reps))) refl)
+      (λ _. count-kept o r (PrepareOk.ackVerdict s o (getD (m .acks) (o .0 - 1) 0) r (length (m .reps))) refl)

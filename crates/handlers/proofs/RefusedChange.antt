@@ -16,14 +16,14 @@ use Rattle.reports.specs.declared.Judged.{Judged}
 use Rattle.reports.specs.declared.Judged.the-variants.{Wait, Refuse, Begin}
 use Rattle.view_change.specs.StartView as StartView
 use Rattle.view_change.specs.StartView.{Joined, joinedBy, startViewStep}
-use Rattle.view_change.specs.declared.Verdict.{Verdict}
-use Rattle.view_change.specs.declared.Verdict.the-variants as Verdicts
+use Rattle.view_change.specs.declared.StartViewVerdict.{StartViewVerdict}
+use Rattle.view_change.specs.declared.StartViewVerdict.the-variants as Verdicts
 use Rattle.do_view_change.specs.Begin.{begunIn, beginStep}
 use Rattle.do_view_change.specs.Record.{keptBy, startedBy, byDecision, recordStep, toldPrimary, sendStep, doViewChangeStep}
 use Rattle.book.specs.Memory.{Memory}
 use Rattle.do_view_change.specs.declared.Decision.{Decision}
 use Rattle.do_view_change.specs.declared.Decision.the-variants.{Keep, No, Start}
-use Rattle.voting.specs.Votes.{called, maybeStep, sameView, startViewChangeStep}
+use Rattle.voting.specs.Votes.{sentFirst, maybeStep, sameView, startViewChangeStep}
 use Rattle.voting.specs.Tick.{nextView, nextViewAsking, repeated, changeTick}
 use Rattle.recovery.specs.Recovery.{Collected, recoveringTick, fullAnswer, bareAnswer, recoveryStep, recoveredBy, byResponse, collectedBy, responseStep}
 use Rattle.handlers.specs.Handlers.{ofJoined, ofCollected}
@@ -35,9 +35,9 @@ module _ (s : Replica) (m : Memory) where
   abbrev Joins : Joined → Type 0
   Joins d = Untouched s m (ofJoined m d)
 
-  verdict-untouched : (v : View) (o c : Op) (part : List ℕ) (d : Verdict)
-      → Joins (StartView.byVerdict d s v o c part (m .runs) (m .acks) (m .out))
-  unfolding StartView.byVerdict joinedBy
+  verdict-untouched : (v : View) (o c : Op) (part : List ℕ) (d : StartViewVerdict)
+      → Joins (StartView.byStartViewVerdict d s v o c part (m .runs) (m .acks) (m .out))
+  unfolding StartView.byStartViewVerdict joinedBy
   verdict-untouched v o c part Verdicts.Ignore = done s m refl
   verdict-untouched v o c part Verdicts.Refuse = refused s m 7
   verdict-untouched v o c part Verdicts.Join =
@@ -45,7 +45,7 @@ module _ (s : Replica) (m : Memory) where
 
   pub start-view-untouched : (v : View) (o c : Op) (part : List ℕ) → Joins (startViewStep s v o c part (m .runs) (m .acks) (m .out))
   unfolding startViewStep
-  start-view-untouched v o c part = verdict-untouched v o c part (StartView.verdictOf s v o part (m .runs .log))
+  start-view-untouched v o c part = verdict-untouched v o c part (StartView.startViewVerdict s v o part (m .runs .log))
 
   -- ---- record_do_view_change and send_do_view_change, from state t
 
@@ -79,8 +79,8 @@ module _ (s : Replica) (m : Memory) where
 
   -- ---- StartViewChange
 
-  called-untouched : (t : Replica) (first : Bool) → Speaks s m (called s t first (m .out))
-  unfolding called
+  called-untouched : (t : Replica) (first : Bool) → Speaks s m (sentFirst s t first (m .out))
+  unfolding sentFirst
   called-untouched t first = split (Speaks s m) _ _ _ (λ _. refused s m 9) (λ _. done s m refl)
 
   maybe-untouched : (t : Replica) (first : Bool) → Untouched s m (maybeStep s t first m)

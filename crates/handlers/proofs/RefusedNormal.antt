@@ -9,7 +9,7 @@ use Rattle.numbers.specs.declared.View.{View}
 use Rattle.numbers.specs.declared.Op.{Op}
 use Rattle.numbers.proofs.WordLaws.{split}
 use Rattle.entries.specs.declared.Entry.{Entry}
-use Rattle.rows.specs.declared.Latest.{Latest}
+use Rattle.client_table.specs.declared.Latest.{Latest}
 use Rattle.state.specs.declared.Replica.{Replica}
 use Rattle.steps.specs.Steps.{acceptOf}
 use Rattle.normal.specs.Request as Request
@@ -21,14 +21,14 @@ use Rattle.normal.specs.PrepareOk.{Counted, prepareOkStep}
 use Rattle.normal.specs.Commit.{takenCommit, commitStep}
 use Rattle.normal.specs.Tick.{primaryTick}
 use Rattle.normal.specs.declared.prepare.Prepared.{Prepared}
-use Rattle.normal.specs.declared.prepare.Verdict.{Verdict}
-use Rattle.normal.specs.declared.prepare.Verdict.the-variants.{Transfer, Again, Refuse, Append}
+use Rattle.normal.specs.declared.prepare.PrepareVerdict.{PrepareVerdict}
+use Rattle.normal.specs.declared.prepare.PrepareVerdict.the-variants.{Transfer, Again, Refuse, Append}
 use Rattle.normal.specs.declared.prepare_ok.Count.{Count}
 use Rattle.normal.specs.declared.prepare_ok.Count.the-variants as Counts
-use Rattle.normal.specs.declared.request.Call.{Call}
-use Rattle.normal.specs.declared.request.Call.the-variants as Calls
+use Rattle.normal.specs.declared.request.RequestVerdict.{RequestVerdict}
+use Rattle.normal.specs.declared.request.RequestVerdict.the-variants as Calls
 use Rattle.transfer.specs.GetState.{getStateStep}
-use Rattle.transfer.specs.NewState.{useOf, extended, filled, installed, byUse, newStateStep}
+use Rattle.transfer.specs.NewState.{useOf, extended, gapFilled, installed, byUse, newStateStep}
 use Rattle.transfer.specs.declared.Part.{Part}
 use Rattle.transfer.specs.declared.Use.{Use}
 use Rattle.transfer.specs.declared.Use.the-variants.{Ignore, Hear, Fill, Install}
@@ -39,7 +39,7 @@ use Rattle.handlers.proofs.RefusedSteps.{Untouched, Speaks, Leaves, don
 module _ (s : Replica) (m : Memory) where
   -- ---- Request
 
-  call-untouched : (e : Entry) (latest : Latest) (k : Call)
+  call-untouched : (e : Entry) (latest : Latest) (k : RequestVerdict)
       → Untouched s m (ofServed m (Request.byCall k s e latest (m .runs .log) (m .acks) (m .out) (m .reps)))
   unfolding Request.byCall Request.resent Request.accepted
   call-untouched e latest Calls.Nothing = done s m refl
@@ -50,12 +50,12 @@ module _ (s : Replica) (m : Memory) where
   pub request-untouched : (e : Entry) (latest : Latest)
       → Untouched s m (ofServed m (requestStep s e latest (m .runs .log) (m .acks) (m .out) (m .reps)))
   unfolding requestStep
-  request-untouched e latest = call-untouched e latest (Request.verdictOf s e latest (length (m .out)) (length (m .reps)))
+  request-untouched e latest = call-untouched e latest (Request.requestVerdict s e latest (length (m .out)) (length (m .reps)))
 
   -- ---- Prepare
 
-  verdict-untouched : (p : Prepared) (d : Verdict) → Leaves s m (Prepare.byVerdict d s p (m .runs) (m .out))
-  unfolding Prepare.byVerdict appendedBy
+  verdict-untouched : (p : Prepared) (d : PrepareVerdict) → Leaves s m (Prepare.byPrepareVerdict d s p (m .runs) (m .out))
+  unfolding Prepare.byPrepareVerdict appendedBy
   verdict-untouched p Transfer = transferred-untouched s m
   verdict-untouched p Again = acked-untouched s m _ _ _
   verdict-untouched p (Refuse k) = refused s m k
@@ -64,7 +64,7 @@ module _ (s : Replica) (m : Memory) where
   pub prepare-untouched : (v : View) (p : Prepared) → Leaves s m (prepareStep s v p (m .runs) (m .out))
   unfolding prepareStep takenPrepare
   prepare-untouched v p =
-      split (Leaves s m) _ _ _ (λ _. verdict-untouched p (Prepare.verdictOf s p)) (λ _. deferred-untouched s m (acceptOf s v) v)
+      split (Leaves s m) _ _ _ (λ _. verdict-untouched p (Prepare.prepareVerdict s p)) (λ _. deferred-untouched s m (acceptOf s v) v)
 
   -- ---- PrepareOk
 
@@ -83,7 +83,7 @@ module _ (s : Replica) (m : Memory) where
   unfolding prepareOkStep
   prepare-ok-untouched v o r =
       split Answers _ _ _ (λ _. done s m refl)
-      (λ _. count-untouched o r (PrepareOk.verdictOf s o (getD (m .acks) (o .0 - 1) 0) r (length (m .reps))))
+      (λ _. count-untouched o r (PrepareOk.ackVerdict s o (getD (m .acks) (o .0 - 1) 0) r (length (m .reps))))
 
   -- ---- Commit
 
@@ -110,7 +110,7 @@ module _ (s : Replica) (m : Memory) where
       split (Leaves s m) _ _ _ (λ _. refused s m 9) (λ e. done s m (acked-done s t (p .commit) i _ (m .out) e))
 
   use-untouched : (p : Part) (part : List ℕ) (u : Use) → Leaves s m (byUse u s p part (m .runs) (m .out))
-  unfolding byUse filled installed
+  unfolding byUse gapFilled installed
   use-untouched p part Ignore = done s m refl
   use-untouched p part Hear = done s m refl
   use-untouched p part Fill = extended-untouched _ _ _ p false _

@@ -9,7 +9,7 @@ use Rattle.clock.specs.declared.Duty.the-variants.{Follow, Change}
 use Rattle.frames.specs.Messages.{carriedBytes}
 use Rattle.frames.specs.declared.Message.{Message}
 use Rattle.frames.specs.declared.Message.the-variants.{Request, Prepare, PrepareOk, Commit, GetState, NewState, StartViewChange, DoViewChange, StartView, Recovery, RecoveryResponse}
-use Rattle.rows.specs.declared.Latest.{Latest}
+use Rattle.client_table.specs.declared.Latest.{Latest}
 use Rattle.state.specs.declared.Replica.{Replica}
 use Rattle.transfer.specs.Tick.{transferTick}
 use Rattle.book.specs.Memory.{Memory}

@@ -11,7 +11,7 @@ use Rattle.numbers.specs.declared.Op.{Op}
 use Rattle.numbers.proofs.WordLaws.{split}
 use Rattle.state.specs.Answers.{refusal}
 use Rattle.state.specs.declared.Replica.{Replica}
-use Rattle.steps.specs.Steps.{Spoke, Left, asked, transferred, deferred, acked}
+use Rattle.steps.specs.Steps.{Spoke, Left, askedForState, transferred, deferred, committedAndAcked}
 use Rattle.book.specs.Memory.{Runs, Memory}
 use Rattle.steps.specs.declared.Accept.{Accept}
 use Rattle.steps.specs.declared.Accept.the-variants.{Ignore, Hear, Join, Rejoin, Take}
@@ -26,8 +26,8 @@ Untouched s m d = (d .answer .code ≡ 0 → ⊥) → d ≡ recorded (refusal (d
 
 -- where PrepareOk fits it is done, whatever the runs: a handler that changes them first has tested that area before
 pub acked-done : (s t : Replica) (k : Op) (installed : Bool) (x : Runs) (out : List ℕ) → ltb (length out) 16 ≡ false
-    → acked s t k installed x out .answer .code ≡ 0
-unfolding acked if_then_else_
+    → committedAndAcked s t k installed x out .answer .code ≡ 0
+unfolding committedAndAcked if_then_else_
 acked-done s t k installed x out e = rw e refl
 
 module _ (s : Replica) (m : Memory) where
@@ -42,8 +42,8 @@ module _ (s : Replica) (m : Memory) where
   abbrev pub Speaks : Spoke → Type 0
   Speaks d = Untouched s m (onlySent m d)
 
-  pub asked-untouched : (t : Replica) (at : Op) → Speaks (asked s t at (m .out))
-  unfolding asked
+  pub asked-untouched : (t : Replica) (at : Op) → Speaks (askedForState s t at (m .out))
+  unfolding askedForState
   asked-untouched t at = split Speaks _ _ _ (λ _. refused 9) (λ _. done refl)
 
   pub transferred-untouched : Speaks (transferred s (m .out))
@@ -71,6 +71,6 @@ module _ (s : Replica) (m : Memory) where
   abbrev pub Leaves : Left → Type 0
   Leaves d = Untouched s m (ofLeft m d)
 
-  pub acked-untouched : (t : Replica) (k : Op) (installed : Bool) → Leaves (acked s t k installed (m .runs) (m .out))
-  unfolding acked
+  pub acked-untouched : (t : Replica) (k : Op) (installed : Bool) → Leaves (committedAndAcked s t k installed (m .runs) (m .out))
+  unfolding committedAndAcked
   acked-untouched t k installed = split Leaves _ _ _ (λ _. refused 9) (λ _. done refl)

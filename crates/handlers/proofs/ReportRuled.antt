@@ -21,7 +21,7 @@ use Rattle.state.specs.Statuses.{noReport}
 use Rattle.state.specs.Lengths.{storedPlace}
 use Rattle.state.specs.declared.Report.{Report}
 use Rattle.state.specs.declared.Reports.{Reports}
-use Rattle.reports.specs.Rows.{withReport, latestIn}
+use Rattle.reports.specs.Rows.{withReport, latestViewIn}
 use Rattle.reports.specs.Judge.{judged, responded}
 use Rattle.reports.specs.Store.{keptLog}
 use Rattle.reports.specs.declared.Best.{Best}
@@ -99,7 +99,7 @@ module _ (u : Setup) (op : ℕ) (t : Reports) (log stored : List ℕ) (h : Lent 
     pub response-whole : (view c : ℕ) → responded (withReport t r d) (u .n) r (u .room) view c log stored fresh ≡ Begin b g
         → Whole u stored r fresh (b .id) (b .report)
     response-whole view c e =
-        let v : View = record { 0 = latestIn (take (u .n) (rows .rows)) } in
+        let v : View = record { 0 = latestViewIn (take (u .n) (rows .rows)) } in
         let z = response-begins rows (u .n) r (u .room) view c log stored fresh b g e in
         subst W (sym (z .1 .same-report))
         (row-whole u stored r fresh l d new some few held (h .fits) (h .stored-ok) _ (primary-below (u .n) v some) (z .0))

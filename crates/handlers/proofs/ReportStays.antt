@@ -27,7 +27,7 @@ use Rattle.state.specs.declared.Reports.{Reports}
 use Rattle.state.proofs.LengthLaws.{stored-place-next}
 use Rattle.reports.specs.Rows.{withReport}
 use Rattle.reports.specs.Sound.{reportOk, reportsOk}
-use Rattle.reports.specs.Judge.{chosenLog, weighed, judged, answered, responded, Lies, Fits}
+use Rattle.reports.specs.Judge.{chosenLog, weighed, judged, answeredByPrimary, responded, Lies, Fits}
 use Rattle.reports.specs.Store.{keptLog, chosenOver}
 use Rattle.reports.specs.declared.Best.{Best}
 use Rattle.reports.specs.declared.Judged.{Judged}
@@ -109,7 +109,7 @@ module _ (b : Best) (g : Op) where
 
     pub response-keeps : (view : ℕ) → responded t n id room view c ours stored fresh ≡ Begin b g
         → (g .0 ≤ b .report .op .0) × (c ≤ b .report .op .0)
-    unfolding responded answered
+    unfolding responded answeredByPrimary
     response-keeps view =
         split P _ _ _ (λ _ e. absurd (not-waited e)) λ _.
         split P _ _ _ (λ _ e. absurd (not-waited e)) λ _.

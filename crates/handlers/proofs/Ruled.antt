@@ -24,7 +24,7 @@ use Rattle.state.specs.Lengths.{storedPlace, logLength, storedLength}
 use Rattle.state.specs.declared.Replica.{Replica}
 use Rattle.state.specs.declared.Report.{Report}
 use Rattle.reports.proofs.RowLaws.{rows-ok-is}
-use Rattle.steps.specs.Steps.{Spoke, Left, left, committedTo, settled, asked, transferred, deferred, prepareOkOf, acked}
+use Rattle.steps.specs.Steps.{Spoke, Left, left, committedTo, settled, askedForState, transferred, deferred, prepareOkOf, committedAndAcked}
 use Rattle.book.specs.Memory.{Runs, Memory}
 use Rattle.steps.specs.declared.Accept.{Accept}
 use Rattle.steps.specs.declared.Accept.the-variants.{Ignore, Hear, Join, Rejoin, Take}
@@ -107,8 +107,8 @@ module _ (s : Replica) (m : Memory) (h : Has s m) where
   abbrev HasBy : Spoke → Type 0
   HasBy d = Has (d .answer .state) m
 
-  pub asked-has : (t : Replica) (at : Op) (out : List ℕ) → Has t m → Has (asked s t at out .answer .state) m
-  unfolding asked
+  pub asked-has : (t : Replica) (at : Op) (out : List ℕ) → Has t m → Has (askedForState s t at out .answer .state) m
+  unfolding askedForState
   asked-has t at out g = split HasBy _ _ _ (λ _. h) (λ _. g)
 
   pub transferred-has : (out : List ℕ) → Has (transferred s out .answer .state) m
@@ -135,6 +135,6 @@ module _ (s : Replica) (m : Memory) (h : Has s m) where
 
 pub acked-left : (P : Left → Type 0) (s t : Replica) (k : Op) (installed : Bool) (x : Runs) (out : List ℕ) → ltb (length out) 16 ≡ false
     → P (left (completed (committedTo t k) 16 0 installed) (settled t k x) (over (prepareOkOf (committedTo t k)) out))
-    → P (acked s t k installed x out)
-unfolding acked
+    → P (committedAndAcked s t k installed x out)
+unfolding committedAndAcked
 acked-left P s t k installed x out e p = split P _ _ _ (λ f. absurd (false≢true (sym e ∙ f))) (λ _. p)

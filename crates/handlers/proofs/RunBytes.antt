@@ -18,21 +18,21 @@ use Rattle.numbers.proofs.NumberLaws.{big-bytes, take-bytes, drop-bytes}
 use Rattle.numbers.proofs.RunLaws.{put-bytes}
 use Rattle.entries.specs.Entries.{encodeEntry}
 use Rattle.entries.specs.declared.Entry.{Entry}
-use Rattle.fees.specs.Fees.{totalsAfter}
+use Rattle.fees.specs.Fees.{totalBytesAfter}
 use Rattle.fees.specs.Results.{encodeResult}
 use Rattle.fees.specs.declared.Outcome.{Outcome}
 use Rattle.book.specs.Log.{withEntries}
-use Rattle.book.specs.Runs.{applied, committed}
+use Rattle.book.specs.Runs.{applied, moneyCommitted}
 use Rattle.book.specs.Memory.{Money, Runs}
 use Rattle.state.specs.declared.Replica.{Replica}
-use Rattle.steps.specs.Steps.{Left, settled, acked}
+use Rattle.steps.specs.Steps.{Left, settled, committedAndAcked}
 use Rattle.normal.specs.Prepare as Prepare
 use Rattle.normal.specs.Prepare.{appendedBy, prepareStep}
 use Rattle.normal.specs.Commit.{takenCommit, commitStep}
 use Rattle.normal.specs.declared.prepare.Prepared.{Prepared}
-use Rattle.normal.specs.declared.prepare.Verdict.{Verdict}
-use Rattle.normal.specs.declared.prepare.Verdict.the-variants as Verdicts
-use Rattle.transfer.specs.NewState.{extended, filled, installed, byUse, newStateStep}
+use Rattle.normal.specs.declared.prepare.PrepareVerdict.{PrepareVerdict}
+use Rattle.normal.specs.declared.prepare.PrepareVerdict.the-variants as Verdicts
+use Rattle.transfer.specs.NewState.{extended, gapFilled, installed, byUse, newStateStep}
 use Rattle.transfer.specs.declared.Part.{Part}
 use Rattle.transfer.specs.declared.Use.{Use}
 use Rattle.transfer.specs.declared.Use.the-variants.{Ignore, Hear, Fill, Install}
@@ -78,15 +78,15 @@ unfolding withEntries
 with-bytes n es log a b = put-bytes _ es log a b
 
 applied-bytes : (M : ℕ) (e : Entry) (i : ℕ) (x : Money) → MoneyBytes x → MoneyBytes (applied M e i x)
-unfolding applied totalsAfter
+unfolding applied totalBytesAfter
 applied-bytes M e i x h =
     record {
       results = put-bytes (9 * i) _ (x .results) (result-bytes _) (h .results);
       totals = split Bytes _ _ _ (λ _. put-bytes _ _ (x .totals) (big-bytes 8 _) (h .totals)) (λ _. h .totals);
     }
 
-pub committed-bytes : (M : ℕ) (log : List ℕ) (from k : ℕ) (x : Money) → MoneyBytes x → MoneyBytes (committed M log from k x)
-unfolding committed
+pub committed-bytes : (M : ℕ) (log : List ℕ) (from k : ℕ) (x : Money) → MoneyBytes x → MoneyBytes (moneyCommitted M log from k x)
+unfolding moneyCommitted
 committed-bytes M log from zero x h = h
 committed-bytes M log from (suc k) x h = applied-bytes M _ (from + k) _ (committed-bytes M log from k x h)
 
@@ -100,8 +100,8 @@ with-log x n es h b = record { log = with-bytes n es (x .log) b (h .log); money 
 abbrev pub LeftBytes : Left → Type 0
 LeftBytes d = RunBytes (d .runs)
 
-pub acked-bytes : (s t : Replica) (k : Op) (i : Bool) (x : Runs) (out : List ℕ) → RunBytes x → LeftBytes (acked s t k i x out)
-unfolding acked
+pub acked-bytes : (s t : Replica) (k : Op) (i : Bool) (x : Runs) (out : List ℕ) → RunBytes x → LeftBytes (committedAndAcked s t k i x out)
+unfolding committedAndAcked
 acked-bytes s t k i x out h = split LeftBytes _ _ _ (λ _. h) (λ _. settled-bytes t k x h)
 
 -- ---- Prepare, Commit, NewState
@@ -112,8 +112,8 @@ module _ (s : Replica) (x : Runs) (h : RunBytes x) (out : List ℕ) where
   commit-bytes v c =
       split LeftBytes _ _ _ (λ _. split LeftBytes _ _ _ (λ _. h) (λ _. settled-bytes _ c x h)) (λ _. h)
 
-  verdict-bytes : (p : Prepared) (d : Verdict) → LeftBytes (Prepare.byVerdict d s p x out)
-  unfolding Prepare.byVerdict appendedBy
+  verdict-bytes : (p : Prepared) (d : PrepareVerdict) → LeftBytes (Prepare.byPrepareVerdict d s p x out)
+  unfolding Prepare.byPrepareVerdict appendedBy
   verdict-bytes p Verdicts.Transfer = h
   verdict-bytes p Verdicts.Again = acked-bytes _ _ _ _ x out h
   verdict-bytes p (Verdicts.Refuse k) = h
@@ -131,7 +131,7 @@ module _ (s : Replica) (x : Runs) (h : RunBytes x) (out : List ℕ) where
       split LeftBytes _ _ _ (λ _. h) (λ _. acked-bytes _ _ _ _ _ out (with-log x n _ h (take-bytes (32 * k) part b)))
 
   use-bytes : (u : Use) (p : Part) (part : List ℕ) → Bytes part → LeftBytes (byUse u s p part x out)
-  unfolding byUse filled installed
+  unfolding byUse gapFilled installed
   use-bytes Ignore p part b = h
   use-bytes Hear p part b = h
   use-bytes Fill p part b = extended-bytes _ _ _ p _ _ (drop-bytes (32 * (s .op .0 - p .start .0)) part b)

@@ -12,7 +12,7 @@ use Rattle.state.specs.declared.Replica.{Replica}
 use Rattle.steps.specs.Steps.{Spoke}
 use Rattle.do_view_change.specs.Record.{Gathering, onlySent}
 use Rattle.book.specs.Memory.{Memory}
-use Rattle.voting.specs.Votes.{called, maybeStep, sameView, startViewChangeStep}
+use Rattle.voting.specs.Votes.{sentFirst, maybeStep, sameView, startViewChangeStep}
 use Rattle.voting.specs.Tick.{viewAfter, nextView, nextViewAsking, repeated, changeTick}
 use Rattle.handlers.proofs.Held.{Held, Kept, none-ok, as-it-was, moves, asked-held, started-held, still-kept, sent-kept}
 use Rattle.handlers.proofs.ChangeStays.{sent-start-view-held, send-kept}
@@ -20,8 +20,8 @@ use Rattle.handlers.proofs.ChangeStays.{sent-start-view-held, send-kept
 -- from state t; s is the state as it was
 module _ (s t : Replica) (m : Memory) (hs : Held (t .setup) s (m .runs)) (ht : Held (t .setup) t (m .runs))
     (acks-long : length (m .acks) ≡ acksLength (t .setup)) (stored-long : length (m .stored) ≡ storedLength (t .setup)) where
-  called-kept : (first : Bool) → Kept (t .setup) (onlySent m (called s t first (m .out)))
-  unfolding called
+  called-kept : (first : Bool) → Kept (t .setup) (onlySent m (sentFirst s t first (m .out)))
+  unfolding sentFirst
   called-kept first =
       split (λ (d : Spoke). Kept (t .setup) (onlySent m d)) _ _ _
       (λ _. record { held = hs; acks-long = acks-long; stored-long = stored-long })

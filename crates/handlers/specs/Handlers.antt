@@ -15,7 +15,7 @@ use Rattle.frames.specs.Messages.{carriedOf, carriedBytes}
 use Rattle.frames.specs.Looks.{looksAt}
 use Rattle.frames.specs.declared.Message.{Message}
 use Rattle.frames.specs.declared.Message.the-variants.{Request, Prepare, PrepareOk, Commit, GetState, NewState, StartViewChange, DoViewChange, StartView, Recovery, RecoveryResponse}
-use Rattle.rows.specs.declared.Latest.{Latest}
+use Rattle.client_table.specs.declared.Latest.{Latest}
 use Rattle.state.specs.State.{leads}
 use Rattle.state.specs.Statuses.{isNormal, isTransfer, isChanging}
 use Rattle.state.specs.Answers.{quiet}

@@ -10,11 +10,11 @@ ghost use Rattle.book.specs.Memory.{memory};
 ghost use Rattle.handlers.specs.Handlers.{followTick, normalTick, askTick, idleStep};
 use clock::Duty;
 use clock::Ticked;
-use state::Answer;
 use state::Replica;
+use state::Returned;
 
 // A backup's: it waits, and then asks for the next view. `t` is what its clock's tick gave.
-fn tick_follow(s: Replica, t: Ticked, out: &mut [u8]) -> Answer
+fn tick_follow(s: Replica, t: Ticked, out: &mut [u8]) -> Returned
     requires { ⌜ setupOk (s .setup) ≡ true ⌝ }
     ensures { λ a. ⌜ spoke a (now (out .exit)) ≡ followTick s t (now (out .entry)) ⌝ }
 {
@@ -26,7 +26,7 @@ fn tick_follow(s: Replica, t: Ticked, out: &mut [u8]) -> Answer
 }
 
 // In Normal.
-fn tick_normal(s: Replica, log: &[u8], out: &mut [u8]) -> Answer
+fn tick_normal(s: Replica, log: &[u8], out: &mut [u8]) -> Returned
     requires { ⌜ Leading s (length (now log)) ⌝ }
     ensures { λ a. ⌜ spoke a (now (out .exit)) ≡ normalTick s (now (log .entry)) (now (out .entry)) ⌝ }
 {
@@ -38,7 +38,7 @@ fn tick_normal(s: Replica, log: &[u8], out: &mut [u8]) -> Answer
 }
 
 // In StateTransfer: GetState on each tick, before a view change too.
-fn tick_asking(s: Replica, t: Ticked, out: &mut [u8]) -> Answer
+fn tick_asking(s: Replica, t: Ticked, out: &mut [u8]) -> Returned
     requires { ⌜ setupOk (s .setup) ≡ true ⌝ }
     ensures { λ a. ⌜ spoke a (now (out .exit)) ≡ askTick s t (now (out .entry)) ⌝ }
 {
@@ -59,7 +59,7 @@ pub fn on_idle(
     stored: &mut [u8],
     out: &mut [u8],
     reps: &mut [u8],
-) -> Answer
+) -> Returned
     requires { ⌜ Gathering s (memory (now log) (now results) (now totals) (now acks) (now stored) (now out) (now reps)) ⌝ }
     ensures { λ a. ⌜ recorded a (memory (now (log .exit)) (now (results .exit)) (now (totals .exit)) (now (acks .exit)) (now (stored .exit)) (now (out .exit)) (now (reps .exit))) ≡ idleStep s (memory (now (log .entry)) (now (results .entry)) (now (totals .entry)) (now (acks .entry)) (now (stored .entry)) (now (out .entry)) (now (reps .entry))) ⌝ }
 {

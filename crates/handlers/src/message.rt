@@ -5,11 +5,11 @@ ghost use Rattle.frames.specs.declared.Checked.the-variants.{Passed};
 ghost use Rattle.book.specs.Memory.{memory};
 ghost use Rattle.do_view_change.specs.Record.{recorded, Gathering};
 ghost use Rattle.handlers.specs.Handlers.{handled, messageStep};
+use client_table::Latest;
 use frames::Message;
 use normal::prepare::Prepared;
-use rows::Latest;
-use state::Answer;
 use state::Replica;
+use state::Returned;
 use transfer::Part;
 
 // The match, one arm a kind. Only the kinds that carry a log look at the frame again.
@@ -25,7 +25,7 @@ fn handle(
     stored: &mut [u8],
     out: &mut [u8],
     reps: &mut [u8],
-) -> Answer
+) -> Returned
     requires { ⌜ Gathering s (memory (now log) (now results) (now totals) (now acks) (now stored) (now out) (now reps)) × (checkFrame (s .setup) (now frame) ≡ Passed m) ⌝ }
     ensures { λ a. ⌜ recorded a (memory (now (log .exit)) (now (results .exit)) (now (totals .exit)) (now (acks .exit)) (now (stored .exit)) (now (out .exit)) (now (reps .exit))) ≡ handled m s latest (now (frame .entry)) (memory (now (log .entry)) (now (results .entry)) (now (totals .entry)) (now (acks .entry)) (now (stored .entry)) (now (out .entry)) (now (reps .entry))) ⌝ }
 {
@@ -75,7 +75,7 @@ fn handle(
             transfer::new_state::on_new_state(s, view, p, part, log, results, totals, out)
         }
         Message::StartViewChange { view, from } => {
-            voting::start_view_change::on_start_view_change(
+            voting::votes::on_start_view_change(
                 s,
                 view,
                 from,
@@ -167,7 +167,7 @@ pub fn on_message(
     stored: &mut [u8],
     out: &mut [u8],
     reps: &mut [u8],
-) -> Answer
+) -> Returned
     requires { ⌜ Gathering s (memory (now log) (now results) (now totals) (now acks) (now stored) (now out) (now reps)) × (checkFrame (s .setup) (now frame) ≡ Passed m) ⌝ }
     ensures { λ a. ⌜ recorded a (memory (now (log .exit)) (now (results .exit)) (now (totals .exit)) (now (acks .exit)) (now (stored .exit)) (now (out .exit)) (now (reps .exit))) ≡ messageStep m s latest (now (frame .entry)) (memory (now (log .entry)) (now (results .entry)) (now (totals .entry)) (now (acks .entry)) (now (stored .entry)) (now (out .entry)) (now (reps .entry))) ⌝ }
 {

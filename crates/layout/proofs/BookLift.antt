@@ -33,12 +33,12 @@ use Rattle.fees.specs.Results.{resultOf, encodeResult, ResultFits, outcomes}
 use Rattle.fees.specs.declared.Outcome.{Outcome}
 use Rattle.fees.proofs.ResultLaws.{result-codec}
 use Rattle.book.specs.Log.{withEntries}
-use Rattle.book.specs.Runs.{applied, committed, replyTo, replies}
+use Rattle.book.specs.Runs.{applied, moneyCommitted, replyTo, replies}
 use Rattle.book.specs.Memory.{Money}
 use Rattle.book.proofs.LogLaws.{entry-get, append-entries, part-entries}
 use Rattle.book.proofs.RunLaws.{committed-lengths, replies-length}
-use Rattle.model.specs.State.{Row, Book}
-use Rattle.model.specs.Book.{outcome, totalsAfter, through, answersOf, append, appendAll, commitAll, due, commitUpTo, install}
+use Rattle.model.specs.State.{ClientEntry, Book}
+use Rattle.model.specs.Book.{outcome, totalsAfter, through, resultsOf, append, appendAll, commitAll, dueEntries, commitUpTo, install}
 use Rattle.model.specs.Book.{repliesOf, commitReplies}
 use Rattle.model.specs.Sending.{replyBytes, repliesOut}
 use Rattle.layout.specs.Layout.{totalOf, bookOf}
@@ -72,15 +72,15 @@ module _ (M : ℕ) (s : List ℕ) (e : Entry) where
   at-member h =
       cells-get 8 totalOf M s (e .member) 0 h ∙ num-drop 8 (8 * e .member) 0 s ∙ ap (λ (k : ℕ). num 8 k s) (add-zero (8 * e .member))
 
-  pub outcome-lift : outcome (cells 8 totalOf M s) e ≡ F.outcomeOf M s e
-  unfolding outcome F.outcomeOf
+  pub outcome-lift : outcome (cells 8 totalOf M s) e ≡ F.outcomeOn M s e
+  unfolding outcome F.outcomeOn
   outcome-lift =
       split₂ (λ (a b : Outcome). a ≡ b) _ _ _ _ _ _ inside-same
       (λ p. ap (λ (t : ℕ). F.rule t (operationOf (e .operation)) (e .cents)) (at-member (ltb-true _ _ (sym inside-same ∙ p)))) (λ _. refl)
 
   module _ (bytes : Bytes s) (wide : 8 * M ≤ length s) where
-    small : SmallIn (F.outcomeOf M s e)
-    unfolding F.outcomeOf
+    small : SmallIn (F.outcomeOn M s e)
+    unfolding F.outcomeOn
     small =
         split SmallIn _ _ _
         (λ p.
@@ -88,22 +88,22 @@ module _ (M : ℕ) (s : List ℕ) (e : Entry) where
         rule-small (F.totalAt (e .member) s) (e .cents) (operationOf (e .operation)) (num-lt 8 (8 * e .member) s bytes (omega arith)))
         (λ _. omega arith)
 
-    pub outcome-fits : ResultFits (F.outcomeOf M s e)
+    pub outcome-fits : ResultFits (F.outcomeOn M s e)
     outcome-fits =
         let c : outcome (cells 8 totalOf M s) e .code ≤ 6 = outcome-code (cells 8 totalOf M s) e .1 in
         record { code = omega (arith, c, ap (λ (o : Outcome). o .code) outcome-lift); total = small }
 
-    pub totals-lift : cells 8 totalOf M (F.totalsAfter M s e) ≡ totalsAfter (cells 8 totalOf M s) e
-    unfolding totalsAfter F.totalsAfter
+    pub totals-lift : cells 8 totalOf M (F.totalBytesAfter M s e) ≡ totalsAfter (cells 8 totalOf M s) e
+    unfolding totalsAfter F.totalBytesAfter
     totals-lift =
         split₂ (λ (a b : List ℕ). cells 8 totalOf M a ≡ b) _ _ _ _ _ _ (sym inside-same)
         (λ p.
-        cells-put 8 totalOf (big 8) Small total-codec M s (e .member) (F.outcomeOf M s e .total) small (ltb-true _ _ p) wide
+        cells-put 8 totalOf (big 8) Small total-codec M s (e .member) (F.outcomeOn M s e .total) small (ltb-true _ _ p) wide
         ∙ ap (λ (o : Outcome). set (cells 8 totalOf M s) (e .member) (o .total)) (sym outcome-lift))
         (λ _. refl)
 
-    pub totals-bytes : Bytes (F.totalsAfter M s e)
-    unfolding F.totalsAfter
+    pub totals-bytes : Bytes (F.totalBytesAfter M s e)
+    unfolding F.totalBytesAfter
     totals-bytes = split Bytes _ _ _ (λ _. put-bytes (8 * e .member) _ s (big-bytes 8 _) bytes) (λ _. bytes)
 
 -- ---- commits
@@ -122,22 +122,22 @@ pub due-length : (log : List ℕ) (op from k : ℕ) → from + k ≤ op → leng
 due-length log op from k h = simp (length-take, length-drop, cells-length) (omega arith)
 
 module _ (M : ℕ) (log : List ℕ) (from : ℕ) (x : Money) (bytes : Bytes (x .totals)) (wide : 8 * M ≤ length (x .totals)) where
-  committed-bytes : (k : ℕ) → 9 * (from + k) ≤ length (x .results) → Bytes (committed M log from k x .totals)
-  unfolding committed applied
+  committed-bytes : (k : ℕ) → 9 * (from + k) ≤ length (x .results) → Bytes (moneyCommitted M log from k x .totals)
+  unfolding moneyCommitted applied
   committed-bytes zero r = bytes
   committed-bytes (suc k) r =
       let l : 9 * (from + k) ≤ length (x .results) = omega arith in
-      totals-bytes M (committed M log from k x .totals) (entryIn log (from + k)) (committed-bytes k l)
+      totals-bytes M (moneyCommitted M log from k x .totals) (entryIn log (from + k)) (committed-bytes k l)
       (omega (arith, committed-lengths M log from k x wide l .1))
 
   -- totals, and results, by the rules on lists
   totals-through : (op k : ℕ) → 9 * (from + k) ≤ length (x .results) → from + k ≤ op
-      → cells 8 totalOf M (committed M log from k x .totals) ≡ through (cells 8 totalOf M (x .totals)) (take k (drop from (entries op log)))
-  unfolding committed applied through
+      → cells 8 totalOf M (moneyCommitted M log from k x .totals) ≡ through (cells 8 totalOf M (x .totals)) (take k (drop from (entries op log)))
+  unfolding moneyCommitted applied through
   totals-through op zero r h = refl
   totals-through op (suc k) r h =
       let l : 9 * (from + k) ≤ length (x .results) = omega arith in
-      let y = committed M log from k x .totals in
+      let y = moneyCommitted M log from k x .totals in
       let e = entryIn log (from + k) in
       totals-lift M y e (committed-bytes k l) (omega (arith, committed-lengths M log from k x wide l .1))
       ∙ ap (λ (ts : List ℕ). totalsAfter ts e) (totals-through op k l (omega arith))
@@ -145,17 +145,17 @@ module _ (M : ℕ) (log : List ℕ) (from : ℕ) (x : Money) (bytes : Bytes (x .
       ∙ ap (through (cells 8 totalOf M (x .totals))) (sym (due-more log op from k (omega arith)))
 
   results-answers : (op k : ℕ) → 9 * (from + k) ≤ length (x .results) → from + k ≤ op
-      → outcomes (from + k) (committed M log from k x .results)
-      ≡ outcomes from (x .results) ++ answersOf (cells 8 totalOf M (x .totals)) (take k (drop from (entries op log)))
-  unfolding committed applied answersOf
+      → outcomes (from + k) (moneyCommitted M log from k x .results)
+      ≡ outcomes from (x .results) ++ resultsOf (cells 8 totalOf M (x .totals)) (take k (drop from (entries op log)))
+  unfolding moneyCommitted applied resultsOf
   results-answers op zero r h = rw (add-zero from) (sym (append-nil (outcomes from (x .results))))
   results-answers op (suc k) r h =
       let l : 9 * (from + k) ≤ length (x .results) = omega arith in
-      let y = committed M log from k x in
+      let y = moneyCommitted M log from k x in
       let e = entryIn log (from + k) in
       let ts = cells 8 totalOf M (x .totals) in
       let es = take k (drop from (entries op log)) in
-      let o = F.outcomeOf M (y .totals) e in
+      let o = F.outcomeOn M (y .totals) e in
       let n = committed-lengths M log from k x wide l in
       let f : ResultFits o = outcome-fits M (y .totals) e (committed-bytes k l) (omega (arith, n .1)) in
       let m : from + suc k ≡ suc (from + k) = add-suc from k in
@@ -164,34 +164,34 @@ module _ (M : ℕ) (log : List ℕ) (from : ℕ) (x : Money) (bytes : Bytes (x .
       ap (λ (c : ℕ). outcomes c (putAt (9 * (from + k)) (encodeResult o) (y .results))) m
       ∙ cells-more 9 resultOf encodeResult ResultFits result-codec (from + k) (y .results) o f (omega (arith, n .0))
       ∙ ap (λ (z : List Outcome). z ++ o ∷ []) (results-answers op k l (omega arith))
-      ∙ append-assoc (outcomes from (x .results)) (answersOf ts es) (o ∷ [])
-      ∙ ap (λ (z : Outcome). outcomes from (x .results) ++ (answersOf ts es ++ (z ∷ []))) q
+      ∙ append-assoc (outcomes from (x .results)) (resultsOf ts es) (o ∷ [])
+      ∙ ap (λ (z : Outcome). outcomes from (x .results) ++ (resultsOf ts es ++ (z ∷ []))) q
       ∙ ap (λ (z : List Outcome). outcomes from (x .results) ++ z)
-      (sym (answers-append ts es (e ∷ [])) ∙ ap (answersOf ts) (sym (due-more log op from k (omega arith))))
+      (sym (answers-append ts es (e ∷ [])) ∙ ap (resultsOf ts) (sym (due-more log op from k (omega arith))))
 
-  -- the k entries after the first `from` are committed
-  all-lift : (op k : ℕ) → 9 * (from + k) ≤ length (x .results) → from + k ≤ op → (t : List Row) (a : List Entry) (c : Book)
+  -- the k entries after the first `from` are moneyCommitted
+  all-lift : (op k : ℕ) → 9 * (from + k) ≤ length (x .results) → from + k ≤ op → (t : List ClientEntry) (a : List Entry) (c : Book)
       → c ≡ commitAll (bookOf M op from log x t a) (take k (drop from (entries op log)))
-      → bookOf M op (from + k) log (committed M log from k x) (c .table) (c .applied) ≡ c
+      → bookOf M op (from + k) log (moneyCommitted M log from k x) (c .table) (c .applied) ≡ c
   unfolding bookOf
   all-lift op k r h t a c p =
       let b = bookOf M op from log x t a in
       let es = take k (drop from (entries op log)) in
       let l : c .log ≡ entries op log = rw p (commitAll-log b es) in
       let n : c .commit ≡ from + k = rw p (commitAll-commit b es ∙ ap (_+_ from) (due-length log op from k h)) in
-      let o : c .results ≡ outcomes (from + k) (committed M log from k x .results) =
+      let o : c .results ≡ outcomes (from + k) (moneyCommitted M log from k x .results) =
       rw p (commitAll-results b es) ∙ sym (results-answers op k r h) in
-      let s : c .totals ≡ cells 8 totalOf M (committed M log from k x .totals) =
+      let s : c .totals ≡ cells 8 totalOf M (moneyCommitted M log from k x .totals) =
       rw p (commitAll-totals b es) ∙ sym (totals-through op k r h) in
       λ i. record { log = sym l i; commit = sym n i; results = sym o i; table = c .table; totals = sym s i; applied = c .applied }
 
-  module _ (op : ℕ) (t : List Row) (a : List Entry) where
+  module _ (op : ℕ) (t : List ClientEntry) (a : List Entry) where
     -- k ops more
     pub commit-lift : (k : ℕ) → 9 * (from + k) ≤ length (x .results) → from + k ≤ op
-        → bookOf M op (from + k) log (committed M log from k x)
+        → bookOf M op (from + k) log (moneyCommitted M log from k x)
         (commitUpTo (bookOf M op from log x t a) (from + k) .table) (commitUpTo (bookOf M op from log x t a) (from + k) .applied)
         ≡ commitUpTo (bookOf M op from log x t a) (from + k)
-    unfolding commitUpTo due bookOf
+    unfolding commitUpTo dueEntries bookOf
     commit-lift k r h =
         let b = bookOf M op from log x t a in
         let e : from + k - from ≡ k = omega arith in
@@ -199,17 +199,17 @@ module _ (M : ℕ) (log : List ℕ) (from : ℕ) (x : Money) (bytes : Bytes (x .
 
     -- up to op number j, which may be behind
     pub settle-lift : (j : ℕ) → 9 * op ≤ length (x .results) → from ≤ op → j ≤ op
-        → bookOf M op (max from j) log (committed M log from (j - from) x)
+        → bookOf M op (max from j) log (moneyCommitted M log from (j - from) x)
         (commitUpTo (bookOf M op from log x t a) j .table) (commitUpTo (bookOf M op from log x t a) j .applied)
         ≡ commitUpTo (bookOf M op from log x t a) j
-    unfolding commitUpTo due bookOf
+    unfolding commitUpTo dueEntries bookOf
     settle-lift j r g h =
         let e : max from j ≡ from + (j - from) = omega arith in
         rw e (all-lift op (j - from) (omega arith) (omega arith) t a _ refl)
 
 -- ---- entries written
 
-module _ (M op commit : ℕ) (log : List ℕ) (x : Money) (t : List Row) (a : List Entry) where
+module _ (M op commit : ℕ) (log : List ℕ) (x : Money) (t : List ClientEntry) (a : List Entry) where
   pub append-lift : (e : Entry) → EntryFits e → entryPlace (op + 1) ≤ length log
       → bookOf M (op + 1) commit (withEntries op (encodeEntry e) log) x (append (bookOf M op commit log x t a) e .table) a
       ≡ append (bookOf M op commit log x t a) e
@@ -241,7 +241,7 @@ module _ (M op commit : ℕ) (log : List ℕ) (x : Money) (t : List Row) (a : Li
         applied = sym (r .applied) i;
       }
 
-  -- in place of what stood after the first n: a whole log where n is 0, what follows our committed entries where it is the commit number
+  -- in place of what stood after the first n: a whole log where n is 0, what follows our moneyCommitted entries where it is the commit number
   pub install-lift : (n k : ℕ) (part : List ℕ) → n ≤ op → entryPlace (n + k) ≤ length log → 32 * k ≤ length part
       → bookOf M (n + k) commit (withEntries n (take (32 * k) part) log) x
       (install (bookOf M op commit log x t a) (take n (entries op log) ++ entries k part) .table) a
@@ -279,37 +279,37 @@ module _ (v : View) (log : List ℕ) (from : ℕ) where
       (λ i. replies-read op n k rs (omega arith) (omega arith) i ++ one-reply v e o i)
 
 module _ (v : View) (M : ℕ) (log : List ℕ) (from : ℕ) (x : Money) (bytes : Bytes (x .totals)) (wide : 8 * M ≤ length (x .totals))
-    (op : ℕ) (t : List Row) (a : List Entry) where
+    (op : ℕ) (t : List ClientEntry) (a : List Entry) where
   -- the replies of the k ops after the first `from`
   all-replies : (k : ℕ) → 9 * (from + k) ≤ length (x .results) → from + k ≤ op
-      → replies v log (committed M log from k x .results) from k
+      → replies v log (moneyCommitted M log from k x .results) from k
       ≡ repliesOut (repliesOf (v .0) (take k (drop from (entries op log)))
-      (answersOf (cells 8 totalOf M (x .totals)) (take k (drop from (entries op log)))))
+      (resultsOf (cells 8 totalOf M (x .totals)) (take k (drop from (entries op log)))))
   all-replies k r h =
       let es = take k (drop from (entries op log)) in
-      let os = answersOf (cells 8 totalOf M (x .totals)) es in
+      let os = resultsOf (cells 8 totalOf M (x .totals)) es in
       let n : length os ≡ k = answers-length (cells 8 totalOf M (x .totals)) es ∙ due-length log op from k h in
-      let q : take k (drop from (outcomes (from + k) (committed M log from k x .results))) ≡ os =
+      let q : take k (drop from (outcomes (from + k) (moneyCommitted M log from k x .results))) ≡ os =
       let f = outcomes from (x .results) in
       rw (results-answers M log from x bytes wide op k r h, drop-at f os from (cells-length 9 resultOf from (x .results))) (take-all k os (omega arith)) in
-      replies-read v log from op (from + k) k (committed M log from k x .results) h (omega arith)
+      replies-read v log from op (from + k) k (moneyCommitted M log from k x .results) h (omega arith)
       ∙ ap (λ (z : List Outcome). repliesOut (repliesOf (v .0) es z)) q
 
   pub replies-lift : (k : ℕ) → 9 * (from + k) ≤ length (x .results) → from + k ≤ op
-      → replies v log (committed M log from k x .results) from k
+      → replies v log (moneyCommitted M log from k x .results) from k
       ≡ repliesOut (commitReplies (v .0) (bookOf M op from log x t a) (from + k))
-  unfolding commitReplies due bookOf
+  unfolding commitReplies dueEntries bookOf
   replies-lift k r h =
       let e : from + k - from ≡ k = omega arith in
       rw e (all-replies k r h)
 
   pub settle-replies : (j : ℕ) → 9 * op ≤ length (x .results) → from ≤ op → j ≤ op
-      → replies v log (committed M log from (j - from) x .results) from (j - from)
+      → replies v log (moneyCommitted M log from (j - from) x .results) from (j - from)
       ≡ repliesOut (commitReplies (v .0) (bookOf M op from log x t a) j)
-  unfolding commitReplies due bookOf
+  unfolding commitReplies dueEntries bookOf
   settle-replies j r g h = all-replies (j - from) (omega arith) (omega arith)
 
   pub settle-replies-length : (j : ℕ) → 9 * op ≤ length (x .results) → from ≤ op → j ≤ op
       → length (repliesOut (commitReplies (v .0) (bookOf M op from log x t a) j)) ≡ 36 * (j - from)
   settle-replies-length j r g h =
-      rw (← settle-replies j r g h) (replies-length v log (committed M log from (j - from) x .results) from (j - from))
+      rw (← settle-replies j r g h) (replies-length v log (moneyCommitted M log from (j - from) x .results) from (j - from))

@@ -9,17 +9,17 @@ use Rattle.numbers.proofs.CellLaws.{cells-length}
 use Rattle.entries.specs.Entries.{entryOf, entries}
 use Rattle.entries.specs.declared.Entry.{Entry}
 use Rattle.fees.specs.Results.{resultOf, outcomes}
-use Rattle.rows.specs.Rows.{followed}
-use Rattle.rows.specs.Shape.{Shape}
-use Rattle.rows.specs.Lawful.{Lawful}
-use Rattle.model.specs.State.{Row, Book, State, Sent, Reply}
+use Rattle.client_table.specs.Rows.{followed}
+use Rattle.client_table.specs.Shape.{Shape}
+use Rattle.client_table.specs.Lawful.{Lawful}
+use Rattle.model.specs.State.{ClientEntry, Book, State, Sent, Reply}
 use Rattle.layout.specs.Layout.{bookOf, modelOf}
 use Rattle.layout.specs.Shown.{Given, Step, Grew, Did, changeOf}
 use Rattle.layout.specs.Shown.Grew.{more, anew}
 use Rattle.layout.proofs.RowLift.{Means}
 use Rattle.layout.proofs.TableLift.{Reads, follow-append, follow-install}
 
-module _ (c : Given) (d : Step) (table : List Row) (applied : List Entry) (m′ : State) (ms : List Sent) (rs : List Reply)
+module _ (c : Given) (d : Step) (table : List ClientEntry) (applied : List Entry) (m′ : State) (ms : List Sent) (rs : List Reply)
     (did : Did c d (modelOf (c .state) (c .runs) table applied .book) m′ ms rs) where
   abbrev b : Book
   b = modelOf (c .state) (c .runs) table applied .book

@@ -10,10 +10,10 @@ use Rattle.config.specs.declared.Setup.{Setup}
 use Rattle.config.proofs.SetupLaws.{sized}
 use Rattle.state.specs.Lengths.{logLength, resultsLength, acksLength, totalsLength, tableLength, storedLength}
 use Rattle.state.proofs.LengthLaws.{stored-place-small}
-use Rattle.layout.specs.Layout.{Runs, Lent}
+use Rattle.layout.specs.Layout.{LentRuns, FixedLengths}
 
 -- runs of zeros, each of its length
-abbrev pub blankRuns : Setup → Runs
+abbrev pub blankRuns : Setup → LentRuns
 blankRuns u =
     record {
       log = replicate (logLength u) 0;
@@ -23,7 +23,7 @@ blankRuns u =
       stored = replicate (storedLength u) 0;
     }
 
-pub runs-exist : (u : Setup) → Lent u (blankRuns u)
+pub runs-exist : (u : Setup) → FixedLengths u (blankRuns u)
 runs-exist u =
     record {
       log-long = length-replicate (logLength u) 0;

@@ -19,14 +19,14 @@ use borrow.Author.Tests.{lt-ltb, le-ltb, leb-true}
 use Rattle.numbers.specs.Words.{if_then_else_, _and_}
 use Rattle.numbers.proofs.WordLaws.{split, split₂, if-true, if-false, and-true, and-false}
 use Rattle.numbers.proofs.NumberLaws.{le-or-lt}
-use Rattle.rows.specs.declared.Goal.the-variants.{Client, End}
-use Rattle.rows.specs.Search.{isBefore}
-use Rattle.rows.specs.Lawful.{Lawful}
-use Rattle.rows.specs.Rows.{seek, spotOf, isThere, stored, endOf, inserted, putRow}
-use Rattle.rows.specs.Shape.{Shape, rowAt}
-use Rattle.rows.proofs.SeekLaws.{beforeAt, seek-is}
-use Rattle.rows.proofs.StoreLaws.{stored-length, stored-behind}
-use Rattle.model.specs.State.{Row}
+use Rattle.client_table.specs.declared.Goal.the-variants.{Client, End}
+use Rattle.client_table.specs.Search.{isBefore}
+use Rattle.client_table.specs.Lawful.{Lawful}
+use Rattle.client_table.specs.Rows.{seek, spotOf, isThere, stored, endOf, inserted, putRow}
+use Rattle.client_table.specs.Shape.{Shape, rowAt}
+use Rattle.client_table.proofs.SeekLaws.{beforeAt, seek-is}
+use Rattle.client_table.proofs.StoreLaws.{stored-length, stored-behind}
+use Rattle.model.specs.State.{ClientEntry}
 use Rattle.model.specs.Book.{Seen, find, put, Rises}
 use Rattle.layout.specs.Layout.{meant, tableOf, Ordered}
 use Rattle.model.proofs.TableLaws.{above-more, put-rises, absent, below, below-le, below-low, below-high, Floor, below-floor}
@@ -37,12 +37,12 @@ unfolding _and_
 none-and a b p = rw p
 
 -- read past a table's end, where no law looks
-abbrev noRow : Row
+abbrev noRow : ClientEntry
 noRow = record { client = 0; request = 0; kept = none }
 
 module _ {R : Type 0} (h : Shape R) where
   -- n rows as calls leave them, that stand for the table t
-  pub record Means (n : ℕ) (t : List Row) (xs : List R) : Type 0 where
+  pub record Means (n : ℕ) (t : List ClientEntry) (xs : List R) : Type 0 where
     pub long : length xs ≡ n
     pub table : tableOf h xs ≡ t
     pub ordered : Ordered h xs
@@ -55,18 +55,18 @@ module _ {R : Type 0} (h : Shape R) where
   pub rows-long : (xs : List R) → length (tableOf h xs) ≤ length xs
   unfolding tableOf
   rows-long [] = omega arith
-  rows-long (x ∷ xs) = split (λ (l : List Row). length l ≤ length (x ∷ xs)) _ _ _ (λ _. omega (arith, rows-long xs)) (λ _. omega arith)
+  rows-long (x ∷ xs) = split (λ (l : List ClientEntry). length l ≤ length (x ∷ xs)) _ _ _ (λ _. omega (arith, rows-long xs)) (λ _. omega arith)
 
-  row-is : (xs : List R) (i : ℕ) (d : Row) → i < length (tableOf h xs)
+  row-is : (xs : List R) (i : ℕ) (d : ClientEntry) → i < length (tableOf h xs)
       → (h .used (rowAt h xs i) ≡ true) × (h .client (rowAt h xs i) ≡ getD (tableOf h xs) i d .client)
   unfolding tableOf meant
   row-is [] i d l = absurd (omega arith)
   row-is (x ∷ xs) zero d l =
-      split (λ (t : List Row). 0 < length t → (h .used x ≡ true) × (h .client x ≡ getD t 0 d .client)) _ _ _
+      split (λ (t : List ClientEntry). 0 < length t → (h .used x ≡ true) × (h .client x ≡ getD t 0 d .client)) _ _ _
       (λ u m. (u, refl)) (λ _ m. absurd (omega arith)) l
   row-is (x ∷ xs) (suc i) d l =
       split
-      (λ (t : List Row). suc i < length t → (h .used (rowAt h xs i) ≡ true) × (h .client (rowAt h xs i) ≡ getD t (suc i) d .client)) _ _ _
+      (λ (t : List ClientEntry). suc i < length t → (h .used (rowAt h xs i) ≡ true) × (h .client (rowAt h xs i) ≡ getD t (suc i) d .client)) _ _ _
       (λ u m. row-is xs i d (omega arith)) (λ _ m. absurd (omega arith)) l
 
   front : (k : ℕ) (xs zs : List R) → k ≤ length (tableOf h xs) → tableOf h (take k xs ++ zs) ≡ take k (tableOf h xs) ++ tableOf h zs
@@ -74,7 +74,7 @@ module _ {R : Type 0} (h : Shape R) where
   front zero xs zs l = refl
   front (suc k) [] zs l = absurd (omega arith)
   front (suc k) (x ∷ xs) zs l =
-      split₂ (λ (a b : List Row). suc k ≤ length b → a ≡ take (suc k) b ++ tableOf h zs) _ _ _ _ _ _ refl
+      split₂ (λ (a b : List ClientEntry). suc k ≤ length b → a ≡ take (suc k) b ++ tableOf h zs) _ _ _ _ _ _ refl
       (λ _ m. ap (_∷_ (meant h x)) (front k xs zs (omega arith))) (λ _ m. absurd (omega arith)) l
 
   pub unused : (xs : List R) → h .used (rowAt h xs 0) ≡ false → tableOf h xs ≡ []
@@ -88,7 +88,7 @@ module _ {R : Type 0} (h : Shape R) where
   back zero xs last = refl
   back (suc k) [] last = refl
   back (suc k) (x ∷ xs) last =
-      split (λ (l : List Row). ((i : ℕ) → length l ≤ i → h .used (rowAt h (x ∷ xs) i) ≡ false) → tableOf h (drop k xs) ≡ drop (suc k) l) _ _ _
+      split (λ (l : List ClientEntry). ((i : ℕ) → length l ≤ i → h .used (rowAt h (x ∷ xs) i) ≡ false) → tableOf h (drop k xs) ≡ drop (suc k) l) _ _ _
       (λ _ p. back k xs (λ i m. p (suc i) (omega arith)))
       (λ _ p.
       unused (drop k xs)
@@ -106,7 +106,7 @@ module _ {R : Type 0} (h : Shape R) where
   unfolding tableOf meant find
   head-seen e [] c s f = sym (if-false _ _ _ (none-and _ _ e))
   head-seen e (y ∷ ys) c s f =
-      split (λ (t : List Row). Rises t → Floor c t → find t c ≡ seenAt y c) _ _ _
+      split (λ (t : List ClientEntry). Rises t → Floor c t → find t c ≡ seenAt y c) _ _ _
       (λ u r g.
       split (λ (z : Seen). z ≡ seenAt y c) _ _ _
       (λ eq. sym (if-true _ _ _ (and-true _ _ u eq)))
@@ -152,11 +152,11 @@ module _ {R : Type 0} (h : Shape R) where
 
     pub find-lift : Lawful h → (c : ℕ) → find (tableOf h xs) c ≡ seenAt (rowAt h xs (spotOf h xs c)) c
     find-lift law c =
-        let t : List Row = tableOf h xs in
+        let t : List ClientEntry = tableOf h xs in
         let p : ℕ = below c t in
         let e : tableOf h (drop p xs) ≡ drop p t = back p xs (o .unused-last) in
         find-past c t
-        ∙ ap (λ (l : List Row). find l c) (sym e)
+        ∙ ap (λ (l : List ClientEntry). find l c) (sym e)
         ∙ head-seen (law .blank) (drop p xs) c (rw e (drop-rises p t (o .rises))) (rw e (below-floor c t))
         ∙ ap (λ (x : R). seenAt x c) (getD-drop p xs 0 (h .blank) ∙ ap (λ (i : ℕ). getD xs i (h .blank)) (add-zero p ∙ sym (spot-is c)))
 
@@ -188,7 +188,7 @@ module _ {R : Type 0} (h : Shape R) where
           ≡ take at (tableOf h xs) ++ meant h r ∷ (take (to - at) (drop at (tableOf h xs)) ++ drop (to + 1) (tableOf h xs))
       unfolding stored tableOf
       stored-table =
-          let t : List Row = tableOf h xs in
+          let t : List ClientEntry = tableOf h xs in
           let a : List R = take (to - at) (drop at xs) in
           let b : List R = drop (to + 1) xs in
           let e : tableOf h (drop at xs) ≡ drop at t = back at xs (o .unused-last) in
@@ -196,16 +196,16 @@ module _ {R : Type 0} (h : Shape R) where
           let long : to - at ≤ length (tableOf h (drop at xs)) = rw e (omega arith) in
           ap (tableOf h) (append-assoc (take at xs) (r ∷ a) b)
           ∙ front at xs (r ∷ (a ++ b)) (omega arith)
-          ∙ ap (λ (l : List Row). take at t ++ l)
+          ∙ ap (λ (l : List ClientEntry). take at t ++ l)
           (if-true (h .used r) _ _ u ∙ ap (_∷_ (meant h r)) (front (to - at) (drop at xs) b long ∙ cc (e, back (to + 1) xs (o .unused-last))))
 
-      stored-means : (t : List Row) → Rises t
+      stored-means : (t : List ClientEntry) → Rises t
           → take at (tableOf h xs) ++ meant h r ∷ (take (to - at) (drop at (tableOf h xs)) ++ drop (to + 1) (tableOf h xs)) ≡ t
           → Means (length xs) t (stored h at to r xs)
       stored-means t s e =
           let q : tableOf h (stored h at to r xs) ≡ t = stored-table ∙ e in
           let n : length (tableOf h (stored h at to r xs)) ≡ at + suc (to - at + (length (tableOf h xs) - (to + 1))) =
-          ap (λ (l : List Row). length l) stored-table ∙ simp (length-append, length-take, length-drop) (omega arith) in
+          ap (λ (l : List ClientEntry). length l) stored-table ∙ simp (length-append, length-take, length-drop) (omega arith) in
           record {
             long = stored-length h at to r xs le lt;
             table = q;
@@ -222,7 +222,7 @@ module _ {R : Type 0} (h : Shape R) where
           → Means (length xs) (put (tableOf h xs) (meant h r)) (stored h (spotOf h xs (h .client r)) (spotOf h xs (h .client r)) r xs)
       unfolding meant
       replaced p =
-          let t : List Row = tableOf h xs in
+          let t : List ClientEntry = tableOf h xs in
           let k : ℕ = below (h .client r) t in
           let f : find t (h .client r) .there ≡ true = find-there law (h .client r) ∙ p in
           let i : k < length t = there-inside (h .client r) t f in
@@ -236,7 +236,7 @@ module _ {R : Type 0} (h : Shape R) where
           → Means (length xs) (put (tableOf h xs) (meant h r)) (inserted h xs r)
       unfolding meant inserted
       added p room =
-          let t : List Row = tableOf h xs in
+          let t : List ClientEntry = tableOf h xs in
           let k : ℕ = below (h .client r) t in
           let f : find t (h .client r) .there ≡ false = find-there law (h .client r) ∙ p in
           let e : endOf h xs (h .client r) ≡ length t = end-spot (h .client r) in
@@ -258,12 +258,12 @@ module _ {R : Type 0} (h : Shape R) where
 
   -- ---- rows that stand for a table
 
-  module _ (law : Lawful h) (n : ℕ) (t : List Row) (xs : List R) (m : Means n t xs) (r : R) (u : h .used r ≡ true) where
+  module _ (law : Lawful h) (n : ℕ) (t : List ClientEntry) (xs : List R) (m : Means n t xs) (r : R) (u : h .used r ≡ true) where
     pub replace-lift : (c : ℕ) → h .client r ≡ c → isThere h xs c ≡ true
         → Means n (put t (meant h r)) (stored h (spotOf h xs c) (spotOf h xs c) r xs)
     replace-lift c q p = rw (← m .table, ← m .long, ← q) (replaced xs (m .ordered) law r u (rw q p))
 
     pub put-lift : (isThere h xs (h .client r) ≡ false → length t < n) → Means n (put t (meant h r)) (putRow h xs r)
     put-lift room =
-        let e : length (tableOf h xs) ≡ length t = ap (λ (l : List Row). length l) (m .table) in
+        let e : length (tableOf h xs) ≡ length t = ap (λ (l : List ClientEntry). length l) (m .table) in
         rw (← m .table, ← m .long) (put-rows xs (m .ordered) law r u (λ p. omega (arith, room p, m .long)))

@@ -19,13 +19,13 @@ use Rattle.numbers.specs.Words.{if_then_else_, _and_}
 use Rattle.numbers.proofs.WordLaws.{split, split₂, if-true, if-false, and-true, and-left, and-right}
 use Rattle.entries.specs.declared.Entry.{Entry}
 use Rattle.fees.specs.declared.Outcome.{Outcome}
-use Rattle.rows.specs.declared.Change.{Change}
-use Rattle.rows.specs.Rows.{spotOf, isThere, putRow, appended, isLatest, replied, committed, keptRow, rebuilt, renewed, followed}
-use Rattle.rows.specs.Shape.{Shape, rowAt}
-use Rattle.rows.specs.Lawful.{Holds, Lawful}
-use Rattle.model.specs.State.{Row, Book}
-use Rattle.model.specs.Book.{outcome, totalsAfter, answersOf, Seen, find, put, rowOf, append, appendAll, keep, keptFor, install}
-use Rattle.model.specs.Book.{commitOne, commitAll, due, commitUpTo}
+use Rattle.client_table.specs.declared.Change.{Change}
+use Rattle.client_table.specs.Rows.{spotOf, isThere, putRow, appended, isLatest, replied, rowsCommitted, keptRow, rebuilt, renewed, followed}
+use Rattle.client_table.specs.Shape.{Shape, rowAt}
+use Rattle.client_table.specs.Lawful.{HoldsEntry, Lawful}
+use Rattle.model.specs.State.{ClientEntry, Book}
+use Rattle.model.specs.Book.{outcome, totalsAfter, resultsOf, Seen, find, put, entryRow, append, appendAll, keep, keptFor, install}
+use Rattle.model.specs.Book.{commitOne, commitAll, dueEntries, commitUpTo}
 use Rattle.model.specs.Book as M
 use Rattle.layout.specs.Layout.{meant, tableOf}
 use Rattle.model.proofs.BookLaws.{outcome-code, commitAll-log, commitAll-results, appendAll-log, appendAll-rest}
@@ -42,11 +42,11 @@ pub record Reads (k : Change) (b a : Book) (log : List Entry) (os : List Outcome
 
 until-log : (b : Book) (j : ℕ) → commitUpTo b j .log ≡ b .log
 unfolding commitUpTo
-until-log b j = commitAll-log b (due b j)
+until-log b j = commitAll-log b (dueEntries b j)
 
 module _ {R : Type 0} (h : Shape R) where
-  meant-is : (x : R) (e : Entry) (k : Option Outcome) → Holds h x e k → meant h x ≡ rowOf e k
-  unfolding meant rowOf
+  meant-is : (x : R) (e : Entry) (k : Option Outcome) → HoldsEntry h x e k → meant h x ≡ entryRow e k
+  unfolding meant entryRow
   meant-is x e k p = λ i. record { client = p .client i; request = p .request i; kept = p .kept i }
 
   latest-there : (xs : List R) (e : Entry) → isLatest h xs e ≡ true
@@ -60,9 +60,9 @@ module _ {R : Type 0} (h : Shape R) where
 
   -- ---- what the rows have of an entry's client
 
-  module _ (law : Lawful h) (w : ℕ) (old : List R) (t : List Row) (m : Means h w t old) (e : Entry) where
+  module _ (law : Lawful h) (w : ℕ) (old : List R) (t : List ClientEntry) (m : Means h w t old) (e : Entry) where
     same : find (tableOf h old) (e .client) ≡ find t (e .client)
-    same = ap (λ (l : List Row). find l (e .client)) (m .table)
+    same = ap (λ (l : List ClientEntry). find l (e .client)) (m .table)
 
     seen : isThere h old (e .client) ≡ true
         → (find t (e .client) .request ≡ h .request (rowAt h old (spotOf h old (e .client))))
@@ -105,25 +105,25 @@ module _ {R : Type 0} (h : Shape R) where
             (λ eq. absurd (false≢true (sym l ∙ and-true _ _ p (ap (λ (r : ℕ). eqb r (e .request)) (sym (seen p .0)) ∙ eq)))) (λ _. refl)
         go false p = split (λ (k : Option Outcome). none ≡ k) _ _ _ (λ _. sym (unseen p)) (λ _. refl)
 
-    -- the row of an uncommitted entry, and of a committed one
-    kept-open : Holds h (keptRow h old 0 e) e none
+    -- the row of an uncommitted entry, and of a rowsCommitted one
+    kept-open : HoldsEntry h (keptRow h old 0 e) e none
     unfolding keptRow
-    kept-open = split (λ (x : R). Holds h x e none) _ _ _ (λ _. law .fresh e) (λ ne. absurd (eqb-false 0 0 ne refl))
+    kept-open = split (λ (x : R). HoldsEntry h x e none) _ _ _ (λ _. law .fresh e) (λ ne. absurd (eqb-false 0 0 ne refl))
 
-    kept-done : (left : ℕ) → Holds h (keptRow h old (suc left) e) e (keptFor t e)
+    kept-done : (left : ℕ) → HoldsEntry h (keptRow h old (suc left) e) e (keptFor t e)
     unfolding keptRow
     kept-done left =
         let x : R = rowAt h old (spotOf h old (e .client)) in
-        split (λ (y : R). Holds h y e (keptFor t e)) _ _ _ (λ eq. let z : suc left ≡ 0 = eqb-true _ _ eq in absurd (omega arith)) λ _.
-        split (λ (y : R). Holds h y e (keptFor t e)) (isLatest h old e) (h .again e x) (h .fresh e)
+        split (λ (y : R). HoldsEntry h y e (keptFor t e)) _ _ _ (λ eq. let z : suc left ≡ 0 = eqb-true _ _ eq in absurd (omega arith)) λ _.
+        split (λ (y : R). HoldsEntry h y e (keptFor t e)) (isLatest h old e) (h .again e x) (h .fresh e)
         (λ l. rw (← kept-latest l) (law .again e x (there-used old (e .client) (latest-there old e l .0))))
         (λ l. rw (← kept-none l) (law .fresh e))
 
   module _ (law : Lawful h) (n : ℕ) where
     -- ---- append
 
-    pub put-entry : (t : List Row) (xs : List R) (x : R) (e : Entry) (k : Option Outcome) → Holds h x e k → Means h n t xs → length t < n
-        → Means h n (put t (rowOf e k)) (putRow h xs x)
+    pub put-entry : (t : List ClientEntry) (xs : List R) (x : R) (e : Entry) (k : Option Outcome) → HoldsEntry h x e k → Means h n t xs → length t < n
+        → Means h n (put t (entryRow e k)) (putRow h xs x)
     put-entry t xs x e k p m l = rw (← meant-is x e k p) (put-lift h law n t xs m x (p .used) (λ _. l))
 
     pub append-lift : (b : Book) (xs : List R) (es : List Entry) → Means h n (b .table) xs → length (b .table) + length es ≤ n
@@ -132,24 +132,24 @@ module _ {R : Type 0} (h : Shape R) where
     append-lift b xs [] m l = m
     append-lift b xs (e ∷ es) m l =
         append-lift (append b e) (putRow h xs (h .fresh e)) es (put-entry (b .table) xs (h .fresh e) e none (law .fresh e) m (omega arith))
-        (omega (arith, put-length (b .table) (rowOf e none)))
+        (omega (arith, put-length (b .table) (entryRow e none)))
 
     -- ---- commit
 
-    pub reply-lift : (t : List Row) (xs : List R) (e : Entry) (o : Outcome) → Means h n t xs → 1 ≤ o .code → o .code ≤ 6
+    pub reply-lift : (t : List ClientEntry) (xs : List R) (e : Entry) (o : Outcome) → Means h n t xs → 1 ≤ o .code → o .code ≤ 6
         → Means h n (keep t e o) (replied h xs e o)
     unfolding keep replied
     reply-lift t xs e o m a b =
-        let p : Holds h (h .answered e o) e (some o) = law .answered e o a b in
-        split₂ (λ (ys : List R) (l : List Row). Means h n l ys) _ _ _ _ _ _ (latest-is law n xs t m e)
+        let p : HoldsEntry h (h .answered e o) e (some o) = law .answered e o a b in
+        split₂ (λ (ys : List R) (l : List ClientEntry). Means h n l ys) _ _ _ _ _ _ (latest-is law n xs t m e)
         (λ l.
         rw (← meant-is (h .answered e o) e (some o) p)
         (replace-lift h law n t xs m (h .answered e o) (p .used) (e .client) (p .client) (latest-there xs e l .0)))
         (λ _. m)
 
     pub commit-lift : (b : Book) (xs : List R) (es : List Entry) → Means h n (b .table) xs
-        → Means h n (commitAll b es .table) (committed h xs es (answersOf (b .totals) es))
-    unfolding commitAll commitOne committed answersOf
+        → Means h n (commitAll b es .table) (rowsCommitted h xs es (resultsOf (b .totals) es))
+    unfolding commitAll commitOne rowsCommitted resultsOf
     commit-lift b xs [] m = m
     commit-lift b xs (e ∷ es) m =
         let k = outcome-code (b .totals) e in
@@ -157,19 +157,19 @@ module _ {R : Type 0} (h : Shape R) where
 
     -- ---- install
 
-    pub rebuild-lift : (w : ℕ) (old : List R) (t : List Row) (left : ℕ) (new : List R) (s : List Row) (es : List Entry) → Means h w t old
+    pub rebuild-lift : (w : ℕ) (old : List R) (t : List ClientEntry) (left : ℕ) (new : List R) (s : List ClientEntry) (es : List Entry) → Means h w t old
         → Means h n s new → length s + length es ≤ n → Means h n (M.rebuilt t left s es) (rebuilt h old left new es)
     unfolding M.rebuilt rebuilt
     rebuild-lift w old t zero new s [] m m′ l = m′
     rebuild-lift w old t (suc left) new s [] m m′ l = m′
     rebuild-lift w old t zero new s (e ∷ es) m m′ l =
         rebuild-lift w old t zero _ _ es m (put-entry s new (keptRow h old 0 e) e none (kept-open law w old t m e) m′ (omega arith))
-        (omega (arith, put-length s (rowOf e none)))
+        (omega (arith, put-length s (entryRow e none)))
     rebuild-lift w old t (suc left) new s (e ∷ es) m m′ l =
         rw sub-one
         (rebuild-lift w old t left _ _ es m
         (put-entry s new (keptRow h old (suc left) e) e (keptFor t e) (kept-done law w old t m e left) m′ (omega arith))
-        (omega (arith, put-length s (rowOf e (keptFor t e)))))
+        (omega (arith, put-length s (entryRow e (keptFor t e)))))
 
     pub blank-means : Means h n [] (replicate n (h .blank))
     blank-means =
@@ -190,8 +190,8 @@ module _ {R : Type 0} (h : Shape R) where
     -- ---- all that a call changes
 
     committed-front : (xs : List R) (ts : List ℕ) (j : ℕ) (es : List Entry)
-        → committed h xs es (answersOf ts (take j es)) ≡ committed h xs (take j es) (answersOf ts (take j es))
-    unfolding committed answersOf
+        → rowsCommitted h xs es (resultsOf ts (take j es)) ≡ rowsCommitted h xs (take j es) (resultsOf ts (take j es))
+    unfolding rowsCommitted resultsOf
     committed-front xs ts zero [] = refl
     committed-front xs ts zero (e ∷ es) = refl
     committed-front xs ts (suc j) [] = refl
@@ -200,13 +200,13 @@ module _ {R : Type 0} (h : Shape R) where
     -- a commit up to j, by the log and by all results as they are read after it
     settle-lift : (b : Book) (j c : ℕ) (xs : List R) (log : List Entry) (os : List Outcome) → Means h n (b .table) xs → c ≡ b .commit
         → length (b .results) ≡ b .commit → log ≡ commitUpTo b j .log → os ≡ commitUpTo b j .results
-        → Means h n (commitUpTo b j .table) (committed h xs (drop c log) (drop c os))
-    unfolding commitUpTo due
+        → Means h n (commitUpTo b j .table) (rowsCommitted h xs (drop c log) (drop c os))
+    unfolding commitUpTo dueEntries
     settle-lift b j c xs log os m p q v w =
-        rw (p, v, w, commitAll-log b (due b j), commitAll-results b (due b j), drop-at (b .results) (answersOf (b .totals) (due b j)) (b .commit) q)
-        (rw (committed-front xs (b .totals) (j - b .commit) (drop (b .commit) (b .log))) (commit-lift b xs (due b j) m))
+        rw (p, v, w, commitAll-log b (dueEntries b j), commitAll-results b (dueEntries b j), drop-at (b .results) (resultsOf (b .totals) (dueEntries b j)) (b .commit) q)
+        (rw (committed-front xs (b .totals) (j - b .commit) (drop (b .commit) (b .log))) (commit-lift b xs (dueEntries b j) m))
 
-    -- the log was appended to, and then committed up to j
+    -- the log was appended to, and then rowsCommitted up to j
     pub follow-append : (k : Change) (b : Book) (es : List Entry) (j : ℕ) (xs : List R) (log : List Entry) (os : List Outcome)
         → k .installed ≡ false → Reads k b (commitUpTo (appendAll b es) j) log os → Means h n (b .table) xs
         → length (b .table) ≤ length (b .log) → length log ≤ n → Means h n (commitUpTo (appendAll b es) j .table) (followed h k xs log os)
@@ -220,7 +220,7 @@ module _ {R : Type 0} (h : Shape R) where
         (settle-lift (appendAll b es) j (k .commit .0) (appended h xs es) log os (append-lift b xs es m (omega arith))
         (p .commit ∙ sym (q .commit)) (cc (q .commit, q .results, p .results)) (p .log-is) (p .results-are))
 
-    -- the log was installed anew, and then committed up to j
+    -- the log was installed anew, and then rowsCommitted up to j
     pub follow-install : (k : Change) (b : Book) (new : List Entry) (j : ℕ) (xs : List R) (log : List Entry) (os : List Outcome)
         → k .installed ≡ true → Reads k b (commitUpTo (install b new) j) log os → Means h n (b .table) xs
         → length log ≤ n → Means h n (commitUpTo (install b new) j .table) (followed h k xs log os)

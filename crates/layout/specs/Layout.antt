@@ -13,7 +13,7 @@ use Rattle.entries.specs.Entries.{entries}
 use Rattle.entries.specs.declared.Entry.{Entry}
 use Rattle.config.specs.declared.Setup.{Setup}
 use Rattle.fees.specs.Results.{outcomes}
-use Rattle.rows.specs.Shape.{Shape, rowAt}
+use Rattle.client_table.specs.Shape.{Shape, rowAt}
 use Rattle.book.specs.Memory.{Money, money}
 use Rattle.state.specs.Statuses.{isRecovering}
 use Rattle.state.specs.Lengths.{logLength, resultsLength, acksLength, totalsLength, storedPlace, storedLength}
@@ -23,7 +23,7 @@ use Rattle.model.specs.State as M
 use Rattle.model.specs.Book.{Rises}
 
 -- the runs that are lent beside the client table
-pub record Runs : Type 0 where
+pub record LentRuns : Type 0 where
   pub log : List ℕ
   pub results : List ℕ
   pub totals : List ℕ
@@ -31,7 +31,7 @@ pub record Runs : Type 0 where
   pub stored : List ℕ
 
 -- each of its fixed length, or refusal 1
-pub record Lent (u : Setup) (x : Runs) : Type 0 where
+pub record FixedLengths (u : Setup) (x : LentRuns) : Type 0 where
   pub log-long : length (x .log) ≡ logLength u
   pub results-long : length (x .results) ≡ resultsLength u
   pub totals-long : length (x .totals) ≡ totalsLength u
@@ -41,11 +41,11 @@ pub record Lent (u : Setup) (x : Runs) : Type 0 where
 -- The client table, in whichever form its rows are held.
 module _ {R : Type 0} (h : Shape R) where
   -- a row in use
-  unfoldable pub meant : R → M.Row
+  unfoldable pub meant : R → M.ClientEntry
   meant x = record { client = h .client x; request = h .request x; kept = h .kept x }
 
   -- the rows before the first unused one
-  unfoldable pub tableOf : List R → List M.Row
+  unfoldable pub tableOf : List R → List M.ClientEntry
   tableOf [] = []
   tableOf (x ∷ xs) = if h .used x then meant x ∷ tableOf xs else []
 
@@ -64,7 +64,7 @@ module _ (u : Setup) (stored : List ℕ) where
   heldAt i d = record { commit = d .commit .0; log = entries (d .op .0) (drop (storedPlace (u .room) i) stored) }
 
   -- a place, read as a DoViewChange
-  unfoldable pub reportAt : ℕ → Report → Option M.Report
+  unfoldable pub reportAt : ℕ → Report → Option M.Reported
   reportAt i d = if d .there then some (record { lastNormal = d .view .0; held = heldAt i d }) else none
 
   -- a place, read as a RecoveryResponse
@@ -92,7 +92,7 @@ storeOf s stored =
 
 -- The book, of so many members and a log of op entries, commit of them committed. The client table is handed in as it is read from its own run. So are
 -- the applied entries, which no byte holds: what a call does to them the model says alone.
-unfoldable pub bookOf : (members op commit : ℕ) (log : List ℕ) → Money → (table : List M.Row) (applied : List Entry) → M.Book
+unfoldable pub bookOf : (members op commit : ℕ) (log : List ℕ) → Money → (table : List M.ClientEntry) (applied : List Entry) → M.Book
 bookOf members op commit log x table applied =
     record {
       log = entries op log;
@@ -104,7 +104,7 @@ bookOf members op commit log x table applied =
     }
 
 -- the state
-unfoldable pub modelOf : Replica → Runs → (table : List M.Row) (applied : List Entry) → M.State
+unfoldable pub modelOf : Replica → LentRuns → (table : List M.ClientEntry) (applied : List Entry) → M.State
 modelOf s x table applied =
     record {
       place = record { status = s .status; view = s .view .0; lastNormal = s .normal .0; catchingUp = s .catching };

@@ -9,28 +9,28 @@ use lib.ListN.{length}
 use Rattle.numbers.specs.Words.{if_then_else_}
 use Rattle.numbers.specs.Numbers.{over}
 use Rattle.entries.specs.declared.Entry.{Entry}
-use Rattle.rows.specs.declared.Latest.{Latest}
-use Rattle.rows.specs.declared.Change.{Change}
+use Rattle.client_table.specs.declared.Latest.{Latest}
+use Rattle.client_table.specs.declared.Change.{Change}
 use Rattle.state.specs.Answers.{refusal}
 use Rattle.state.specs.declared.Replica.{Replica}
-use Rattle.state.specs.declared.Answer as S
-use Rattle.model.specs.State.{Row, Book, State, Sent, Reply, Answer}
+use Rattle.state.specs.declared.Returned as S
+use Rattle.model.specs.State.{ClientEntry, Book, State, Sent, Reply, Answer}
 use Rattle.model.specs.State.Answer.{refused, done}
 use Rattle.model.specs.Book.{find, appendAll, commitUpTo, install}
 use Rattle.model.specs.Sending.{messagesOut, repliesOut}
-use Rattle.layout.specs.Layout.{Runs, modelOf}
+use Rattle.layout.specs.Layout.{LentRuns, modelOf}
 
 -- what a step is given: the state by value, the lent runs beside the client table, and the areas for messages and for replies
 pub record Given : Type 0 where
   pub state : Replica
-  pub runs : Runs
+  pub runs : LentRuns
   pub out : List ℕ
   pub reps : List ℕ
 
 -- what it leaves
 pub record Step : Type 0 where
-  pub answer : S.Answer
-  pub runs : Runs
+  pub answer : S.Returned
+  pub runs : LentRuns
   pub out : List ℕ
   pub reps : List ℕ
 
@@ -72,7 +72,7 @@ changeOf c d =
     }
 
 -- the client's row as it is handed to a handler says what the model's table has of the client
-pub record Tells (table : List Row) (client : ℕ) (latest : Latest) : Type 0 where
+pub record Tells (table : List ClientEntry) (client : ℕ) (latest : Latest) : Type 0 where
   pub there : latest .there ≡ find table client .there
   pub request : latest .there ≡ true → latest .request ≡ find table client .request
   pub kept : latest .there ≡ true → (if latest .replied then some (latest .reply) else none) ≡ find table client .kept

@@ -23,7 +23,7 @@ use Rattle.entries.specs.declared.Operation.the-variants.{Fee, Refund, Ask}
 use Rattle.fees.specs.Fees.{rule}
 use Rattle.fees.specs.declared.Outcome.{Outcome}
 use Rattle.model.specs.State.{Book}
-use Rattle.model.specs.Book.{outcome, totalsAfter, through, answersOf, append, appendAll, commitOne, commitAll, due, repliesOf, sameEntry, agree}
+use Rattle.model.specs.Book.{outcome, totalsAfter, through, resultsOf, append, appendAll, commitOne, commitAll, dueEntries, repliesOf, sameEntry, agree}
 
 -- the numbers of outcomes
 abbrev Coded : Outcome → Type 0
@@ -49,8 +49,8 @@ unfolding through
 through-length ts [] = refl
 through-length ts (e ∷ es) = through-length (totalsAfter ts e) es ∙ after-length ts e
 
-pub answers-length : (ts : List ℕ) (es : List Entry) → length (answersOf ts es) ≡ length es
-unfolding answersOf
+pub answers-length : (ts : List ℕ) (es : List Entry) → length (resultsOf ts es) ≡ length es
+unfolding resultsOf
 answers-length ts [] = refl
 answers-length ts (e ∷ es) = ap suc (answers-length (totalsAfter ts e) es)
 
@@ -60,8 +60,8 @@ unfolding through
 through-append ts [] ys = refl
 through-append ts (x ∷ xs) ys = through-append (totalsAfter ts x) xs ys
 
-pub answers-append : (ts : List ℕ) (xs ys : List Entry) → answersOf ts (xs ++ ys) ≡ answersOf ts xs ++ answersOf (through ts xs) ys
-unfolding through answersOf
+pub answers-append : (ts : List ℕ) (xs ys : List Entry) → resultsOf ts (xs ++ ys) ≡ resultsOf ts xs ++ resultsOf (through ts xs) ys
+unfolding through resultsOf
 answers-append ts [] ys = refl
 answers-append ts (x ∷ xs) ys = ap (_∷_ (outcome ts x)) (answers-append (totalsAfter ts x) xs ys)
 
@@ -86,8 +86,8 @@ unfolding commitAll commitOne through
 commitAll-totals b [] = refl
 commitAll-totals b (e ∷ es) = commitAll-totals (commitOne b e) es
 
-pub commitAll-results : (b : Book) (es : List Entry) → commitAll b es .results ≡ b .results ++ answersOf (b .totals) es
-unfolding commitAll commitOne answersOf
+pub commitAll-results : (b : Book) (es : List Entry) → commitAll b es .results ≡ b .results ++ resultsOf (b .totals) es
+unfolding commitAll commitOne resultsOf
 commitAll-results b [] = sym (append-nil (b .results))
 commitAll-results b (e ∷ es) =
     commitAll-results (commitOne b e) es ∙ append-assoc (b .results) (outcome (b .totals) e ∷ []) _
@@ -112,8 +112,8 @@ replies-end v (x ∷ es) [] e o h = absurd (omega arith)
 replies-end v (x ∷ es) (p ∷ os) e o h =
     ap (_∷_ (record { view = v; client = x .client; request = x .request; result = p })) (replies-end v es os e o (omega arith))
 
-pub length-due : (b : Book) (k : ℕ) → k ≤ length (b .log) → length (due b k) ≡ k - b .commit
-unfolding due
+pub length-due : (b : Book) (k : ℕ) → k ≤ length (b .log) → length (dueEntries b k) ≡ k - b .commit
+unfolding dueEntries
 length-due b k h = simp (length-take, length-drop) (omega arith)
 
 -- an append of entries

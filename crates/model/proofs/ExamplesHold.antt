@@ -6,8 +6,8 @@ use Rattle.fees.specs.Fees.{gives}
 use Rattle.model.specs.State.Answer.{done}
 use Rattle.model.specs.Book.{rebuilt}
 use Rattle.model.specs.Normal.{onPrepareOk}
-use Rattle.model.specs.Examples.{All, setup, row, answer, answerSeen}
-use Rattle.model.specs.Marked.{marked, asked, once, firstAck}
+use Rattle.model.specs.Examples.{AllHold, setup, tableRow, answer, answerSeen}
+use Rattle.model.specs.Marked.{marked, askedOnce, once, firstAck}
 use Rattle.model.specs.Directed.{AllRun, fee}
 use Rattle.model.specs.Misread.{fourAcked, misread}
 use Rattle.model.specs.Surprises.{surprises}
@@ -16,7 +16,7 @@ use Rattle.model.specs.Examples.Event.{idle}
 use Rattle.model.specs.ExampleFrames.{heartbeats, prepares}
 
 -- the marked examples of document 01 with *
-pub marked-hold : All marked
+pub marked-hold : AllHold marked
 unfolding open-marked
 marked-hold = (refl, (refl, (refl, (refl, (refl, (refl, (refl, tt)))))))
 
@@ -29,8 +29,8 @@ pub surprises-hold : AllRun surprises
 unfolding open-surprises
 surprises-hold = (refl, (refl, (refl, (refl, (refl, (refl, (refl, (refl, (refl, (refl, (refl, (refl, (refl, (refl, (refl, (refl, tt))))))))))))))))
 
--- install_log keeps a reply only where the number equals the old row's. No call leads to such an old row, so it is said of the table alone.
-pub other-number : rebuilt (row 1 6 (some (gives 1 10)) ∷ []) 1 [] (fee 1 5 10 ∷ []) ≡ row 1 5 none ∷ []
+-- install_log keeps a reply only where the number equals the old row's. No call leads to such an old tableRow, so it is said of the table alone.
+pub other-number : rebuilt (tableRow 1 6 (some (gives 1 10)) ∷ []) 1 [] (fee 1 5 10 ∷ []) ≡ tableRow 1 5 none ∷ []
 unfolding open-misread
 other-number = refl
 
@@ -41,11 +41,11 @@ unfolding open-misread
 past-quorum = refl
 
 -- It keeps one for a committed entry only.
-pub uncommitted-entry : rebuilt (row 1 5 (some (gives 1 10)) ∷ []) 0 [] (fee 1 5 10 ∷ []) ≡ row 1 5 none ∷ []
+pub uncommitted-entry : rebuilt (tableRow 1 5 (some (gives 1 10)) ∷ []) 0 [] (fee 1 5 10 ∷ []) ≡ tableRow 1 5 none ∷ []
 unfolding open-misread
 uncommitted-entry = refl
 
 -- A primary's tick sends the heartbeat, and prepares again what isn't committed.
-pub prepares-again : answerSeen (asked firstAck once) (answer (setup 3 0 3 8) (asked firstAck once) idle) .messages ≡ heartbeats ++ prepares
+pub prepares-again : answerSeen (askedOnce firstAck once) (answer (setup 3 0 3 8) (askedOnce firstAck once) idle) .messages ≡ heartbeats ++ prepares
 unfolding open-marked
 prepares-again = refl

@@ -22,27 +22,27 @@ use Rattle.entries.specs.declared.Entry.{Entry}
 use Rattle.fees.specs.declared.Outcome.{Outcome}
 use Rattle.book.specs.Log.{noneBreaks, risesAfter}
 use Rattle.book.proofs.LogLaws.{rises-after}
-use Rattle.model.specs.State.{Row}
-use Rattle.model.specs.Book.{Seen, find, put, rowOf}
+use Rattle.model.specs.State.{ClientEntry}
+use Rattle.model.specs.Book.{Seen, find, put, entryRow}
 use Rattle.model.proofs.LogLift.{rising-front}
 
 -- ---- a row put
 
-pub find-put : (t : List Row) (r : Row) → find (put t r) (r .client) ≡ record { there = true; request = r .request; kept = r .kept }
+pub find-put : (t : List ClientEntry) (r : ClientEntry) → find (put t r) (r .client) ≡ record { there = true; request = r .request; kept = r .kept }
 unfolding put find
 find-put [] r = if-true _ _ _ (eq-eqb (r .client) (r .client) refl)
 find-put (q ∷ qs) r =
-    let P : List Row → Type 0 = λ l. find l (r .client) ≡ record { there = true; request = r .request; kept = r .kept } in
-    let first : (l : List Row) → P (r ∷ l) = λ l. if-true _ _ _ (eq-eqb (r .client) (r .client) refl) in
+    let P : List ClientEntry → Type 0 = λ l. find l (r .client) ≡ record { there = true; request = r .request; kept = r .kept } in
+    let first : (l : List ClientEntry) → P (r ∷ l) = λ l. if-true _ _ _ (eq-eqb (r .client) (r .client) refl) in
     split P _ _ _ (λ _. first (q ∷ qs)) λ _.
     split P _ _ _ (λ _. first qs)
     (λ ne. if-false _ _ _ (ne-eqb (q .client) (r .client) (λ e. eqb-false (r .client) (q .client) ne (sym e))) ∙ find-put qs r)
 
-pub find-other : (t : List Row) (r : Row) (c : ℕ) → (r .client ≡ c → ⊥) → find (put t r) c ≡ find t c
+pub find-other : (t : List ClientEntry) (r : ClientEntry) (c : ℕ) → (r .client ≡ c → ⊥) → find (put t r) c ≡ find t c
 unfolding put find
 find-other [] r c n = if-false _ _ _ (ne-eqb (r .client) c n)
 find-other (q ∷ qs) r c n =
-    let P : List Row → Type 0 = λ l. find l c ≡ find (q ∷ qs) c in
+    let P : List ClientEntry → Type 0 = λ l. find l c ≡ find (q ∷ qs) c in
     split P _ _ _ (λ _. if-false _ _ _ (ne-eqb (r .client) c n)) λ _.
     split P _ _ _
     (λ eq.
@@ -54,10 +54,10 @@ find-other (q ∷ qs) r c n =
 -- ---- the table has each client's latest request
 
 -- the entry's client has a row, of the entry's number or a later one
-abbrev pub Known : List Row → Entry → Type 0
+abbrev pub Known : List ClientEntry → Entry → Type 0
 Known t e = (find t (e .client) .there ≡ true) × (e .request ≤ find t (e .client) .request)
 
-abbrev pub AllKnown : List Row → List Entry → Type 0
+abbrev pub AllKnown : List ClientEntry → List Entry → Type 0
 AllKnown t [] = Unit
 AllKnown t (e ∷ es) = Known t e × AllKnown t es
 
@@ -66,7 +66,7 @@ abbrev pub Among : (c r : ℕ) → List Entry → Type 0
 Among c r [] = ⊥
 Among c r (e ∷ es) = ((e .client ≡ c) × (e .request ≡ r)) ⊎ Among c r es
 
-pub record Latest (t : List Row) (es : List Entry) : Type 0 where
+pub record Latest (t : List ClientEntry) (es : List Entry) : Type 0 where
   pub known : AllKnown t es
   pub among : (c : ℕ) → find t c .there ≡ true → Among c (find t c .request) es
 
@@ -75,7 +75,7 @@ unfolding find
 latest-none = record { known = tt; among = λ c p. absurd (false≢true p) }
 
 -- by what is found of each client, replies aside
-pub latest-same : (t t′ : List Row) (es : List Entry) → ((c : ℕ) → find t c .there ≡ find t′ c .there)
+pub latest-same : (t t′ : List ClientEntry) (es : List Entry) → ((c : ℕ) → find t c .there ≡ find t′ c .there)
     → ((c : ℕ) → find t c .request ≡ find t′ c .request) → Latest t es → Latest t′ es
 latest-same t t′ es p q l =
     record { known = go es (l .known); among = λ c h. rw (← q c) (l .among c (p c ∙ h)) }
@@ -110,7 +110,7 @@ module _ (e : Entry) where
   unfolding breaksAt _and_
   risen x b p = leb-false (e .request) (x .request) (rw (eq-eqb (x .client) (e .client) p) at b)
 
-  module _ (t : List Row) where
+  module _ (t : List ClientEntry) where
     clear : (es : List Entry) → AllKnown t es → (find t (e .client) .there ≡ true → find t (e .client) .request < e .request)
         → noneBreaks es (e ∷ []) ≡ true
     unfolding noneBreaks follows
@@ -148,15 +148,15 @@ module _ (e : Entry) where
     -- ---- an append keeps it, whatever reply stands in the row
 
     module _ (o : Option Outcome) where
-      found : (c : ℕ) → e .client ≡ c → find (put t (rowOf e o)) c ≡ record { there = true; request = e .request; kept = o }
-      unfolding rowOf
-      found c p = ap (find (put t (rowOf e o))) (sym p) ∙ find-put t (rowOf e o)
+      found : (c : ℕ) → e .client ≡ c → find (put t (entryRow e o)) c ≡ record { there = true; request = e .request; kept = o }
+      unfolding entryRow
+      found c p = ap (find (put t (entryRow e o))) (sym p) ∙ find-put t (entryRow e o)
 
-      others : (c : ℕ) → (e .client ≡ c → ⊥) → find (put t (rowOf e o)) c ≡ find t c
-      unfolding rowOf
-      others c n = find-other t (rowOf e o) c n
+      others : (c : ℕ) → (e .client ≡ c → ⊥) → find (put t (entryRow e o)) c ≡ find t c
+      unfolding entryRow
+      others c n = find-other t (entryRow e o) c n
 
-      still-known : (x : Entry) → Known t x → breaksAt x e ≡ false → Known (put t (rowOf e o)) x
+      still-known : (x : Entry) → Known t x → breaksAt x e ≡ false → Known (put t (entryRow e o)) x
       still-known x k b =
           ⊎-elim
           (λ p.
@@ -166,7 +166,7 @@ module _ (e : Entry) where
           (λ n. rw (others (x .client) n) k)
           (eq-or-not (e .client) (x .client))
 
-      all-known : (es : List Entry) → AllKnown t es → noneBreaks es (e ∷ []) ≡ true → AllKnown (put t (rowOf e o)) (es ++ (e ∷ []))
+      all-known : (es : List Entry) → AllKnown t es → noneBreaks es (e ∷ []) ≡ true → AllKnown (put t (entryRow e o)) (es ++ (e ∷ []))
       unfolding noneBreaks follows
       all-known [] k h =
           let s = found (e .client) refl in
@@ -175,7 +175,7 @@ module _ (e : Entry) where
           let b : breaksAt x e ≡ false = not-true (breaksAt x e) (and-left _ _ (and-left _ _ h)) in
           (still-known x (k .0) b, all-known es (k .1) (and-right _ _ h))
 
-      pub latest-more : (es : List Entry) → Latest t es → rising (es ++ (e ∷ [])) ≡ true → Latest (put t (rowOf e o)) (es ++ (e ∷ []))
+      pub latest-more : (es : List Entry) → Latest t es → rising (es ++ (e ∷ [])) ≡ true → Latest (put t (entryRow e o)) (es ++ (e ∷ []))
       unfolding risesAfter
       latest-more es l h =
           let n : noneBreaks es (e ∷ []) ≡ true = and-left _ _ (sym (rises-after es (e ∷ []) (rising-front es (e ∷ []) h)) ∙ h) in
@@ -184,11 +184,11 @@ module _ (e : Entry) where
             among = λ c p. ⊎-elim (λ q. mine c q) (λ q. theirs c q p) (eq-or-not (e .client) c);
           }
         where
-          mine : (c : ℕ) → e .client ≡ c → Among c (find (put t (rowOf e o)) c .request) (es ++ (e ∷ []))
+          mine : (c : ℕ) → e .client ≡ c → Among c (find (put t (entryRow e o)) c .request) (es ++ (e ∷ []))
           mine c q = among-back c _ es (e ∷ []) (inl (q, sym (ap (λ (z : Seen). z .request) (found c q))))
 
-          theirs : (c : ℕ) → (e .client ≡ c → ⊥) → find (put t (rowOf e o)) c .there ≡ true
-              → Among c (find (put t (rowOf e o)) c .request) (es ++ (e ∷ []))
+          theirs : (c : ℕ) → (e .client ≡ c → ⊥) → find (put t (entryRow e o)) c .there ≡ true
+              → Among c (find (put t (entryRow e o)) c .request) (es ++ (e ∷ []))
           theirs c q p =
               let s = others c q in
               rw s (among-front c _ es (e ∷ []) (l .among c (sym (ap (λ (z : Seen). z .there) s) ∙ p)))

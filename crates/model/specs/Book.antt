@@ -10,7 +10,7 @@ use Rattle.entries.specs.Entries.{operationOf}
 use Rattle.entries.specs.declared.Entry.{Entry}
 use Rattle.fees.specs.Fees.{gives, rule}
 use Rattle.fees.specs.declared.Outcome.{Outcome}
-use Rattle.model.specs.State.{Row, Book, Reply}
+use Rattle.model.specs.State.{ClientEntry, Book, Reply}
 
 -- what the fee rules give for an entry on the members' totals: a member not below M has outcome 4 (document 01, "Fee rules")
 unfoldable pub outcome : List ℕ → Entry → Outcome
@@ -28,17 +28,17 @@ through ts [] = ts
 through ts (e ∷ es) = through (totalsAfter ts e) es
 
 -- what each of the entries gave, in order
-unfoldable pub answersOf : List ℕ → List Entry → List Outcome
-answersOf ts [] = []
-answersOf ts (e ∷ es) = outcome ts e ∷ answersOf (totalsAfter ts e) es
+unfoldable pub resultsOf : List ℕ → List Entry → List Outcome
+resultsOf ts [] = []
+resultsOf ts (e ∷ es) = outcome ts e ∷ resultsOf (totalsAfter ts e) es
 
 -- each row's client id is above c
-abbrev pub Above : ℕ → List Row → Type 0
+abbrev pub Above : ℕ → List ClientEntry → Type 0
 Above c [] = Unit
 Above c (r ∷ rs) = (c < r .client) × Above c rs
 
 -- each client id is above those before it
-abbrev pub Rises : List Row → Type 0
+abbrev pub Rises : List ClientEntry → Type 0
 Rises [] = Unit
 Rises (r ∷ rs) = Above (r .client) rs × Rises rs
 
@@ -49,12 +49,12 @@ pub record Seen : Type 0 where
   pub kept : Option Outcome
 
 -- the first row of the client; ids rise, so it is the only one
-unfoldable pub find : List Row → ℕ → Seen
+unfoldable pub find : List ClientEntry → ℕ → Seen
 find [] c = record { there = false; request = 0; kept = none }
 find (r ∷ rs) c = if eqb (r .client) c then record { there = true; request = r .request; kept = r .kept } else find rs c
 
 -- `client_table.insert`: the row in its place, or in place of the client's old one; client ids rise
-unfoldable pub put : List Row → Row → List Row
+unfoldable pub put : List ClientEntry → ClientEntry → List ClientEntry
 put [] r = r ∷ []
 put (q ∷ qs) r =
     if ltb (r .client) (q .client) then r ∷ q ∷ qs else
@@ -62,8 +62,8 @@ put (q ∷ qs) r =
     q ∷ put qs r
 
 -- the row of an entry, with the reply kept for it
-unfoldable pub rowOf : Entry → Option Outcome → Row
-rowOf e k = record { client = e .client; request = e .request; kept = k }
+unfoldable pub entryRow : Entry → Option Outcome → ClientEntry
+entryRow e k = record { client = e .client; request = e .request; kept = k }
 
 -- append_to_log: the client's latest request, not yet executed
 unfoldable pub append : Book → Entry → Book
@@ -72,7 +72,7 @@ append b e =
       log = b .log ++ (e ∷ []);
       commit = b .commit;
       results = b .results;
-      table = put (b .table) (rowOf e none);
+      table = put (b .table) (entryRow e none);
       totals = b .totals;
       applied = b .applied;
     }
@@ -83,9 +83,9 @@ appendAll b [] = b
 appendAll b (e ∷ es) = appendAll (append b e) es
 
 -- the table after an entry was executed: its reply is kept if the request is still the client's latest
-unfoldable pub keep : List Row → Entry → Outcome → List Row
+unfoldable pub keep : List ClientEntry → Entry → Outcome → List ClientEntry
 keep t e o =
-    if find t (e .client) .there and eqb (find t (e .client) .request) (e .request) then put t (rowOf e (some o)) else
+    if find t (e .client) .there and eqb (find t (e .client) .request) (e .request) then put t (entryRow e (some o)) else
     t
 
 -- commit_op, of the entry given: it goes through the fee rules, and is added to the applied entries
@@ -106,12 +106,12 @@ commitAll b [] = b
 commitAll b (e ∷ es) = commitAll (commitOne b e) es
 
 -- the entries that a commit up to k puts through the rules
-unfoldable pub due : Book → ℕ → List Entry
-due b k = take (k - b .commit) (drop (b .commit) (b .log))
+unfoldable pub dueEntries : Book → ℕ → List Entry
+dueEntries b k = take (k - b .commit) (drop (b .commit) (b .log))
 
 -- commit_up_to: the commit number never falls
 unfoldable pub commitUpTo : Book → ℕ → Book
-commitUpTo b k = commitAll b (due b k)
+commitUpTo b k = commitAll b (dueEntries b k)
 
 -- the replies to entries with what each gave, in order, with the view given
 unfoldable pub repliesOf : ℕ → List Entry → List Outcome → List Reply
@@ -121,18 +121,18 @@ repliesOf v (e ∷ es) (o ∷ os) = record { view = v; client = e .client; reque
 
 -- the replies of a commit up to k
 unfoldable pub commitReplies : ℕ → Book → ℕ → List Reply
-commitReplies v b k = repliesOf v (due b k) (answersOf (b .totals) (due b k))
+commitReplies v b k = repliesOf v (dueEntries b k) (resultsOf (b .totals) (dueEntries b k))
 
 -- The reply that install_log keeps for a committed entry: the old row's, where its number equals.
-unfoldable pub keptFor : List Row → Entry → Option Outcome
+unfoldable pub keptFor : List ClientEntry → Entry → Option Outcome
 keptFor old e = if eqb (find old (e .client) .request) (e .request) then find old (e .client) .kept else none
 
 -- install_log, its table: built anew in the order of the log, the first `left` entries being the committed ones. A later entry of a
 -- client overwrites an earlier one's row.
-unfoldable pub rebuilt : (old : List Row) (left : ℕ) (new : List Row) → List Entry → List Row
+unfoldable pub rebuilt : (old : List ClientEntry) (left : ℕ) (new : List ClientEntry) → List Entry → List ClientEntry
 rebuilt old left new [] = new
-rebuilt old zero new (e ∷ es) = rebuilt old zero (put new (rowOf e none)) es
-rebuilt old (suc left) new (e ∷ es) = rebuilt old left (put new (rowOf e (keptFor old e))) es
+rebuilt old zero new (e ∷ es) = rebuilt old zero (put new (entryRow e none)) es
+rebuilt old (suc left) new (e ∷ es) = rebuilt old left (put new (entryRow e (keptFor old e))) es
 
 -- install_log
 unfoldable pub install : Book → List Entry → Book

@@ -13,35 +13,35 @@ use Rattle.frames.specs.declared.RecoveryState.the-variants.{Absent, Present}
 use Rattle.frames.specs.declared.Message.the-variants.{Request, Prepare, PrepareOk, Commit, GetState, NewState, StartViewChange, DoViewChange, StartView}
 use Rattle.frames.specs.declared.Message.the-variants.{Recovery, RecoveryResponse}
 use Rattle.writers.specs.Writers.{encode, reply}
-use Rattle.model.specs.State.{viewOf, opNumber, Row, Book, Store, State, Answer, after}
+use Rattle.model.specs.State.{viewOf, opNumber, ClientEntry, Book, Store, State, Answer, after}
 use Rattle.model.specs.State.Answer.{refused, done}
 use Rattle.model.specs.Sending.{messagesOut, repliesOut}
 use Rattle.model.specs.Examples.{Start, Event, answer, starts, setup, book, store}
 
 -- a call, with what it answers
-pub record Step : Type 0 where
+pub record DirectedStep : Type 0 where
   pub call : Event
   pub number : ℕ
   pub messages : List ℕ
   pub replies : List ℕ
 
 -- a call that answers so
-unfoldable pub step : Event → ℕ → List ℕ → List ℕ → Step
+unfoldable pub step : Event → ℕ → List ℕ → List ℕ → DirectedStep
 step e k out rs = record { call = e; number = k; messages = out; replies = rs }
 
 -- a call with what it does answer
-unfoldable pub told : Event → Answer → Step
+unfoldable pub told : Event → Answer → DirectedStep
 told e (refused k) = step e k [] []
 told e (done m out rs) = step e 0 (messagesOut out) (repliesOut rs)
 
 module _ (u : Setup) where
   -- what the calls answer, and where they lead
-  unfoldable pub answers : State → List Step → List Step
+  unfoldable pub answers : State → List DirectedStep → List DirectedStep
   answers m [] = []
   answers m (s ∷ ss) = told (s .call) (answer u m (s .call)) ∷ answers (after m (answer u m (s .call))) ss
 
   -- the state that the calls lead to
-  unfoldable pub ends : State → List Step → State
+  unfoldable pub ends : State → List DirectedStep → State
   ends m [] = m
   ends m (s ∷ ss) = ends (after m (answer u m (s .call))) ss
 
@@ -49,27 +49,27 @@ module _ (u : Setup) where
 pub record Directed : Type 0 where
   pub setup : Setup
   pub start : Start
-  pub steps : List Step
+  pub steps : List DirectedStep
   pub last : State
 
 -- what ran: the calls with their answers, and the state at the end
-pub record Ran : Type 0 where
-  pub steps : List Step
+pub record DirectedRan : Type 0 where
+  pub steps : List DirectedStep
   pub last : Option State
 
 -- from a creation
-unfoldable pub ranFrom : Setup → Answer → List Step → Ran
+unfoldable pub ranFrom : Setup → Answer → List DirectedStep → DirectedRan
 ranFrom u (refused k) ss = record { steps = []; last = none }
 ranFrom u (done m out rs) ss = record { steps = answers u m ss; last = some (ends u m ss) }
 
 -- a directed example holds
-abbrev pub Runs : Directed → Type 0
-Runs d = ranFrom (d .setup) (starts (d .setup) (d .start)) (d .steps) ≡ record { steps = d .steps; last = some (d .last) }
+abbrev pub DirectedHolds : Directed → Type 0
+DirectedHolds d = ranFrom (d .setup) (starts (d .setup) (d .start)) (d .steps) ≡ record { steps = d .steps; last = some (d .last) }
 
 -- each of a list holds
 abbrev pub AllRun : List Directed → Type 0
 AllRun [] = Unit
-AllRun (d ∷ ds) = Runs d × AllRun ds
+AllRun (d ∷ ds) = DirectedHolds d × AllRun ds
 
 -- ---- frames, and parts of states
 
@@ -92,8 +92,8 @@ unfoldable pub entriesBytes : List Entry → List ℕ
 entriesBytes es = packed encodeEntry es
 
 -- frames to a replica, one function a kind
-unfoldable pub requestTo : ℕ → Entry → List ℕ
-requestTo to e = encode to (Request e) []
+unfoldable pub requestFrameTo : ℕ → Entry → List ℕ
+requestFrameTo to e = encode to (Request e) []
 
 unfoldable pub prepareTo : (to v o c : ℕ) → Entry → List ℕ
 prepareTo to v o c e = encode to (Prepare (viewOf v) (opNumber o) (opNumber c) e) []
@@ -113,8 +113,8 @@ newStateTo to v a z c es = encode to (NewState (viewOf v) (opNumber a) (opNumber
 unfoldable pub callTo : (to v r : ℕ) → List ℕ
 callTo to v r = encode to (StartViewChange (viewOf v) r) []
 
-unfoldable pub reportTo : (to v r l c : ℕ) → List Entry → List ℕ
-reportTo to v r l c es = encode to (DoViewChange (viewOf v) r (viewOf l) (opNumber (length es)) (opNumber c)) (entriesBytes es)
+unfoldable pub reportFrameTo : (to v r l c : ℕ) → List Entry → List ℕ
+reportFrameTo to v r l c es = encode to (DoViewChange (viewOf v) r (viewOf l) (opNumber (length es)) (opNumber c)) (entriesBytes es)
 
 unfoldable pub startViewTo : (to v c : ℕ) → List Entry → List ℕ
 startViewTo to v c es = encode to (StartView (viewOf v) (opNumber (length es)) (opNumber c)) (entriesBytes es)
@@ -136,7 +136,7 @@ paidReply v c r t = reply (viewOf v) c r 1 t
 unfoldable pub totals3 : ℕ → List ℕ
 totals3 t = 0 ∷ 0 ∷ 0 ∷ t ∷ 0 ∷ 0 ∷ 0 ∷ 0 ∷ []
 
-unfoldable pub untouched : List Entry → List Row → Book
+unfoldable pub untouched : List Entry → List ClientEntry → Book
 untouched log t = book log 0 [] t (totals3 0) []
 
 unfoldable pub noneStored : ℕ → ℕ → Store

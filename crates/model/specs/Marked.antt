@@ -10,7 +10,7 @@ use Rattle.clock.specs.declared.Clock.{Clock}
 use Rattle.frames.specs.declared.Status.{Status}
 use Rattle.frames.specs.declared.Status.the-variants.{Normal, ViewChange}
 use Rattle.model.specs.State.{State, Store}
-use Rattle.model.specs.Examples.{Example, saw, sawRefused, setup, place, book, row, votes, store, state}
+use Rattle.model.specs.Examples.{Example, saw, sawRefused, setup, place, book, tableRow, votes, store, state}
 use Rattle.model.specs.Examples.Start.{new}
 use Rattle.model.specs.Examples.Event.{idle, idleIn, gets}
 use Rattle.model.specs.ExampleFrames.{heartbeats, request70, request71, request80, prepares, prepare1, prepare2, prepareOk1, prepareOk2, prepareOk3}
@@ -31,13 +31,13 @@ unfoldable pub bare3 : Store
 bare3 = store (none ∷ none ∷ none ∷ []) (none ∷ none ∷ none ∷ []) 0
 
 -- a replica of 3 with an empty log, in a view
-unfoldable pub alone : Status → ℕ → Clock → State
-alone s v c = state (place s v 0 false) (book [] 0 [] [] zeros8 []) (votes zeros8 0 false) bare3 c
+unfoldable pub onItsOwn : Status → ℕ → Clock → State
+onItsOwn s v c = state (place s v 0 false) (book [] 0 [] [] zeros8 []) (votes zeros8 0 false) bare3 c
 
 -- a primary of view 0 that has e70: with these acks, not committed; and committed, with no acks
-unfoldable pub asked : List ℕ → Clock → State
-asked acks c =
-    state (place Normal 0 0 false) (book (e70 ∷ []) 0 [] (row 7 0 none ∷ []) zeros8 []) (votes acks 0 false) bare3 c
+unfoldable pub askedOnce : List ℕ → Clock → State
+askedOnce acks c =
+    state (place Normal 0 0 false) (book (e70 ∷ []) 0 [] (tableRow 7 0 none ∷ []) zeros8 []) (votes acks 0 false) bare3 c
 
 -- its own ack of op 1
 unfoldable pub firstAck : List ℕ
@@ -46,7 +46,7 @@ firstAck = 1 ∷ 0 ∷ 0 ∷ 0 ∷ 0 ∷ 0 ∷ 0 ∷ 0 ∷ []
 unfoldable pub paid : List ℕ → Clock → State
 paid acks c =
     state (place Normal 0 0 false)
-    (book (e70 ∷ []) 1 (gives 1 4500 ∷ []) (row 7 0 (some (gives 1 4500)) ∷ []) paid8 (e70 ∷ []))
+    (book (e70 ∷ []) 1 (gives 1 4500 ∷ []) (tableRow 7 0 (some (gives 1 4500)) ∷ []) paid8 (e70 ∷ []))
     (votes acks 0 false) bare3 c
 
 -- a fresh replica's clock, and the same after one tick of a primary
@@ -64,9 +64,9 @@ first =
       start = new;
       calls = idle ∷ gets request70 ∷ gets prepareOk1 ∷ gets prepareOk2 ∷ gets request70 ∷ [];
       want =
-          saw 0 [] [] (alone Normal 0 fresh)
-          ∷ saw 0 heartbeats [] (alone Normal 0 once)
-          ∷ saw 0 prepares [] (asked firstAck once)
+          saw 0 [] [] (onItsOwn Normal 0 fresh)
+          ∷ saw 0 heartbeats [] (onItsOwn Normal 0 once)
+          ∷ saw 0 prepares [] (askedOnce firstAck once)
           ∷ saw 0 [] theReply (paid zeros8 once)
           ∷ saw 0 [] [] (paid zeros8 once)
           ∷ saw 0 [] theReply (paid zeros8 once)
@@ -81,32 +81,32 @@ ticksOnly =
       start = new;
       calls = idle ∷ idle ∷ idle ∷ idle ∷ idle ∷ idle ∷ idle ∷ idle ∷ idle ∷ idle ∷ idle ∷ idle ∷ idle ∷ idle ∷ idle ∷ idle ∷ idle ∷ idle ∷ idle ∷ idle ∷ idle ∷ idle ∷ idle ∷ idle ∷ idle ∷ [];
       want =
-          saw 0 [] [] (alone Normal 0 fresh)
-          ∷ saw 0 [] [] (alone Normal 0 (clock false 0 1 0))
-          ∷ saw 0 [] [] (alone Normal 0 (clock false 1 0 0))
-          ∷ saw 0 [] [] (alone Normal 0 (clock false 2 0 0))
-          ∷ saw 0 callsFor1 [] (alone ViewChange 1 (clock false 0 0 0))
-          ∷ saw 0 callsFor1 [] (alone ViewChange 1 (clock false 1 0 0))
-          ∷ saw 0 callsFor1 [] (alone ViewChange 1 (clock false 2 0 0))
-          ∷ saw 0 callsFor2 [] (alone ViewChange 2 (clock false 0 0 1))
-          ∷ saw 0 callsFor2 [] (alone ViewChange 2 (clock false 1 0 1))
-          ∷ saw 0 callsFor2 [] (alone ViewChange 2 (clock false 2 0 1))
-          ∷ saw 0 callsFor2 [] (alone ViewChange 2 (clock false 3 0 1))
-          ∷ saw 0 callsFor2 [] (alone ViewChange 2 (clock false 4 0 1))
-          ∷ saw 0 callsFor2 [] (alone ViewChange 2 (clock false 5 0 1))
-          ∷ saw 0 callsFor3 [] (alone ViewChange 3 (clock false 0 0 2))
-          ∷ saw 0 callsFor3 [] (alone ViewChange 3 (clock false 1 0 2))
-          ∷ saw 0 callsFor3 [] (alone ViewChange 3 (clock false 2 0 2))
-          ∷ saw 0 callsFor3 [] (alone ViewChange 3 (clock false 3 0 2))
-          ∷ saw 0 callsFor3 [] (alone ViewChange 3 (clock false 4 0 2))
-          ∷ saw 0 callsFor3 [] (alone ViewChange 3 (clock false 5 0 2))
-          ∷ saw 0 callsFor3 [] (alone ViewChange 3 (clock false 6 0 2))
-          ∷ saw 0 callsFor3 [] (alone ViewChange 3 (clock false 7 0 2))
-          ∷ saw 0 callsFor3 [] (alone ViewChange 3 (clock false 8 0 2))
-          ∷ saw 0 callsFor3 [] (alone ViewChange 3 (clock false 9 0 2))
-          ∷ saw 0 callsFor3 [] (alone ViewChange 3 (clock false 10 0 2))
-          ∷ saw 0 callsFor3 [] (alone ViewChange 3 (clock false 11 0 2))
-          ∷ saw 0 callsFor4 [] (alone ViewChange 4 (clock false 0 0 3))
+          saw 0 [] [] (onItsOwn Normal 0 fresh)
+          ∷ saw 0 [] [] (onItsOwn Normal 0 (clock false 0 1 0))
+          ∷ saw 0 [] [] (onItsOwn Normal 0 (clock false 1 0 0))
+          ∷ saw 0 [] [] (onItsOwn Normal 0 (clock false 2 0 0))
+          ∷ saw 0 callsFor1 [] (onItsOwn ViewChange 1 (clock false 0 0 0))
+          ∷ saw 0 callsFor1 [] (onItsOwn ViewChange 1 (clock false 1 0 0))
+          ∷ saw 0 callsFor1 [] (onItsOwn ViewChange 1 (clock false 2 0 0))
+          ∷ saw 0 callsFor2 [] (onItsOwn ViewChange 2 (clock false 0 0 1))
+          ∷ saw 0 callsFor2 [] (onItsOwn ViewChange 2 (clock false 1 0 1))
+          ∷ saw 0 callsFor2 [] (onItsOwn ViewChange 2 (clock false 2 0 1))
+          ∷ saw 0 callsFor2 [] (onItsOwn ViewChange 2 (clock false 3 0 1))
+          ∷ saw 0 callsFor2 [] (onItsOwn ViewChange 2 (clock false 4 0 1))
+          ∷ saw 0 callsFor2 [] (onItsOwn ViewChange 2 (clock false 5 0 1))
+          ∷ saw 0 callsFor3 [] (onItsOwn ViewChange 3 (clock false 0 0 2))
+          ∷ saw 0 callsFor3 [] (onItsOwn ViewChange 3 (clock false 1 0 2))
+          ∷ saw 0 callsFor3 [] (onItsOwn ViewChange 3 (clock false 2 0 2))
+          ∷ saw 0 callsFor3 [] (onItsOwn ViewChange 3 (clock false 3 0 2))
+          ∷ saw 0 callsFor3 [] (onItsOwn ViewChange 3 (clock false 4 0 2))
+          ∷ saw 0 callsFor3 [] (onItsOwn ViewChange 3 (clock false 5 0 2))
+          ∷ saw 0 callsFor3 [] (onItsOwn ViewChange 3 (clock false 6 0 2))
+          ∷ saw 0 callsFor3 [] (onItsOwn ViewChange 3 (clock false 7 0 2))
+          ∷ saw 0 callsFor3 [] (onItsOwn ViewChange 3 (clock false 8 0 2))
+          ∷ saw 0 callsFor3 [] (onItsOwn ViewChange 3 (clock false 9 0 2))
+          ∷ saw 0 callsFor3 [] (onItsOwn ViewChange 3 (clock false 10 0 2))
+          ∷ saw 0 callsFor3 [] (onItsOwn ViewChange 3 (clock false 11 0 2))
+          ∷ saw 0 callsFor4 [] (onItsOwn ViewChange 4 (clock false 0 0 3))
           ∷ [];
     }
 
@@ -117,7 +117,7 @@ badFrames =
       setup = setup 3 0 3 8;
       start = new;
       calls = gets [] ∷ gets prepareOk3 ∷ [];
-      want = saw 0 [] [] (alone Normal 0 fresh) ∷ saw 2 [] [] (alone Normal 0 fresh) ∷ saw 3 [] [] (alone Normal 0 fresh) ∷ [];
+      want = saw 0 [] [] (onItsOwn Normal 0 fresh) ∷ saw 2 [] [] (onItsOwn Normal 0 fresh) ∷ saw 3 [] [] (onItsOwn Normal 0 fresh) ∷ [];
     }
 
 -- n=2: 1.
@@ -133,9 +133,9 @@ full =
       calls = gets request70 ∷ gets request71 ∷ gets request70 ∷ gets prepareOk1 ∷ gets request71 ∷ gets request80 ∷ gets request70 ∷ [];
       want =
           saw 0 [] [] (state (place Normal 0 0 false) (book [] 0 [] [] zeros8 []) (votes (0 ∷ []) 0 false) bare3 fresh)
-          ∷ saw 0 prepares [] (asked (1 ∷ []) fresh)
-          ∷ saw 4 [] [] (asked (1 ∷ []) fresh)
-          ∷ saw 0 [] [] (asked (1 ∷ []) fresh)
+          ∷ saw 0 prepares [] (askedOnce (1 ∷ []) fresh)
+          ∷ saw 4 [] [] (askedOnce (1 ∷ []) fresh)
+          ∷ saw 0 [] [] (askedOnce (1 ∷ []) fresh)
           ∷ saw 0 [] theReply (paid (0 ∷ []) fresh)
           ∷ saw 4 [] [] (paid (0 ∷ []) fresh)
           ∷ saw 4 [] [] (paid (0 ∷ []) fresh)
@@ -151,7 +151,7 @@ again =
       start = new;
       calls = gets prepare1 ∷ gets prepare2 ∷ [];
       want =
-          saw 0 [] [] (alone Normal 0 fresh) ∷ saw 0 prepareOk1 [] (asked zeros8 fresh) ∷ saw 6 [] [] (asked zeros8 fresh) ∷ [];
+          saw 0 [] [] (onItsOwn Normal 0 fresh) ∷ saw 0 prepareOk1 [] (askedOnce zeros8 fresh) ∷ saw 6 [] [] (askedOnce zeros8 fresh) ∷ [];
     }
 
 -- Area one byte short for the first example: 9; at exactly 30 bytes: done.
@@ -161,7 +161,7 @@ short =
       setup = setup 3 0 3 8;
       start = new;
       calls = idleIn 29 ∷ idleIn 30 ∷ [];
-      want = saw 0 [] [] (alone Normal 0 fresh) ∷ saw 9 [] [] (alone Normal 0 fresh) ∷ saw 0 heartbeats [] (alone Normal 0 once) ∷ [];
+      want = saw 0 [] [] (onItsOwn Normal 0 fresh) ∷ saw 9 [] [] (onItsOwn Normal 0 fresh) ∷ saw 0 heartbeats [] (onItsOwn Normal 0 once) ∷ [];
     }
 
 unfoldable pub marked : List Example

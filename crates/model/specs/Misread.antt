@@ -7,10 +7,10 @@ use Rattle.fees.specs.Fees.{gives}
 use Rattle.clock.specs.Clock.{clock}
 use Rattle.frames.specs.declared.Status.the-variants.{Normal, ViewChange}
 use Rattle.model.specs.State.{State}
-use Rattle.model.specs.Examples.{setup, place, book, row, votes, state}
+use Rattle.model.specs.Examples.{setup, place, book, tableRow, votes, state}
 use Rattle.model.specs.Examples.Start.{new}
 use Rattle.model.specs.Examples.Event.{idle, gets}
-use Rattle.model.specs.Directed.{Directed, step, fee, A, B, C, requestTo, prepareTo, prepareOkTo, commitTo, getStateTo, newStateTo, callTo, reportTo}
+use Rattle.model.specs.Directed.{Directed, step, fee, A, B, C, requestFrameTo, prepareTo, prepareOkTo, commitTo, getStateTo, newStateTo, callTo, reportFrameTo}
 use Rattle.model.specs.Directed.{startViewTo, paidReply, totals3, untouched, noneStored, acks2}
 
 -- "Chosen log: greatest (last normal view, length); on a tie the highest replica id": 2's B, though 0's A came later.
@@ -20,11 +20,11 @@ tie =
       setup = setup 3 1 3 8;
       start = new;
       steps =
-          step (gets (reportTo 1 1 2 0 0 (B ∷ []))) 0 (callTo 0 1 1 ++ callTo 2 1 1) []
-          ∷ step (gets (reportTo 1 1 0 0 0 (A ∷ []))) 0 (startViewTo 0 1 0 (B ∷ []) ++ startViewTo 2 1 0 (B ∷ [])) []
+          step (gets (reportFrameTo 1 1 2 0 0 (B ∷ []))) 0 (callTo 0 1 1 ++ callTo 2 1 1) []
+          ∷ step (gets (reportFrameTo 1 1 0 0 0 (A ∷ []))) 0 (startViewTo 0 1 0 (B ∷ []) ++ startViewTo 2 1 0 (B ∷ [])) []
           ∷ [];
       last =
-          state (place Normal 1 1 false) (untouched (B ∷ []) (row 2 0 none ∷ [])) (votes (acks2 2 0) 0 false) (noneStored 3 0)
+          state (place Normal 1 1 false) (untouched (B ∷ []) (tableRow 2 0 none ∷ [])) (votes (acks2 2 0) 0 false) (noneStored 3 0)
           (clock true 0 0 0);
     }
 
@@ -35,11 +35,11 @@ tieBack =
       setup = setup 3 1 3 8;
       start = new;
       steps =
-          step (gets (reportTo 1 1 0 0 0 (A ∷ []))) 0 (callTo 0 1 1 ++ callTo 2 1 1) []
-          ∷ step (gets (reportTo 1 1 2 0 0 (B ∷ []))) 0 (startViewTo 0 1 0 (B ∷ []) ++ startViewTo 2 1 0 (B ∷ [])) []
+          step (gets (reportFrameTo 1 1 0 0 0 (A ∷ []))) 0 (callTo 0 1 1 ++ callTo 2 1 1) []
+          ∷ step (gets (reportFrameTo 1 1 2 0 0 (B ∷ []))) 0 (startViewTo 0 1 0 (B ∷ []) ++ startViewTo 2 1 0 (B ∷ [])) []
           ∷ [];
       last =
-          state (place Normal 1 1 false) (untouched (B ∷ []) (row 2 0 none ∷ [])) (votes (acks2 2 0) 0 false) (noneStored 3 0)
+          state (place Normal 1 1 false) (untouched (B ∷ []) (tableRow 2 0 none ∷ [])) (votes (acks2 2 0) 0 false) (noneStored 3 0)
           (clock true 0 0 0);
     }
 
@@ -50,11 +50,11 @@ viewFirst =
       setup = setup 3 1 3 8;
       start = new;
       steps =
-          step (gets (reportTo 1 4 0 1 0 (A ∷ []))) 0 (callTo 0 4 1 ++ callTo 2 4 1) []
-          ∷ step (gets (reportTo 1 4 2 0 0 (B ∷ C ∷ []))) 0 (startViewTo 0 4 0 (A ∷ []) ++ startViewTo 2 4 0 (A ∷ [])) []
+          step (gets (reportFrameTo 1 4 0 1 0 (A ∷ []))) 0 (callTo 0 4 1 ++ callTo 2 4 1) []
+          ∷ step (gets (reportFrameTo 1 4 2 0 0 (B ∷ C ∷ []))) 0 (startViewTo 0 4 0 (A ∷ []) ++ startViewTo 2 4 0 (A ∷ [])) []
           ∷ [];
       last =
-          state (place Normal 4 4 false) (untouched (A ∷ []) (row 1 0 none ∷ [])) (votes (acks2 2 0) 0 false) (noneStored 3 0)
+          state (place Normal 4 4 false) (untouched (A ∷ []) (tableRow 1 0 none ∷ [])) (votes (acks2 2 0) 0 false) (noneStored 3 0)
           (clock true 0 0 0);
     }
 
@@ -65,12 +65,12 @@ greatest =
       setup = setup 3 1 3 8;
       start = new;
       steps =
-          step (gets (reportTo 1 1 0 0 1 (A ∷ []))) 0 (callTo 0 1 1 ++ callTo 2 1 1) []
-          ∷ step (gets (reportTo 1 1 2 0 0 (A ∷ B ∷ []))) 0 (startViewTo 0 1 1 (A ∷ B ∷ []) ++ startViewTo 2 1 1 (A ∷ B ∷ [])) (paidReply 1 1 0 10)
+          step (gets (reportFrameTo 1 1 0 0 1 (A ∷ []))) 0 (callTo 0 1 1 ++ callTo 2 1 1) []
+          ∷ step (gets (reportFrameTo 1 1 2 0 0 (A ∷ B ∷ []))) 0 (startViewTo 0 1 1 (A ∷ B ∷ []) ++ startViewTo 2 1 1 (A ∷ B ∷ [])) (paidReply 1 1 0 10)
           ∷ [];
       last =
           state (place Normal 1 1 false)
-          (book (A ∷ B ∷ []) 1 (gives 1 10 ∷ []) (row 1 0 (some (gives 1 10)) ∷ row 2 0 none ∷ []) (totals3 10) (A ∷ []))
+          (book (A ∷ B ∷ []) 1 (gives 1 10 ∷ []) (tableRow 1 0 (some (gives 1 10)) ∷ tableRow 2 0 none ∷ []) (totals3 10) (A ∷ []))
           (votes (acks2 0 2) 0 false) (noneStored 3 0) (clock true 0 0 0);
     }
 
@@ -101,7 +101,7 @@ excess =
           ∷ [];
       last =
           state (place Normal 0 0 false)
-          (book (A ∷ B ∷ []) 1 (gives 1 10 ∷ []) (row 1 0 (some (gives 1 10)) ∷ row 2 0 none ∷ []) (totals3 10) (A ∷ []))
+          (book (A ∷ B ∷ []) 1 (gives 1 10 ∷ []) (tableRow 1 0 (some (gives 1 10)) ∷ tableRow 2 0 none ∷ []) (totals3 10) (A ∷ []))
           (votes (acks2 0 0) 0 false) (noneStored 3 0) (clock true 0 0 0);
     }
 
@@ -119,24 +119,24 @@ catchesUp =
           ∷ [];
       last =
           state (place Normal 2 2 false)
-          (book (B ∷ []) 1 (gives 1 20 ∷ []) (row 2 0 (some (gives 1 20)) ∷ []) (totals3 20) (B ∷ []))
+          (book (B ∷ []) 1 (gives 1 20 ∷ []) (tableRow 2 0 (some (gives 1 20)) ∷ []) (totals3 20) (B ∷ []))
           (votes (acks2 0 0) 0 false) (noneStored 3 0) (clock true 0 0 0);
     }
 
 -- "A re-sent Prepare isn't compared with our entry; commits go to the smaller of its commit and our op number."
-unfoldable pub resent : Directed
-resent =
+unfoldable pub resentAgain : Directed
+resentAgain =
     record {
       setup = setup 3 1 3 8;
       start = new;
       steps = step (gets (prepareTo 1 0 1 0 A)) 0 (prepareOkTo 0 0 1 1) [] ∷ step (gets (prepareTo 1 0 1 7 B)) 0 (prepareOkTo 0 0 1 1) [] ∷ [];
       last =
           state (place Normal 0 0 false)
-          (book (A ∷ []) 1 (gives 1 10 ∷ []) (row 1 0 (some (gives 1 10)) ∷ []) (totals3 10) (A ∷ []))
+          (book (A ∷ []) 1 (gives 1 10 ∷ []) (tableRow 1 0 (some (gives 1 10)) ∷ []) (totals3 10) (A ∷ []))
           (votes (acks2 0 0) 0 false) (noneStored 3 0) (clock true 0 0 0);
     }
 
--- "install_log keeps a remembered reply only for a committed entry whose number equals the old row's": the old row has number 6, so the reply to
+-- "install_log keeps a remembered reply only for a committed entry whose number equals the old row's": the old tableRow has number 6, so the reply to
 -- number 5 is lost, for ever.
 unfoldable pub lostReply : Directed
 lostReply =
@@ -147,11 +147,11 @@ lostReply =
           step (gets (prepareTo 1 0 1 0 (fee 1 5 10))) 0 (prepareOkTo 0 0 1 1) []
           ∷ step (gets (prepareTo 1 0 2 1 (fee 1 6 10))) 0 (prepareOkTo 0 0 2 1) []
           ∷ step (gets (startViewTo 1 1 1 (fee 1 5 10 ∷ []))) 0 (prepareOkTo 1 1 1 1) []
-          ∷ step (gets (requestTo 1 (fee 1 5 10))) 0 [] []
+          ∷ step (gets (requestFrameTo 1 (fee 1 5 10))) 0 [] []
           ∷ [];
       last =
           state (place Normal 1 1 false)
-          (book (fee 1 5 10 ∷ []) 1 (gives 1 10 ∷ []) (row 1 5 none ∷ []) (totals3 10) (fee 1 5 10 ∷ []))
+          (book (fee 1 5 10 ∷ []) 1 (gives 1 10 ∷ []) (tableRow 1 5 none ∷ []) (totals3 10) (fee 1 5 10 ∷ []))
           (votes (acks2 0 0) 0 false) (noneStored 3 0) (clock true 0 0 0);
     }
 
@@ -165,12 +165,12 @@ keptReply =
           step (gets (prepareTo 1 0 1 0 A)) 0 (prepareOkTo 0 0 1 1) []
           ∷ step (gets (prepareTo 1 0 2 1 B)) 0 (prepareOkTo 0 0 2 1) []
           ∷ step (gets (startViewTo 1 1 1 (A ∷ B ∷ []))) 0 (prepareOkTo 1 1 2 1) []
-          ∷ step (gets (requestTo 1 A)) 0 [] (paidReply 1 1 0 10)
+          ∷ step (gets (requestFrameTo 1 A)) 0 [] (paidReply 1 1 0 10)
           ∷ step (gets (startViewTo 1 2 1 (A ∷ fee 1 1 5 ∷ []))) 0 (prepareOkTo 2 2 2 1) []
           ∷ [];
       last =
           state (place Normal 2 2 false)
-          (book (A ∷ fee 1 1 5 ∷ []) 1 (gives 1 10 ∷ []) (row 1 1 none ∷ []) (totals3 10) (A ∷ []))
+          (book (A ∷ fee 1 1 5 ∷ []) 1 (gives 1 10 ∷ []) (tableRow 1 1 none ∷ []) (totals3 10) (A ∷ []))
           (votes (acks2 0 0) 0 false) (noneStored 3 0) (clock true 0 0 0);
     }
 
@@ -181,7 +181,7 @@ oldAcks =
       setup = setup 3 0 3 8;
       start = new;
       steps =
-          step (gets (requestTo 0 A)) 0 (prepareTo 1 0 1 0 A ++ prepareTo 2 0 1 0 A) []
+          step (gets (requestFrameTo 0 A)) 0 (prepareTo 1 0 1 0 A ++ prepareTo 2 0 1 0 A) []
           ∷ step (gets (commitTo 0 3 0)) 0 (getStateTo 0 0 3 0) []
           ∷ step (gets (newStateTo 0 3 0 0 0 [])) 0 (prepareOkTo 0 3 0 0) []
           ∷ step (gets (prepareOkTo 0 3 1 1)) 5 [] []
@@ -198,21 +198,21 @@ exactly =
       setup = setup 3 0 3 8;
       start = new;
       steps =
-          step (gets (requestTo 0 A)) 0 (prepareTo 1 0 1 0 A ++ prepareTo 2 0 1 0 A) []
-          ∷ step (gets (requestTo 0 B)) 0 (prepareTo 1 0 2 0 B ++ prepareTo 2 0 2 0 B) []
+          step (gets (requestFrameTo 0 A)) 0 (prepareTo 1 0 1 0 A ++ prepareTo 2 0 1 0 A) []
+          ∷ step (gets (requestFrameTo 0 B)) 0 (prepareTo 1 0 2 0 B ++ prepareTo 2 0 2 0 B) []
           ∷ step (gets (prepareOkTo 0 0 2 0)) 0 [] []
           ∷ step (gets (prepareOkTo 0 0 2 2)) 0 [] (paidReply 0 1 0 10 ++ paidReply 0 2 0 30)
           ∷ step (gets (prepareOkTo 0 0 1 2)) 0 [] []
           ∷ [];
       last =
           state (place Normal 0 0 false)
-          (book (A ∷ B ∷ []) 2 (gives 1 10 ∷ gives 1 30 ∷ []) (row 1 0 (some (gives 1 10)) ∷ row 2 0 (some (gives 1 30)) ∷ []) (totals3 30) (A ∷ B ∷ []))
+          (book (A ∷ B ∷ []) 2 (gives 1 10 ∷ gives 1 30 ∷ []) (tableRow 1 0 (some (gives 1 10)) ∷ tableRow 2 0 (some (gives 1 30)) ∷ []) (totals3 30) (A ∷ B ∷ []))
           (votes (acks2 0 0) 0 false) (noneStored 3 0) (clock true 0 0 0);
     }
 
 -- "A StateTransfer tick sends GetState first and may then start a view change in the same tick." T=1.
-unfoldable pub transferTick : Directed
-transferTick =
+unfoldable pub transferTicks : Directed
+transferTicks =
     record {
       setup = setup 3 1 1 8;
       start = new;
@@ -253,7 +253,7 @@ halfAsks =
       steps =
           step (gets (callTo 2 1 2)) 0 (callTo 0 1 2 ++ callTo 1 1 2 ++ callTo 3 1 2 ++ callTo 4 1 2) []
           ∷ step (gets (callTo 2 1 2)) 0 [] []
-          ∷ step (gets (callTo 2 1 0)) 0 (reportTo 1 1 2 0 0 []) []
+          ∷ step (gets (callTo 2 1 0)) 0 (reportFrameTo 1 1 2 0 0 []) []
           ∷ step (gets (callTo 2 1 3)) 0 [] []
           ∷ [];
       last =
@@ -263,11 +263,11 @@ halfAsks =
 -- a primary of 5 whose op 1 isn't committed, with this set of acks
 unfoldable pub fourAcked : ℕ → State
 fourAcked acks =
-    state (place Normal 0 0 false) (untouched (A ∷ []) (row 1 0 none ∷ [])) (votes (acks2 acks 0) 0 false) (noneStored 5 0)
+    state (place Normal 0 0 false) (untouched (A ∷ []) (tableRow 1 0 none ∷ [])) (votes (acks2 acks 0) 0 false) (noneStored 5 0)
     (clock true 0 0 0)
 
 -- all of them
 unfoldable pub misread : List Directed
 misread =
-    tie ∷ tieBack ∷ viewFirst ∷ greatest ∷ heardInNormal ∷ excess ∷ catchesUp ∷ resent ∷ lostReply ∷ keptReply ∷ oldAcks ∷ exactly
-    ∷ transferTick ∷ doubled ∷ halfAsks ∷ []
+    tie ∷ tieBack ∷ viewFirst ∷ greatest ∷ heardInNormal ∷ excess ∷ catchesUp ∷ resentAgain ∷ lostReply ∷ keptReply ∷ oldAcks ∷ exactly
+    ∷ transferTicks ∷ doubled ∷ halfAsks ∷ []

@@ -18,18 +18,18 @@ use Rattle.frames.specs.declared.Status.the-variants.{Normal, StateTransfer}
 use Rattle.state.specs.Statuses.{isNormal, isTransfer, isChanging}
 use Rattle.model.specs.State.{State, Answer}
 use Rattle.model.specs.State.Answer.{refused, done}
-use Rattle.model.specs.State.{ignored, withBook, withClock, withStatus, withAcks, opOf}
+use Rattle.model.specs.State.{ignored, setBook, setClock, setStatus, setAcks, opOf}
 use Rattle.model.specs.Book.{find, append, appendAll, commitUpTo, commitReplies, install}
 use Rattle.model.specs.Sending.{isPrimary, sendPrepare, sendPrepareOk, sendGetState, sendNewState}
 use Rattle.model.specs.ViewChange.{ownVote, enterNormal, catchUpWithView}
 
 -- heard_from_primary
-unfoldable pub heardBy : State → State
-heardBy m = withClock m (heardOf (m .clock) .clock)
+unfoldable pub heardFromPrimary : State → State
+heardFromPrimary m = setClock m (heardOf (m .clock) .clock)
 
 -- commit_up_to
 unfoldable pub committed : State → ℕ → State
-committed m k = withBook m (commitUpTo (m .book) k)
+committed m k = setBook m (commitUpTo (m .book) k)
 
 -- Request of the client's latest number: the reply again, with the current view, if there is one
 unfoldable pub resend : State → Entry → Option Outcome → Answer
@@ -42,7 +42,7 @@ ackRow m o = getD (m .votes .acks) (o - 1) 0
 
 -- acks.get_mut(op).insert: the acks of op o with r among them
 unfoldable pub acked : State → ℕ → ℕ → State
-acked m o r = withAcks m (set (m .votes .acks) (o - 1) (withMember (ackRow m o) r))
+acked m o r = setAcks m (set (m .votes .acks) (o - 1) (withMember (ackRow m o) r))
 
 -- acks.retain: the rows of ops 1 to o go, later ones stay
 unfoldable pub blanked : ℕ → List ℕ → List ℕ
@@ -50,7 +50,7 @@ blanked o acks = replicate o 0 ++ drop o acks
 
 -- on_new_state in StateTransfer: the excess is appended; acks stay (document 01)
 unfoldable pub filledGap : State → ℕ → List Entry → State
-filledGap m c es = withStatus (withBook (heardBy m) (commitUpTo (appendAll (m .book) es) c)) Normal
+filledGap m c es = setStatus (setBook (heardFromPrimary m) (commitUpTo (appendAll (m .book) es) c)) Normal
 
 -- our committed entries, then those given
 unfoldable pub committedThen : State → List Entry → List Entry
@@ -59,7 +59,7 @@ committedThen m es = take (m .book .commit) (m .book .log) ++ es
 module _ (u : Setup) where
   -- on_request, its last part: the entry is appended, and acknowledged by ourselves
   unfoldable pub accepted : State → Entry → State
-  accepted m e = withAcks (withBook m (append (m .book) e)) (set (m .votes .acks) (opOf m) (ownVote u))
+  accepted m e = setAcks (setBook m (append (m .book) e)) (set (m .votes .acks) (opOf m) (ownVote u))
 
   -- on_request: an older number is dropped, the latest one answered again, a new one appended. 4: the log has L entries; 6: it would not rise.
   unfoldable pub onRequest : State → Entry → Answer
@@ -77,13 +77,13 @@ module _ (u : Setup) where
   acceptFromPrimary m v rest =
       if ltb v (m .place .view) then ignored m else
       if ltb (m .place .view) v then catchUpWithView u m v else
-      if isChanging (m .place .status) then catchUpWithView u (heardBy m) v else
+      if isChanging (m .place .status) then catchUpWithView u (heardFromPrimary m) v else
       if isNormal (m .place .status) and not (isPrimary u m) then rest else
-      ignored (heardBy m)
+      ignored (heardFromPrimary m)
 
   -- state_transfer: within a view only the primary is asked; the paper asks any replica
   unfoldable pub stateTransfer : State → Answer
-  stateTransfer m = done (withStatus m StateTransfer) (sendGetState u m (opOf m)) []
+  stateTransfer m = done (setStatus m StateTransfer) (sendGetState u m (opOf m)) []
 
   -- on_prepare, its last part: commit to the smaller of c and our op number, and acknowledge our op number
   unfoldable pub prepared : State → ℕ → Answer
@@ -92,11 +92,11 @@ module _ (u : Setup) where
   -- the next op is appended; an earlier one is a re-sent Prepare, not compared with our entry
   unfoldable pub takePrepare : State → (op commit : ℕ) → Entry → Answer
   takePrepare m o c e =
-      if ltb (opOf m + 1) o then stateTransfer (heardBy m) else
-      if not (eqb o (opOf m + 1)) then prepared (heardBy m) c else
+      if ltb (opOf m + 1) o then stateTransfer (heardFromPrimary m) else
+      if not (eqb o (opOf m + 1)) then prepared (heardFromPrimary m) c else
       if leb (u .room) (opOf m) then refused 4 else
       if not (rising (m .book .log ++ (e ∷ []))) then refused 6 else
-      prepared (withBook (heardBy m) (append (m .book) e)) c
+      prepared (setBook (heardFromPrimary m) (append (m .book) e)) c
 
   -- on_prepare
   unfoldable pub onPrepare : State → (view op commit : ℕ) → Entry → Answer
@@ -105,8 +105,8 @@ module _ (u : Setup) where
   -- on_commit, its last part
   unfoldable pub takeCommit : State → ℕ → Answer
   takeCommit m c =
-      if ltb (opOf m) c then stateTransfer (heardBy m) else
-      done (committed (heardBy m) c) [] []
+      if ltb (opOf m) c then stateTransfer (heardFromPrimary m) else
+      done (committed (heardFromPrimary m) c) [] []
 
   -- on_commit: c is bounded by nothing
   unfoldable pub onCommit : State → (view commit : ℕ) → Answer
@@ -121,7 +121,7 @@ module _ (u : Setup) where
       if eqb (ackRow m o) 0 or eqb (bit (ackRow m o) r) 1 then ignored m else
       if not (eqb (ones (withMember (ackRow m o) r)) (quorumOf (u .n))) then ignored (acked m o r) else
       if ltb (opOf m) o then refused 5 else
-      done (withAcks (committed m o) (blanked o (m .votes .acks))) [] (commitReplies v (m .book) o)
+      done (setAcks (committed m o) (blanked o (m .votes .acks))) [] (commitReplies v (m .book) o)
 
   -- on_get_state
   unfoldable pub onGetState : State → (sender view op : ℕ) → Answer
@@ -132,7 +132,7 @@ module _ (u : Setup) where
   -- on_new_state in StateTransfer: it must start at or before our log's end and end beyond it
   unfoldable pub fillGap : State → (start end commit : ℕ) → List Entry → Answer
   fillGap m a z c es =
-      if ltb (opOf m) a or leb z (opOf m) then ignored (heardBy m) else
+      if ltb (opOf m) a or leb z (opOf m) then ignored (heardFromPrimary m) else
       if not (rising (m .book .log ++ drop (opOf m - a) es)) then refused 6 else
       done (filledGap m c (drop (opOf m - a) es)) (sendPrepareOk u (filledGap m c (drop (opOf m - a) es))) []
 
@@ -143,7 +143,7 @@ module _ (u : Setup) where
   -- on_new_state, catching up: it must start exactly at our commit number. 6: the log would not rise.
   unfoldable pub catchUp : State → (start commit : ℕ) → List Entry → Answer
   catchUp m a c es =
-      if not (eqb a (m .book .commit)) then ignored (heardBy m) else
+      if not (eqb a (m .book .commit)) then ignored (heardFromPrimary m) else
       if not (rising (committedThen m es)) then refused 6 else
       done (caughtUp m c es) (sendPrepareOk u (caughtUp m c es)) []
 
@@ -153,4 +153,4 @@ module _ (u : Setup) where
       if not (eqb v (m .place .view)) then ignored m else
       if isTransfer (m .place .status) then fillGap m a z c es else
       if isChanging (m .place .status) and m .place .catchingUp then catchUp m a c es else
-      ignored (heardBy m)
+      ignored (heardFromPrimary m)

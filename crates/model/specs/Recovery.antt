@@ -11,7 +11,7 @@ use Rattle.config.specs.declared.Setup.{Setup}
 use Rattle.state.specs.Statuses.{isNormal}
 use Rattle.model.specs.State.{Held, Response, State, Answer}
 use Rattle.model.specs.State.Answer.{refused, done}
-use Rattle.model.specs.State.{ignored, withStore}
+use Rattle.model.specs.State.{ignored, setStore}
 use Rattle.model.specs.Book.{commitUpTo, install, agree}
 use Rattle.model.specs.Sending.{primary, sendRecoveryResponse}
 use Rattle.model.specs.ViewChange.{filled, enterNormal, startViewChange}
@@ -25,7 +25,7 @@ latestView (some a ∷ xs) = max (a .view) (latestView xs)
 -- recovery_responses.insert: a later response of a sender replaces an earlier one, even with a lower view
 unfoldable pub noted : State → ℕ → Response → State
 noted m r d =
-    withStore m
+    setStore m
     (record { reports = m .store .reports; responses = set (m .store .responses) r (some d); nonce = m .store .nonce })
 
 module _ (u : Setup) where
@@ -35,7 +35,7 @@ module _ (u : Setup) where
 
   -- recovery_responses.clear
   unfoldable pub forgotten : State → State
-  forgotten m = withStore m (record { reports = m .store .reports; responses = noResponses; nonce = m .store .nonce })
+  forgotten m = setStore m (record { reports = m .store .reports; responses = noResponses; nonce = m .store .nonce })
 
   -- on_recovery. The Rust's Recovery carries the sender's view, the paper's doesn't: a later one starts the view change, answers nothing and
   -- doesn't count its sender.

@@ -22,7 +22,7 @@ abbrev pub opNumber : ℕ → Op
 opNumber n = record { 0 = n }
 
 -- A row of the client table, the Rust's `ClientEntry` with its key: the client's latest request, and the reply once it was executed.
-pub record Row : Type 0 where
+pub record ClientEntry : Type 0 where
   pub client : ℕ
   pub request : ℕ
   pub kept : Option Outcome
@@ -41,7 +41,7 @@ pub record Book : Type 0 where
   pub log : List Entry
   pub commit : ℕ
   pub results : List Outcome
-  pub table : List Row
+  pub table : List ClientEntry
   pub totals : List ℕ
   pub applied : List Entry
 
@@ -58,7 +58,7 @@ pub record Held : Type 0 where
   pub log : List Entry
 
 -- what a replica reported in a DoViewChange: the Rust's `struct DoViewChange`
-pub record Report : Type 0 where
+pub record Reported : Type 0 where
   pub lastNormal : ℕ
   pub held : Held
 
@@ -69,7 +69,7 @@ pub record Response : Type 0 where
 
 -- `do_view_change_from` and `recovery_responses`, one place for each replica id; `recovery_nonce`
 pub record Store : Type 0 where
-  pub reports : List (Option Report)
+  pub reports : List (Option Reported)
   pub responses : List (Option Response)
   pub nonce : ℕ
 
@@ -110,33 +110,33 @@ unfoldable pub ignored : State → Answer
 ignored m = done m [] []
 
 -- One part of the state anew, the others as they are: another place.
-unfoldable pub withPlace : State → Place → State
-withPlace m p = record { place = p; book = m .book; votes = m .votes; store = m .store; clock = m .clock }
+unfoldable pub setPlace : State → Place → State
+setPlace m p = record { place = p; book = m .book; votes = m .votes; store = m .store; clock = m .clock }
 
 -- another book
-unfoldable pub withBook : State → Book → State
-withBook m b = record { place = m .place; book = b; votes = m .votes; store = m .store; clock = m .clock }
+unfoldable pub setBook : State → Book → State
+setBook m b = record { place = m .place; book = b; votes = m .votes; store = m .store; clock = m .clock }
 
 -- other votes
-unfoldable pub withVotes : State → Votes → State
-withVotes m v = record { place = m .place; book = m .book; votes = v; store = m .store; clock = m .clock }
+unfoldable pub setVotes : State → Votes → State
+setVotes m v = record { place = m .place; book = m .book; votes = v; store = m .store; clock = m .clock }
 
 -- another store
-unfoldable pub withStore : State → Store → State
-withStore m t = record { place = m .place; book = m .book; votes = m .votes; store = t; clock = m .clock }
+unfoldable pub setStore : State → Store → State
+setStore m t = record { place = m .place; book = m .book; votes = m .votes; store = t; clock = m .clock }
 
 -- another clock
-unfoldable pub withClock : State → Clock → State
-withClock m c = record { place = m .place; book = m .book; votes = m .votes; store = m .store; clock = c }
+unfoldable pub setClock : State → Clock → State
+setClock m c = record { place = m .place; book = m .book; votes = m .votes; store = m .store; clock = c }
 
 -- another status in the same place
-unfoldable pub withStatus : State → Status → State
-withStatus m s =
-    withPlace m (record { status = s; view = m .place .view; lastNormal = m .place .lastNormal; catchingUp = m .place .catchingUp })
+unfoldable pub setStatus : State → Status → State
+setStatus m s =
+    setPlace m (record { status = s; view = m .place .view; lastNormal = m .place .lastNormal; catchingUp = m .place .catchingUp })
 
 -- other acks among the votes
-unfoldable pub withAcks : State → List ℕ → State
-withAcks m a = withVotes m (record { acks = a; starts = m .votes .starts; sent = m .votes .sent })
+unfoldable pub setAcks : State → List ℕ → State
+setAcks m a = setVotes m (record { acks = a; starts = m .votes .starts; sent = m .votes .sent })
 
 -- op_number: how many entries the log has
 unfoldable pub opOf : State → ℕ

@@ -27,9 +27,9 @@ use Rattle.frames.specs.declared.Checked.{Checked}
 use Rattle.frames.specs.declared.Checked.the-variants.{Passed, Refused}
 use Rattle.writers.specs.Writers.{sizeOf}
 use Rattle.state.specs.Statuses.{isNormal, isTransfer, isChanging}
-use Rattle.model.specs.State.{Held, Report, Response, State, Sent, Answer}
+use Rattle.model.specs.State.{Held, Reported, Response, State, Sent, Answer}
 use Rattle.model.specs.State.Answer.{refused, done}
-use Rattle.model.specs.State.{ignored, withClock, opOf}
+use Rattle.model.specs.State.{ignored, setClock, opOf}
 use Rattle.model.specs.Book.{emptyBook}
 use Rattle.model.specs.Sending.{isPrimary, messagesOut, repliesOut, sendPrepares, sendCommit, sendGetState, sendStartViewChange, sendRecovery}
 use Rattle.model.specs.Normal.{onRequest, onPrepare, onPrepareOk, onCommit, onGetState, onNewState}
@@ -58,10 +58,10 @@ unfoldable pub heldOk : ℕ → Held → Bool
 heldOk L h = leb (h .commit) (length (h .log)) and leb (length (h .log)) L
 
 -- of each stored DoViewChange
-unfoldable pub reportsOk : ℕ → List (Option Report) → Bool
-reportsOk L [] = true
-reportsOk L (none ∷ xs) = reportsOk L xs
-reportsOk L (some d ∷ xs) = heldOk L (d .held) and reportsOk L xs
+unfoldable pub reportedOk : ℕ → List (Option Reported) → Bool
+reportedOk L [] = true
+reportedOk L (none ∷ xs) = reportedOk L xs
+reportedOk L (some d ∷ xs) = heldOk L (d .held) and reportedOk L xs
 
 -- of a stored state, where there is one
 unfoldable pub heldOkIn : ℕ → Option Held → Bool
@@ -76,10 +76,10 @@ responsesOk L (some d ∷ xs) = heldOkIn L (d .held) and responsesOk L xs
 
 module _ (u : Setup) where
   -- refusal 1 is given exactly where this is false, or a lent buffer has another length (the model has no buffers)
-  unfoldable pub stateOk : State → Bool
-  stateOk m =
+  unfoldable pub numbersOk : State → Bool
+  numbersOk m =
       setupOk u and leb (m .book .commit) (opOf m) and leb (opOf m) (u .room)
-      and reportsOk (u .room) (m .store .reports) and responsesOk (u .room) (m .store .responses)
+      and reportedOk (u .room) (m .store .reports) and responsesOk (u .room) (m .store .responses)
 
   -- on_message, its match
   unfoldable pub onMessage : State → Message → List Entry → Answer
@@ -106,7 +106,7 @@ module _ (u : Setup) where
   unfoldable pub primaryTick : State → Answer
   primaryTick m =
       done
-      (withClock m (tickOf (u .timeout) Lead (m .clock) .clock))
+      (setClock m (tickOf (u .timeout) Lead (m .clock) .clock))
       (sendCommit u m ++ sendPrepares u m (m .book .commit + 1) (drop (m .book .commit) (m .book .log)))
       []
 
@@ -119,16 +119,16 @@ module _ (u : Setup) where
   -- a Normal backup's, and StateTransfer's, which sends its GetState first; t is the clock's tick
   unfoldable pub followTick : State → Ticked → List Sent → Answer
   followTick m t out =
-      if t .up then nextView (withClock m (t .clock)) out else
-      done (withClock m (t .clock)) out []
+      if t .up then nextView (setClock m (t .clock)) out else
+      done (setClock m (t .clock)) out []
 
   -- ViewChange's: a primary-to-be that sent its DoViewChange records its own again
   unfoldable pub changeTick : State → Ticked → Answer
   changeTick m t =
-      if t .up then nextView (withClock m (t .clock)) [] else
-      if m .place .catchingUp then done (withClock m (t .clock)) (sendGetState u m (m .book .commit)) [] else
-      if m .votes .sent then sendDoViewChange u (withClock m (t .clock)) (sendStartViewChange u (m .place .view)) else
-      done (withClock m (t .clock)) (sendStartViewChange u (m .place .view)) []
+      if t .up then nextView (setClock m (t .clock)) [] else
+      if m .place .catchingUp then done (setClock m (t .clock)) (sendGetState u m (m .book .commit)) [] else
+      if m .votes .sent then sendDoViewChange u (setClock m (t .clock)) (sendStartViewChange u (m .place .view)) else
+      done (setClock m (t .clock)) (sendStartViewChange u (m .place .view)) []
 
   -- on_idle. A Recovering tick leaves the clock alone.
   unfoldable pub onIdle : State → Answer
@@ -141,11 +141,11 @@ module _ (u : Setup) where
 
   -- The outside calls, with the sizes of the two areas lent.
   unfoldable pub onFrame : State → List ℕ → (room roomReplies : ℕ) → Answer
-  onFrame m frame a b = if not (stateOk m) then refused 1 else fitted a b (onChecked m frame (checkFrame u frame))
+  onFrame m frame a b = if not (numbersOk m) then refused 1 else fitted a b (onChecked m frame (checkFrame u frame))
 
   -- a tick
   unfoldable pub onTick : State → (room roomReplies : ℕ) → Answer
-  onTick m a b = if not (stateOk m) then refused 1 else fitted a b (onIdle m)
+  onTick m a b = if not (numbersOk m) then refused 1 else fitted a b (onIdle m)
 
   -- a new replica, in a view with a nonce
   unfoldable pub newAt : Status → (view nonce : ℕ) → State

@@ -6,10 +6,10 @@ use Rattle.fees.specs.Fees.{gives}
 use Rattle.clock.specs.Clock.{clock}
 use Rattle.frames.specs.declared.Status.the-variants.{Normal, StateTransfer, ViewChange, Recovering}
 use Rattle.entries.specs.declared.Entry.{Entry}
-use Rattle.model.specs.Examples.{setup, place, book, row, votes, store, state}
+use Rattle.model.specs.Examples.{setup, place, book, tableRow, votes, store, state}
 use Rattle.model.specs.Examples.Start.{new, back}
 use Rattle.model.specs.Examples.Event.{idle, gets}
-use Rattle.model.specs.Directed.{Directed, step, fee, A, B, C, requestTo, prepareTo, prepareOkTo, commitTo, getStateTo, newStateTo, callTo, reportTo}
+use Rattle.model.specs.Directed.{Directed, step, fee, A, B, C, requestFrameTo, prepareTo, prepareOkTo, commitTo, getStateTo, newStateTo, callTo, reportFrameTo}
 use Rattle.model.specs.Directed.{startViewTo, recoveryTo, bareResponseTo, responseTo, paidReply, totals3, untouched, noneStored, acks2}
 
 -- At a quorum the greatest c passes the chosen log: 7, and the DoViewChange isn't stored.
@@ -19,13 +19,13 @@ pastChosen =
       setup = setup 3 1 3 8;
       start = new;
       steps =
-          step (gets (reportTo 1 4 0 0 2 (A ∷ B ∷ []))) 0 (callTo 0 4 1 ++ callTo 2 4 1) []
-          ∷ step (gets (reportTo 1 4 2 1 0 (A ∷ []))) 7 [] []
-          ∷ step (gets (reportTo 1 4 2 0 0 [])) 0 (startViewTo 0 4 2 (A ∷ B ∷ []) ++ startViewTo 2 4 2 (A ∷ B ∷ [])) (paidReply 4 1 0 10 ++ paidReply 4 2 0 30)
+          step (gets (reportFrameTo 1 4 0 0 2 (A ∷ B ∷ []))) 0 (callTo 0 4 1 ++ callTo 2 4 1) []
+          ∷ step (gets (reportFrameTo 1 4 2 1 0 (A ∷ []))) 7 [] []
+          ∷ step (gets (reportFrameTo 1 4 2 0 0 [])) 0 (startViewTo 0 4 2 (A ∷ B ∷ []) ++ startViewTo 2 4 2 (A ∷ B ∷ [])) (paidReply 4 1 0 10 ++ paidReply 4 2 0 30)
           ∷ [];
       last =
           state (place Normal 4 4 false)
-          (book (A ∷ B ∷ []) 2 (gives 1 10 ∷ gives 1 30 ∷ []) (row 1 0 (some (gives 1 10)) ∷ row 2 0 (some (gives 1 30)) ∷ []) (totals3 30) (A ∷ B ∷ []))
+          (book (A ∷ B ∷ []) 2 (gives 1 10 ∷ gives 1 30 ∷ []) (tableRow 1 0 (some (gives 1 10)) ∷ tableRow 2 0 (some (gives 1 30)) ∷ []) (totals3 30) (A ∷ B ∷ []))
           (votes (acks2 0 0) 0 false) (noneStored 3 0) (clock true 0 0 0);
     }
 
@@ -36,11 +36,11 @@ acksForAnother =
       setup = setup 5 0 3 8;
       start = new;
       steps =
-          step (gets (requestTo 0 A)) 0 (prepareTo 1 0 1 0 A ++ prepareTo 2 0 1 0 A ++ prepareTo 3 0 1 0 A ++ prepareTo 4 0 1 0 A) []
+          step (gets (requestFrameTo 0 A)) 0 (prepareTo 1 0 1 0 A ++ prepareTo 2 0 1 0 A ++ prepareTo 3 0 1 0 A ++ prepareTo 4 0 1 0 A) []
           ∷ step (gets (commitTo 0 5 0)) 0 (getStateTo 0 0 5 0) []
           ∷ step (gets (newStateTo 0 5 0 0 0 [])) 0 (prepareOkTo 0 5 0 0) []
           ∷ step (gets (prepareOkTo 0 5 1 1)) 0 [] []
-          ∷ step (gets (requestTo 0 B)) 0 (prepareTo 1 5 1 0 B ++ prepareTo 2 5 1 0 B ++ prepareTo 3 5 1 0 B ++ prepareTo 4 5 1 0 B) []
+          ∷ step (gets (requestFrameTo 0 B)) 0 (prepareTo 1 5 1 0 B ++ prepareTo 2 5 1 0 B ++ prepareTo 3 5 1 0 B ++ prepareTo 4 5 1 0 B) []
           ∷ step (gets (commitTo 0 10 0)) 0 (getStateTo 0 0 10 0) []
           ∷ step (gets (newStateTo 0 10 0 1 0 (C ∷ []))) 0 (prepareOkTo 0 10 1 0) []
           ∷ step (gets (prepareOkTo 0 10 1 3)) 0 [] []
@@ -48,7 +48,7 @@ acksForAnother =
           ∷ [];
       last =
           state (place Normal 10 10 false)
-          (book (C ∷ []) 1 (gives 1 30 ∷ []) (row 3 0 (some (gives 1 30)) ∷ []) (totals3 30) (C ∷ []))
+          (book (C ∷ []) 1 (gives 1 30 ∷ []) (tableRow 3 0 (some (gives 1 30)) ∷ []) (totals3 30) (C ∷ []))
           (votes (acks2 0 0) 0 false) (noneStored 5 0) (clock true 0 0 0);
     }
 
@@ -59,9 +59,9 @@ notOwn =
       setup = setup 3 0 3 8;
       start = new;
       steps =
-          step (gets (requestTo 0 A)) 0 (prepareTo 1 0 1 0 A ++ prepareTo 2 0 1 0 A) []
-          ∷ step (gets (reportTo 0 3 1 0 0 [])) 0 (callTo 1 3 0 ++ callTo 2 3 0) []
-          ∷ step (gets (reportTo 0 3 2 0 0 [])) 0 (startViewTo 1 3 0 [] ++ startViewTo 2 3 0 []) []
+          step (gets (requestFrameTo 0 A)) 0 (prepareTo 1 0 1 0 A ++ prepareTo 2 0 1 0 A) []
+          ∷ step (gets (reportFrameTo 0 3 1 0 0 [])) 0 (callTo 1 3 0 ++ callTo 2 3 0) []
+          ∷ step (gets (reportFrameTo 0 3 2 0 0 [])) 0 (startViewTo 1 3 0 [] ++ startViewTo 2 3 0 []) []
           ∷ [];
       last =
           state (place Normal 3 3 false) (untouched [] []) (votes (acks2 0 0) 0 false) (noneStored 3 0) (clock true 0 0 0);
@@ -82,7 +82,7 @@ recovers =
           ∷ [];
       last =
           state (place Normal 0 0 false)
-          (book (A ∷ B ∷ []) 2 (gives 1 10 ∷ gives 1 30 ∷ []) (row 1 0 (some (gives 1 10)) ∷ row 2 0 (some (gives 1 30)) ∷ []) (totals3 30) (A ∷ B ∷ []))
+          (book (A ∷ B ∷ []) 2 (gives 1 10 ∷ gives 1 30 ∷ []) (tableRow 1 0 (some (gives 1 10)) ∷ tableRow 2 0 (some (gives 1 30)) ∷ []) (totals3 30) (A ∷ B ∷ []))
           (votes (acks2 0 0) 0 false) (noneStored 3 9) (clock true 0 0 0);
     }
 
@@ -100,7 +100,7 @@ shortens =
           ∷ [];
       last =
           state (place Normal 0 0 false)
-          (book (A ∷ []) 1 (gives 1 10 ∷ []) (row 1 0 (some (gives 1 10)) ∷ []) (totals3 10) (A ∷ []))
+          (book (A ∷ []) 1 (gives 1 10 ∷ []) (tableRow 1 0 (some (gives 1 10)) ∷ []) (totals3 10) (A ∷ []))
           (votes (acks2 0 0) 0 false) (noneStored 3 0) (clock true 0 0 0);
     }
 
@@ -115,7 +115,7 @@ roomFor =
           ∷ step (gets (startViewTo 1 1 0 (A ∷ B ∷ []))) 0 (prepareOkTo 1 1 2 1) []
           ∷ [];
       last =
-          state (place Normal 1 1 false) (untouched (A ∷ B ∷ []) (row 1 0 none ∷ row 2 0 none ∷ [])) (votes (0 ∷ 0 ∷ []) 0 false) (noneStored 3 0)
+          state (place Normal 1 1 false) (untouched (A ∷ B ∷ []) (tableRow 1 0 none ∷ tableRow 2 0 none ∷ [])) (votes (0 ∷ 0 ∷ []) 0 false) (noneStored 3 0)
           (clock true 0 0 0);
     }
 
@@ -148,7 +148,7 @@ noOwnAcks =
           ∷ step (gets (prepareOkTo 0 3 1 2)) 0 [] []
           ∷ [];
       last =
-          state (place Normal 3 3 false) (untouched (A ∷ []) (row 1 0 none ∷ [])) (votes (acks2 0 0) 0 false) (noneStored 3 0)
+          state (place Normal 3 3 false) (untouched (A ∷ []) (tableRow 1 0 none ∷ [])) (votes (acks2 0 0) 0 false) (noneStored 3 0)
           (clock true 0 0 0);
     }
 
@@ -164,7 +164,7 @@ lowerView =
           ∷ step (gets (responseTo 0 4 1 1 0 (A ∷ []))) 0 [] []
           ∷ [];
       last =
-          state (place Normal 4 4 false) (untouched (A ∷ []) (row 1 0 none ∷ [])) (votes (acks2 0 0) 0 false) (noneStored 3 1)
+          state (place Normal 4 4 false) (untouched (A ∷ []) (tableRow 1 0 none ∷ [])) (votes (acks2 0 0) 0 false) (noneStored 3 1)
           (clock true 0 0 0);
     }
 
@@ -181,7 +181,7 @@ latest =
           ∷ [];
       last =
           state (place Normal 5 5 false)
-          (book (B ∷ []) 1 (gives 1 20 ∷ []) (row 2 0 (some (gives 1 20)) ∷ []) (totals3 20) (B ∷ []))
+          (book (B ∷ []) 1 (gives 1 20 ∷ []) (tableRow 2 0 (some (gives 1 20)) ∷ []) (totals3 20) (B ∷ []))
           (votes (acks2 0 0) 0 false) (noneStored 3 1) (clock true 0 0 0);
     }
 
@@ -230,7 +230,7 @@ noGetState =
           ∷ step idle 8 [] []
           ∷ [];
       last =
-          state (place StateTransfer 4294967295 4294967295 false) (untouched (A ∷ []) (row 1 0 none ∷ [])) (votes (0 ∷ []) 0 false) (noneStored 3 0)
+          state (place StateTransfer 4294967295 4294967295 false) (untouched (A ∷ []) (tableRow 1 0 none ∷ [])) (votes (0 ∷ []) 0 false) (noneStored 3 0)
           (clock false 0 1 0);
     }
 
@@ -247,7 +247,7 @@ unheard =
           ∷ step idle 0 [] []
           ∷ [];
       last =
-          state (place Normal 0 0 false) (untouched (A ∷ []) (row 1 0 none ∷ [])) (votes (acks2 0 0) 0 false) (noneStored 3 0)
+          state (place Normal 0 0 false) (untouched (A ∷ []) (tableRow 1 0 none ∷ [])) (votes (acks2 0 0) 0 false) (noneStored 3 0)
           (clock false 1 0 0);
     }
 

@@ -14,9 +14,9 @@ use Rattle.config.specs.declared.Setup.{Setup}
 use Rattle.clock.specs.Clock.{resetOf, startOf, restartOf}
 use Rattle.frames.specs.declared.Status.the-variants.{Normal, ViewChange}
 use Rattle.state.specs.Statuses.{isNormal, isChanging}
-use Rattle.model.specs.State.{Book, Votes, Held, Report, Store, State, Sent, Answer}
+use Rattle.model.specs.State.{Book, Votes, Held, Reported, Store, State, Sent, Answer}
 use Rattle.model.specs.State.Answer.{refused, done}
-use Rattle.model.specs.State.{ignored, withVotes, withStore}
+use Rattle.model.specs.State.{ignored, setVotes, setStore}
 use Rattle.model.specs.Book.{commitUpTo, commitReplies, install, agree}
 use Rattle.model.specs.Sending.{primary, isPrimary, sendPrepareOk, sendGetState, sendStartViewChange, doViewChangeToPrimary, sendStartView, startViewToOthers}
 
@@ -28,7 +28,7 @@ filled (some x ∷ xs) = suc (filled xs)
 
 -- The Rust's `max_by_key`: the report with the greatest (last normal view, length), on a tie the highest replica id (document 01).
 -- a stands before b, that is, at a lower id.
-unfoldable pub better : Report → Option Report → Report
+unfoldable pub better : Reported → Option Reported → Reported
 better a none = a
 better a (some b) =
     if ltb (b .lastNormal) (a .lastNormal) then a else
@@ -36,13 +36,13 @@ better a (some b) =
     b
 
 -- the best report of all; none where there is none
-unfoldable pub chosen : List (Option Report) → Option Report
+unfoldable pub chosen : List (Option Reported) → Option Reported
 chosen [] = none
 chosen (none ∷ xs) = chosen xs
 chosen (some a ∷ xs) = some (better a (chosen xs))
 
 -- the commit number of the new view is the greatest among all, not the chosen one's (document 01)
-unfoldable pub greatestCommit : List (Option Report) → ℕ
+unfoldable pub greatestCommit : List (Option Reported) → ℕ
 greatestCommit [] = 0
 greatestCommit (none ∷ xs) = greatestCommit xs
 greatestCommit (some a ∷ xs) = max (a .held .commit) (greatestCommit xs)
@@ -52,8 +52,8 @@ unfoldable pub heldBy : State → Held
 heldBy m = record { commit = m .book .commit; log = m .book .log }
 
 -- what we report in our DoViewChange
-unfoldable pub ownReport : State → Report
-ownReport m = record { lastNormal = m .place .lastNormal; held = heldBy m }
+unfoldable pub ourReport : State → Reported
+ourReport m = record { lastNormal = m .place .lastNormal; held = heldBy m }
 
 -- clear_view_change_state, its votes
 unfoldable pub clearedVotes : State → Votes
@@ -61,22 +61,22 @@ clearedVotes m = record { acks = m .votes .acks; starts = 0; sent = false }
 
 -- do_view_change_sent
 unfoldable pub markSent : State → State
-markSent m = withVotes m (record { acks = m .votes .acks; starts = m .votes .starts; sent = true })
+markSent m = setVotes m (record { acks = m .votes .acks; starts = m .votes .starts; sent = true })
 
 -- start_view_change_from.insert
 unfoldable pub votedFor : State → ℕ → State
 votedFor m r =
-    withVotes m (record { acks = m .votes .acks; starts = withMember (m .votes .starts) r; sent = m .votes .sent })
+    setVotes m (record { acks = m .votes .acks; starts = withMember (m .votes .starts) r; sent = m .votes .sent })
 
 -- do_view_change_from.insert
-unfoldable pub recorded : State → ℕ → Report → State
-recorded m r d =
-    withStore m
+unfoldable pub reportNoted : State → ℕ → Reported → State
+reportNoted m r d =
+    setStore m
     (record { reports = set (m .store .reports) r (some d); responses = m .store .responses; nonce = m .store .nonce })
 
 module _ (u : Setup) where
   -- no report, of n replicas
-  unfoldable pub noReports : List (Option Report)
+  unfoldable pub noReports : List (Option Reported)
   noReports = replicate (u .n) none
 
   -- acks.clear: no row, of L
@@ -139,21 +139,21 @@ module _ (u : Setup) where
       (commitReplies (m .place .view) (install (m .book) log) c)
 
   -- with the chosen report; a quorum has one
-  unfoldable pub startChosen : State → Option Report → List Sent → Answer
+  unfoldable pub startChosen : State → Option Reported → List Sent → Answer
   startChosen m none out = done m out []
   startChosen m (some best) out = startView m (best .held .log) (greatestCommit (m .store .reports)) out
 
   -- record_do_view_change, after the messages `out`: with a quorum of reports the view starts. The paper wants the new primary's own among
   -- them, the Rust doesn't.
-  unfoldable pub recordDoViewChange : State → ℕ → Report → List Sent → Answer
+  unfoldable pub recordDoViewChange : State → ℕ → Reported → List Sent → Answer
   recordDoViewChange m r d out =
-      if ltb (filled (recorded m r d .store .reports)) (quorumOf (u .n)) then done (recorded m r d) out [] else
-      startChosen (recorded m r d) (chosen (recorded m r d .store .reports)) out
+      if ltb (filled (reportNoted m r d .store .reports)) (quorumOf (u .n)) then done (reportNoted m r d) out [] else
+      startChosen (reportNoted m r d) (chosen (reportNoted m r d .store .reports)) out
 
-  -- send_do_view_change, after the messages `out`: to the primary, or recorded if that is us
+  -- send_do_view_change, after the messages `out`: to the primary, or reportNoted if that is us
   unfoldable pub sendDoViewChange : State → List Sent → Answer
   sendDoViewChange m out =
-      if isPrimary u m then recordDoViewChange m (u .id) (ownReport m) out else
+      if isPrimary u m then recordDoViewChange m (u .id) (ourReport m) out else
       done m (out ++ doViewChangeToPrimary u m) []
 
   -- maybe_send_do_view_change, its test: once, as soon as n/2 distinct ids ask for the view. The paper counts other replicas, the Rust any id.
@@ -192,7 +192,7 @@ module _ (u : Setup) where
       ignored m
 
   -- on_do_view_change. One of a later view is dropped unless we lead that view.
-  unfoldable pub onDoViewChange : State → (view sender : ℕ) → Report → Answer
+  unfoldable pub onDoViewChange : State → (view sender : ℕ) → Reported → Answer
   onDoViewChange m v r d =
       if ltb v (m .place .view) or not (eqb (primary u v) (u .id)) then ignored m else
       if ltb (m .place .view) v then recordDoViewChange (changingTo m v) r d (sendStartViewChange u v) else

@@ -12,7 +12,7 @@ use Rattle.numbers.specs.declared.Op.{Op}
 use Rattle.config.proofs.SetupLaws.{sized}
 use Rattle.state.specs.State.{heardBy}
 use Rattle.state.specs.Answers.{quiet}
-use Rattle.state.specs.declared.Answer.{Answer}
+use Rattle.state.specs.declared.Returned.{Returned}
 use Rattle.state.specs.declared.Replica.{Replica}
 use Rattle.steps.specs.declared.Accept.{Accept}
 use Rattle.steps.specs.Steps.{Sound, Left, spoke, left, alone, acceptOf, isTake, committedTo, settled, deferred, transferred}
@@ -47,18 +47,18 @@ module _ (s : Replica) (v : View) (x : Runs) (out : List ℕ) (k : Accept) (b : 
   unfolding if_then_else_
   takes z h e = rw (← p, ← q, h, e)
 
-  pub defers : (a : Answer) (o : List ℕ) → b ≡ false → spoke a o ≡ deferred k s v out
+  pub defers : (a : Returned) (o : List ℕ) → b ≡ false → spoke a o ≡ deferred k s v out
       → left a x o ≡ (if isTake (acceptOf s v) then y else alone x (deferred (acceptOf s v) s v out))
   unfolding if_then_else_
   defers a o h e = rw (← p, ← q, h) (ap (alone x) e)
 
 -- a Commit that is taken
 module _ (s : Replica) (c : Op) (x : Runs) (out : List ℕ) where
-  pub past-log : (a : Answer) (o : List ℕ) → s .op .0 < c .0 → spoke a o ≡ transferred s out → left a x o ≡ takenCommit s c x out
+  pub past-log : (a : Returned) (o : List ℕ) → s .op .0 < c .0 → spoke a o ≡ transferred s out → left a x o ≡ takenCommit s c x out
   unfolding takenCommit if_then_else_
   past-log a o h e = rw (lt-ltb (s .op .0) (c .0) h) (ap (alone x) e)
 
-  pub settles : (u t : Replica) (y : Runs) (a : Answer) → c .0 ≤ s .op .0 → u ≡ heardBy s → t ≡ committedTo u c → y ≡ settled u c x
+  pub settles : (u t : Replica) (y : Runs) (a : Returned) → c .0 ≤ s .op .0 → u ≡ heardBy s → t ≡ committedTo u c → y ≡ settled u c x
       → a ≡ quiet t → left a y out ≡ takenCommit s c x out
   unfolding takenCommit if_then_else_
   settles u t y a h e p q r = rw (le-ltb (s .op .0) (c .0) h, r, q, p, e)

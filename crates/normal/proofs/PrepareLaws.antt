@@ -21,14 +21,15 @@ use Rattle.book.specs.Log.{withEntries}
 use Rattle.book.proofs.LogLaws.{with-length}
 use Rattle.state.specs.State.{heardBy, withLog}
 use Rattle.state.specs.Answers.{refusal}
-use Rattle.state.specs.declared.Answer.{Answer}
+use Rattle.state.specs.declared.Returned.{Returned}
 use Rattle.state.specs.declared.Replica.{Replica}
-use Rattle.steps.specs.Steps.{Sound, Left, left, acked}
+use Rattle.steps.specs.Steps.{Sound, Left, left, committedAndAcked}
 use Rattle.book.specs.Memory.{Runs, runs}
-use Rattle.normal.specs.declared.prepare.Verdict.{Verdict}
-use Rattle.normal.specs.declared.prepare.Verdict.the-variants.{Transfer, Again, Refuse, Append}
+use Rattle.normal.specs.declared.prepare.PrepareVerdict.{PrepareVerdict}
+use Rattle.normal.specs.declared.prepare.PrepareVerdict.the-variants.{Transfer, Again, Refuse, Append}
 use Rattle.normal.specs.declared.prepare.Prepared.{Prepared}
-use Rattle.normal.specs.Prepare.{lowerOf, nextOp, appendVerdict, verdictOf, appendedBy, byVerdict, takenPrepare}
+use Rattle.normal.specs.Prepare.{lowerOf, appendVerdict, prepareVerdict, appendedBy, byPrepareVerdict, takenPrepare}
+use Rattle.normal.specs.Request.{nextOp}
 
 -- lower
 module _ (a b : Op) where
@@ -62,30 +63,30 @@ module _ (s : Replica) (p : Prepared) where
   unfolding appendVerdict if_then_else_
   rises h n l = rw (lt-leb (s .setup .room) (s .op .0) h, n, lt-leb (p .entry .request) (p .latest .request) l)
 
-  pub misses : s .op .0 + 1 < p .op .0 → Transfer ≡ verdictOf s p
-  unfolding verdictOf if_then_else_
+  pub misses : s .op .0 + 1 < p .op .0 → Transfer ≡ prepareVerdict s p
+  unfolding prepareVerdict if_then_else_
   misses h = rw (lt-ltb (s .op .0 + 1) (p .op .0) h)
 
-  pub resent : p .op .0 ≤ s .op .0 + 1 → p .op .0 < s .op .0 + 1 → Again ≡ verdictOf s p
-  unfolding verdictOf if_then_else_
+  pub resent : p .op .0 ≤ s .op .0 + 1 → p .op .0 < s .op .0 + 1 → Again ≡ prepareVerdict s p
+  unfolding prepareVerdict if_then_else_
   resent h l = rw (le-ltb (s .op .0 + 1) (p .op .0) h, lt-ltb (p .op .0) (s .op .0 + 1) l)
 
-  pub next : (d : Verdict) → p .op .0 ≤ s .op .0 + 1 → s .op .0 + 1 ≤ p .op .0 → d ≡ appendVerdict s p → d ≡ verdictOf s p
-  unfolding verdictOf if_then_else_
+  pub next : (d : PrepareVerdict) → p .op .0 ≤ s .op .0 + 1 → s .op .0 + 1 ≤ p .op .0 → d ≡ appendVerdict s p → d ≡ prepareVerdict s p
+  unfolding prepareVerdict if_then_else_
   next d h l e = rw (le-ltb (s .op .0 + 1) (p .op .0) h, le-ltb (p .op .0) (s .op .0 + 1) l, e)
 
 -- what `Append` says
-abbrev appends : Verdict → Bool
+abbrev appends : PrepareVerdict → Bool
 appends Transfer = false
 appends Again = false
 appends (Refuse k) = false
 appends Append = true
 
 module _ (s : Replica) (p : Prepared) where
-  abbrev Roomy : Verdict → Type 0
+  abbrev Roomy : PrepareVerdict → Type 0
   Roomy d = d ≡ Append → s .op .0 < s .setup .room
 
-  other : (d : Verdict) → appends d ≡ false → Roomy d
+  other : (d : PrepareVerdict) → appends d ≡ false → Roomy d
   other d e h = absurd (false≢true (sym e ∙ ap appends h))
 
   roomy-next : Roomy (appendVerdict s p)
@@ -94,13 +95,13 @@ module _ (s : Replica) (p : Prepared) where
       split Roomy (leb (s .setup .room) (s .op .0)) (Refuse 4) _ (λ _. other (Refuse 4) refl)
       (λ h _. leb-false (s .setup .room) (s .op .0) h)
 
-  roomy-of : Roomy (verdictOf s p)
-  unfolding verdictOf
+  roomy-of : Roomy (prepareVerdict s p)
+  unfolding prepareVerdict
   roomy-of =
       split Roomy (ltb (s .op .0 + 1) (p .op .0)) Transfer _ (λ _. other Transfer refl)
       (λ _. split Roomy (ltb (p .op .0) (s .op .0 + 1)) Again _ (λ _. other Again refl) (λ _. roomy-next))
 
-  pub room-left : (d : Verdict) → d ≡ verdictOf s p → d ≡ Append → s .op .0 < s .setup .room
+  pub room-left : (d : PrepareVerdict) → d ≡ prepareVerdict s p → d ≡ Append → s .op .0 < s .setup .room
   room-left d e h = roomy-of (sym e ∙ h)
 
 -- what weigh asks
@@ -136,25 +137,25 @@ lower-fits m c o k e h = rw (e, h) (omega arith)
 
 -- append
 module _ (s : Replica) (p : Prepared) (log results totals out : List ℕ) where
-  pub no-area : (a : Answer) → length out < 16 → a ≡ refusal 9 s
+  pub no-area : (a : Returned) → length out < 16 → a ≡ refusal 9 s
       → left a (runs log results totals) out ≡ appendedBy s p (runs log results totals) out
   unfolding appendedBy if_then_else_
   no-area a h e = rw (lt-ltb (length out) 16 h, e)
 
   pub appended : (u t : Replica) (k : Op) (r : List ℕ) (y : Left) → 16 ≤ length out
       → r ≡ withEntries (s .op .0) (encodeEntry (p .entry)) log → u ≡ heardBy s → t ≡ withLog u (nextOp s) (s .commit)
-      → k ≡ lowerOf (p .commit) (nextOp s) → y ≡ acked s t k false (runs r results totals) out
+      → k ≡ lowerOf (p .commit) (nextOp s) → y ≡ committedAndAcked s t k false (runs r results totals) out
       → y ≡ appendedBy s p (runs log results totals) out
   unfolding appendedBy if_then_else_
   appended u t k r y h w d f g e = rw (le-ltb (length out) 16 h, e, g, f, d, w)
 
 -- a Prepare that is taken
 module _ (s : Replica) (p : Prepared) (x : Runs) (out : List ℕ) where
-  pub weighed : (d e : Verdict) (y : Left) → d ≡ verdictOf s p → d ≡ e → y ≡ byVerdict e s p x out → y ≡ takenPrepare s p x out
+  pub weighed : (d e : PrepareVerdict) (y : Left) → d ≡ prepareVerdict s p → d ≡ e → y ≡ byPrepareVerdict e s p x out → y ≡ takenPrepare s p x out
   unfolding takenPrepare
-  weighed d e y q m z = z ∙ ap (λ (k : Verdict). byVerdict k s p x out) (sym m ∙ q)
+  weighed d e y q m z = z ∙ ap (λ (k : PrepareVerdict). byPrepareVerdict k s p x out) (sym m ∙ q)
 
-  pub acked-again : (u : Replica) (k : Op) (y : Left) → u ≡ heardBy s → k ≡ lowerOf (p .commit) (s .op) → y ≡ acked s u k false x out
-      → y ≡ byVerdict Again s p x out
-  unfolding byVerdict
+  pub acked-again : (u : Replica) (k : Op) (y : Left) → u ≡ heardBy s → k ≡ lowerOf (p .commit) (s .op) → y ≡ committedAndAcked s u k false x out
+      → y ≡ byPrepareVerdict Again s p x out
+  unfolding byPrepareVerdict
   acked-again u k y e f g = rw (g, f, e)

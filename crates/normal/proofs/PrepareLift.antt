@@ -25,26 +25,27 @@ use Rattle.entries.specs.Entries.{entryOf, entries, EntryFits}
 use Rattle.entries.specs.Rising.{rising}
 use Rattle.entries.specs.declared.Entry.{Entry}
 use Rattle.config.proofs.SetupLaws.{sized}
-use Rattle.rows.specs.declared.Latest as Rows
+use Rattle.client_table.specs.declared.Latest as Rows
 use Rattle.frames.specs.declared.Status.the-variants.{StateTransfer}
 use Rattle.state.specs.State as S
 use Rattle.state.specs.Statuses.{isRecovering}
 use Rattle.state.specs.Answers.{refusal, quiet}
 use Rattle.state.specs.declared.Replica.{Replica}
 use Rattle.book.specs.Memory as Memory
-use Rattle.steps.specs.Steps.{Sound, Left, left, committedTo, settled, asked, transferred, acked}
+use Rattle.steps.specs.Steps.{Sound, Left, left, committedTo, settled, askedForState, transferred, committedAndAcked}
 use Rattle.normal.specs.Commit.{takenCommit, commitStep}
-use Rattle.normal.specs.Prepare.{lowerOf, appendVerdict, verdictOf, withEntry, nextOp, appendedBy, byVerdict, takenPrepare, prepareStep}
-use Rattle.normal.specs.declared.prepare.Verdict.{Verdict}
-use Rattle.normal.specs.declared.prepare.Verdict.the-variants.{Again, Refuse, Append}
+use Rattle.normal.specs.Prepare.{lowerOf, appendVerdict, prepareVerdict, withEntry, appendedBy, byPrepareVerdict, takenPrepare, prepareStep}
+use Rattle.normal.specs.Request.{nextOp}
+use Rattle.normal.specs.declared.prepare.PrepareVerdict.{PrepareVerdict}
+use Rattle.normal.specs.declared.prepare.PrepareVerdict.the-variants.{Again, Refuse, Append}
 use Rattle.normal.specs.declared.prepare.Prepared.{Prepared}
 use Rattle.normal.proofs.CommitLaws.{sound-heard}
 use Rattle.normal.proofs.PrepareLaws.{append-fits, sound-next}
-use Rattle.model.specs.State.{Row, Book, State, Sent, Answer, withBook, withClock, withPlace, withStatus, opOf}
+use Rattle.model.specs.State.{ClientEntry, Book, State, Sent, Answer, setBook, setClock, setPlace, setStatus, opOf}
 use Rattle.model.specs.State.Answer.{refused, done}
 use Rattle.model.specs.Book.{find, append, appendAll, commitUpTo}
 use Rattle.model.specs.Sending.{messagesOut, repliesOut, toPrimary, sendPrepareOk, sendGetState}
-use Rattle.model.specs.Normal.{heardBy, committed, stateTransfer, prepared, takePrepare, onPrepare, takeCommit, onCommit}
+use Rattle.model.specs.Normal.{heardFromPrimary, committed, stateTransfer, prepared, takePrepare, onPrepare, takeCommit, onCommit}
 use Rattle.layout.specs.Layout.{storeOf, bookOf, modelOf}
 use Rattle.model.specs.Steps.{fitted}
 use Rattle.layout.specs.Shown.{Given, Step, Grew, Did, Shown, Tells}
@@ -69,7 +70,7 @@ silent-shown c d b m′ h =
 few : (s : Replica) (x : Memory.Runs) → Sound s x → s .setup .n ≤ 7
 few s x h = sized (s .setup) (h .sized) .seven
 
-module _ (c : Given) (table : List Row) (applied : List Entry) where
+module _ (c : Given) (table : List ClientEntry) (applied : List Entry) where
   abbrev now : State
   now = modelOf (c .state) (c .runs) table applied
 
@@ -80,8 +81,8 @@ module _ (c : Given) (table : List Row) (applied : List Entry) where
   unfolding opOf modelOf bookOf
   now-op = cells-length 32 entryOf (c .state .op .0) (c .runs .log)
 
-  heard-op : opOf (heardBy now) ≡ c .state .op .0
-  unfolding opOf heardBy withClock
+  heard-op : opOf (heardFromPrimary now) ≡ c .state .op .0
+  unfolding opOf heardFromPrimary setClock
   heard-op = now-op
 
   -- ---- state_transfer
@@ -91,42 +92,42 @@ module _ (c : Given) (table : List Row) (applied : List Entry) where
     asking = S.withStatus (S.heardBy (c .state)) StateTransfer
 
     abbrev waits : State
-    waits = withStatus (heardBy now) StateTransfer
+    waits = setStatus (heardFromPrimary now) StateTransfer
 
     waits-reads : modelOf asking (c .runs) table applied ≡ waits
-    unfolding modelOf storeOf heardBy withStatus withPlace withClock isRecovering if_then_else_
+    unfolding modelOf storeOf heardFromPrimary setStatus setPlace setClock isRecovering if_then_else_
     waits-reads = rw looks
 
     waits-book : waits .book ≡ now .book
-    unfolding heardBy withStatus withPlace withClock
+    unfolding heardFromPrimary setStatus setPlace setClock
     waits-book = refl
 
     -- the GetState goes by the view, which stays
-    same-message : (o : ℕ) → sendGetState (c .state .setup) (heardBy now) o ≡ sendGetState (c .state .setup) waits o
-    unfolding sendGetState toPrimary heardBy withStatus withPlace withClock
+    same-message : (o : ℕ) → sendGetState (c .state .setup) (heardFromPrimary now) o ≡ sendGetState (c .state .setup) waits o
+    unfolding sendGetState toPrimary heardFromPrimary setStatus setPlace setClock
     same-message o = refl
 
-    pub transfer-shown : Shown c (ofSpoke c (transferred (c .state) (c .out))) (now .book) (fit (stateTransfer (c .state .setup) (heardBy now)))
+    pub transfer-shown : Shown c (ofSpoke c (transferred (c .state) (c .out))) (now .book) (fit (stateTransfer (c .state .setup) (heardFromPrimary now)))
     unfolding transferred stateTransfer
     transfer-shown =
         subst
-        (λ (ms : List Sent). Shown c (ofSpoke c (asked (c .state) asking (c .state .op) (c .out))) (now .book) (fit (done waits ms [])))
-        (sym (ap (sendGetState (c .state .setup) (heardBy now)) heard-op ∙ same-message (c .state .op .0)))
+        (λ (ms : List Sent). Shown c (ofSpoke c (askedForState (c .state) asking (c .state .op) (c .out))) (now .book) (fit (done waits ms [])))
+        (sym (ap (sendGetState (c .state .setup) (heardFromPrimary now)) heard-op ∙ same-message (c .state .op .0)))
         (ask-shown c asking (now .book) (c .state .op) waits refl
         (kept-reads c table applied (c .state .view) n looks asking waits waits-book waits-reads)
         (kept-grew c table applied (c .state .view) n looks asking waits waits-book waits-reads))
 
 -- ---- on_commit
 
-module _ (c : Given) (table : List Row) (applied : List Entry) (sound : Sound (c .state) (bookRuns (c .runs))) (bytes : Bytes (c .runs .totals))
+module _ (c : Given) (table : List ClientEntry) (applied : List Entry) (sound : Sound (c .state) (bookRuns (c .runs))) (bytes : Bytes (c .runs .totals))
     (looks : isRecovering (c .state .status) ≡ false) (k : Op) where
   -- what a commit leaves
   abbrev settles : Left
   settles = left (quiet (committedTo (S.heardBy (c .state)) k)) (settled (S.heardBy (c .state)) k (bookRuns (c .runs))) (c .out)
 
   settles-did : k .0 ≤ c .state .op .0
-      → Did c (ofLeft c settles) (now c table applied .book) (committed (heardBy (now c table applied)) (k .0)) [] []
-  unfolding modelOf storeOf heardBy withClock withBook committed messagesOut repliesOut packed appendAll settled
+      → Did c (ofLeft c settles) (now c table applied .book) (committed (heardFromPrimary (now c table applied)) (k .0)) [] []
+  unfolding modelOf storeOf heardFromPrimary setClock setBook committed messagesOut repliesOut packed appendAll settled
   settles-did h =
       record {
         code = refl;
@@ -162,7 +163,7 @@ module _ (c : Given) (table : List Row) (applied : List Entry) (sound : Sound (c
 
 -- What on_prepare is given: what refusal 1 leaves, runs of bytes, a status that looks at a Prepare, an entry that fits its bytes; and, of the log
 -- and the table that calls leave, that the log rises, that the table has its latest requests, and that the row is the table's.
-pub record Met (c : Given) (p : Prepared) (table : List Row) : Type 0 where
+pub record Met (c : Given) (p : Prepared) (table : List ClientEntry) : Type 0 where
   pub sound : Sound (c .state) (bookRuns (c .runs))
   pub bytes : Bytes (c .runs .totals)
   pub looks : isRecovering (c .state .status) ≡ false
@@ -186,7 +187,7 @@ earlier o n h = go (ltb o n) refl
     go false e = ap not (sym (eq-eqb o n (omega (arith, ltb-false o n e, ltb-false n o h))))
 
 -- the row's test is the table's
-row-test : (table : List Row) (client : ℕ) (l : Rows.Latest) (r : ℕ) → Tells table client l
+row-test : (table : List ClientEntry) (client : ℕ) (l : Rows.Latest) (r : ℕ) → Tells table client l
     → (l .there and leb r (l .request)) ≡ (find table client .there and leb r (find table client .request))
 unfolding _and_
 row-test table client l r h = go (l .there) refl
@@ -200,12 +201,12 @@ twice-not true = refl
 twice-not false = refl
 
 -- on_prepare, its last part, by a state t with runs y that are read as m₁
-module _ (c : Given) (k : Op) (t : Replica) (y : Memory.Runs) (table : List Row) (applied : List Entry) (b : Book)
+module _ (c : Given) (k : Op) (t : Replica) (y : Memory.Runs) (table : List ClientEntry) (applied : List Entry) (b : Book)
     (same : t .setup ≡ c .state .setup) (sound : Sound t y) (bytes : Bytes (y .money .totals)) where
   abbrev ends : Left
   ends =
       if ltb (length (c .out)) 16 then left (refusal 9 (c .state)) (bookRuns (c .runs)) (c .out) else
-      acked (c .state) t (lowerOf k (t .op)) false y (c .out)
+      committedAndAcked (c .state) t (lowerOf k (t .op)) false y (c .out)
 
   abbrev read : State
   read = modelOf t (withRuns (c .runs) y) table applied
@@ -234,7 +235,7 @@ module _ (c : Given) (k : Op) (t : Replica) (y : Memory.Runs) (table : List Row)
       reads
       ends-shown
 
-module _ (c : Given) (p : Prepared) (table : List Row) (applied : List Entry) (met : Met c p table) where
+module _ (c : Given) (p : Prepared) (table : List ClientEntry) (applied : List Entry) (met : Met c p table) where
   abbrev s : Replica
   s = c .state
 
@@ -248,12 +249,12 @@ module _ (c : Given) (p : Prepared) (table : List Row) (applied : List Entry) (m
   Goal d a = Shown c (ofLeft c d) (m .book) (fitted (length (c .out)) (length (c .reps)) a)
 
   -- a re-sent one
-  again-shown : Goal (byVerdict Again s p x (c .out)) (prepared (s .setup) (heardBy m) (p .commit .0))
-  unfolding byVerdict acked modelOf heardBy withClock appendAll
+  again-shown : Goal (byPrepareVerdict Again s p x (c .out)) (prepared (s .setup) (heardFromPrimary m) (p .commit .0))
+  unfolding byPrepareVerdict committedAndAcked modelOf heardFromPrimary setClock appendAll
   again-shown =
-      subst (λ (d : Left). Goal d (prepared (s .setup) (heardBy m) (p .commit .0))) (twice (ltb (length (c .out)) 16) _ _)
+      subst (λ (d : Left). Goal d (prepared (s .setup) (heardFromPrimary m) (p .commit .0))) (twice (ltb (length (c .out)) 16) _ _)
       (prepared-shown c (p .commit) (S.heardBy s) x table applied (m .book) refl (sound-heard s (S.heardBy s) x refl (met .sound)) (met .bytes)
-      (heardBy m) (heard-reads s (c .runs) table applied) (more [] (min (p .commit .0) (s .op .0)) refl refl))
+      (heardFromPrimary m) (heard-reads s (c .runs) table applied) (more [] (min (p .commit .0) (s .op .0)) refl refl))
 
   -- the next op
   abbrev e : Entry
@@ -263,20 +264,20 @@ module _ (c : Given) (p : Prepared) (table : List Row) (applied : List Entry) (m
   t = S.withLog (S.heardBy (c .state)) (nextOp (c .state)) (c .state .commit)
 
   append-reads : s .op .0 < s .setup .room
-      → modelOf t (withRuns (c .runs) (withEntry s p x)) (append (m .book) e .table) applied ≡ withBook (heardBy m) (append (m .book) e)
-  unfolding modelOf storeOf heardBy withClock withBook
+      → modelOf t (withRuns (c .runs) (withEntry s p x)) (append (m .book) e .table) applied ≡ setBook (heardFromPrimary m) (append (m .book) e)
+  unfolding modelOf storeOf heardFromPrimary setClock setBook
   append-reads l =
-      ap (withBook (heardBy m))
+      ap (setBook (heardFromPrimary m))
       (append-lift (s .setup .members) (s .op .0) (s .commit .0) (c .runs .log) (x .money) table applied e (met .fits)
       (append-fits s e (c .runs .log) (c .runs .results) (c .runs .totals) (met .sound) l .1))
 
   append-shown : s .op .0 < s .setup .room
-      → Goal (byVerdict Append s p x (c .out)) (prepared (s .setup) (withBook (heardBy m) (append (m .book) e)) (p .commit .0))
-  unfolding byVerdict appendedBy withBook appendAll
+      → Goal (byPrepareVerdict Append s p x (c .out)) (prepared (s .setup) (setBook (heardFromPrimary m) (append (m .book) e)) (p .commit .0))
+  unfolding byPrepareVerdict appendedBy setBook appendAll
   append-shown l =
       prepared-shown c (p .commit) t (withEntry s p x) (append (m .book) e .table) applied (m .book) refl
       (sound-next s e (c .runs .log) (c .runs .results) (c .runs .totals) (met .sound) l (S.heardBy s) t _ refl refl refl) (met .bytes)
-      (withBook (heardBy m) (append (m .book) e)) (append-reads l) (more (e ∷ []) (min (p .commit .0) (s .op .0 + 1)) refl refl)
+      (setBook (heardFromPrimary m) (append (m .book) e)) (append-reads l) (more (e ∷ []) (min (p .commit .0) (s .op .0 + 1)) refl refl)
 
   -- refusal 6 by the client's row
   rises-test : (p .latest .there and leb (e .request) (p .latest .request)) ≡ not (rising (m .book .log ++ (e ∷ [])))
@@ -286,30 +287,30 @@ module _ (c : Given) (p : Prepared) (table : List Row) (applied : List Entry) (m
       ∙ sym (twice-not _)
       ∙ ap not (sym (latest-lift e table (entries (s .op .0) (c .runs .log)) (met .latest) (met .rises)))
 
-  abbrev By : Verdict → Answer → Type 0
-  By d a = Goal (byVerdict d s p x (c .out)) a
+  abbrev By : PrepareVerdict → Answer → Type 0
+  By d a = Goal (byPrepareVerdict d s p x (c .out)) a
 
   refuse-shown : (k : ℕ) → By (Refuse k) (refused k)
-  unfolding byVerdict fitted
+  unfolding byPrepareVerdict fitted
   refuse-shown k = refl
 
   next-shown : By (appendVerdict s p)
       (if leb (s .setup .room) (opOf m) then refused 4 else
       if not (rising (m .book .log ++ (e ∷ []))) then refused 6 else
-      prepared (s .setup) (withBook (heardBy m) (append (m .book) e)) (p .commit .0))
+      prepared (s .setup) (setBook (heardFromPrimary m) (append (m .book) e)) (p .commit .0))
   unfolding appendVerdict
   next-shown =
       split₂ By _ _ _ _ _ _ (ap (leb (s .setup .room)) (sym (now-op c table applied))) (λ _. refuse-shown 4)
       (λ f.
       subst
-      (λ (d : Verdict). By d
+      (λ (d : PrepareVerdict). By d
       (if not (rising (m .book .log ++ (e ∷ []))) then refused 6 else
-      prepared (s .setup) (withBook (heardBy m) (append (m .book) e)) (p .commit .0)))
+      prepared (s .setup) (setBook (heardFromPrimary m) (append (m .book) e)) (p .commit .0)))
       (sym (joined (p .latest .there) (leb (e .request) (p .latest .request)) Append (Refuse 6)))
       (split₂ By _ _ _ _ _ _ rises-test (λ _. refuse-shown 6) (λ _. append-shown (leb-false _ _ f))))
 
-  verdict-shown : By (verdictOf s p) (takePrepare (s .setup) m (p .op .0) (p .commit .0) (p .entry))
-  unfolding verdictOf takePrepare byVerdict
+  verdict-shown : By (prepareVerdict s p) (takePrepare (s .setup) m (p .op .0) (p .commit .0) (p .entry))
+  unfolding prepareVerdict takePrepare byPrepareVerdict
   verdict-shown =
       let o = now-op c table applied in
       split₂ By _ _ _ _ _ _ (ap (λ (n : ℕ). ltb (n + 1) (p .op .0)) (sym o))
@@ -325,4 +326,4 @@ module _ (c : Given) (p : Prepared) (table : List Row) (applied : List Entry) (m
   unfolding prepareStep takenPrepare onPrepare
   prepare-shown v =
       accept-shown c table applied v (few s x (met .sound)) (met .looks)
-      (byVerdict (verdictOf s p) s p x (c .out)) (takePrepare (s .setup) m (p .op .0) (p .commit .0) (p .entry)) (λ _. verdict-shown)
+      (byPrepareVerdict (prepareVerdict s p) s p x (c .out)) (takePrepare (s .setup) m (p .op .0) (p .commit .0) (p .entry)) (λ _. verdict-shown)

@@ -21,13 +21,13 @@ use Rattle.book.specs.Memory.{Money, money, Runs, runs}
 use Rattle.state.specs.State.{leads}
 use Rattle.state.specs.Statuses.{isNormal}
 use Rattle.state.specs.Answers.{completed, quiet}
-use Rattle.state.specs.declared.Answer.{Answer}
+use Rattle.state.specs.declared.Returned.{Returned}
 use Rattle.state.specs.declared.Replica.{Replica}
 use Rattle.steps.specs.Steps.{Sound, committedTo, settled}
 use Rattle.steps.proofs.StepLaws.{commits-fit}
 use Rattle.normal.specs.declared.prepare_ok.Count.{Count}
 use Rattle.normal.specs.declared.prepare_ok.Count.the-variants.{Nothing, Note, Refuse, Commit}
-use Rattle.normal.specs.PrepareOk.{Counted, counted, listens, verdictOf, committedBy, byCount, prepareOkStep}
+use Rattle.normal.specs.PrepareOk.{Counted, counted, listens, ackVerdict, committedBy, byCount, prepareOkStep}
 
 -- hears
 module _ (s : Replica) (v : View) (op : Op) where
@@ -67,13 +67,13 @@ module _ (s : Replica) (v : View) (op : Op) where
 
 -- weigh
 module _ (s : Replica) (op : Op) (held from room : ℕ) where
-  pub no-row : held ≡ 0 → Nothing ≡ verdictOf s op held from room
-  unfolding verdictOf if_then_else_
+  pub no-row : held ≡ 0 → Nothing ≡ ackVerdict s op held from room
+  unfolding ackVerdict if_then_else_
   no-row h = rw (eq-eqb held 0 h)
 
   module _ (h : held ≡ 0 → ⊥) where
-    pub known : eqb (bit held from) 1 ≡ true → Nothing ≡ verdictOf s op held from room
-    unfolding verdictOf if_then_else_
+    pub known : eqb (bit held from) 1 ≡ true → Nothing ≡ ackVerdict s op held from room
+    unfolding ackVerdict if_then_else_
     known b = rw (ne-eqb held 0 h, b)
 
     -- w is the row with the sender in it, k its count, q the quorum
@@ -85,21 +85,21 @@ module _ (s : Replica) (op : Op) (held from room : ℕ) where
       reached : k ≡ q → eqb (ones (withMember held from)) (quorumOf (s .setup .n)) ≡ true
       reached e = eq-eqb (ones (withMember held from)) (quorumOf (s .setup .n)) (sym count-is ∙ e ∙ eq)
 
-      pub one-more : (k ≡ q → ⊥) → Note ≡ verdictOf s op held from room
-      unfolding verdictOf if_then_else_
+      pub one-more : (k ≡ q → ⊥) → Note ≡ ackVerdict s op held from room
+      unfolding ackVerdict if_then_else_
       one-more d =
           rw (ne-eqb held 0 h, b, ne-eqb (ones (withMember held from)) (quorumOf (s .setup .n)) (λ e. d (count-is ∙ e ∙ sym eq)))
 
-      pub past-log : k ≡ q → s .op .0 < op .0 → Refuse 5 ≡ verdictOf s op held from room
-      unfolding verdictOf if_then_else_
+      pub past-log : k ≡ q → s .op .0 < op .0 → Refuse 5 ≡ ackVerdict s op held from room
+      unfolding ackVerdict if_then_else_
       past-log e l = rw (ne-eqb held 0 h, b, reached e, lt-ltb (s .op .0) (op .0) l)
 
-      pub no-area : k ≡ q → op .0 ≤ s .op .0 → room < 36 * (op .0 - s .commit .0) → Refuse 10 ≡ verdictOf s op held from room
-      unfolding verdictOf if_then_else_
+      pub no-area : k ≡ q → op .0 ≤ s .op .0 → room < 36 * (op .0 - s .commit .0) → Refuse 10 ≡ ackVerdict s op held from room
+      unfolding ackVerdict if_then_else_
       no-area e l m = rw (ne-eqb held 0 h, b, reached e, le-ltb (s .op .0) (op .0) l, lt-ltb room (36 * (op .0 - s .commit .0)) m)
 
-      pub fires : k ≡ q → op .0 ≤ s .op .0 → 36 * (op .0 - s .commit .0) ≤ room → Commit ≡ verdictOf s op held from room
-      unfolding verdictOf if_then_else_
+      pub fires : k ≡ q → op .0 ≤ s .op .0 → 36 * (op .0 - s .commit .0) ≤ room → Commit ≡ ackVerdict s op held from room
+      unfolding ackVerdict if_then_else_
       fires e l m = rw (ne-eqb held 0 h, b, reached e, le-ltb (s .op .0) (op .0) l, le-ltb room (36 * (op .0 - s .commit .0)) m)
 
 -- what `Commit` says
@@ -116,8 +116,8 @@ module _ (s : Replica) (op : Op) (held from room : ℕ) where
   other : (d : Count) → commits d ≡ false → Ready d
   other d e h = absurd (false≢true (sym e ∙ ap commits h))
 
-  ready-of : Ready (verdictOf s op held from room)
-  unfolding verdictOf
+  ready-of : Ready (ackVerdict s op held from room)
+  unfolding ackVerdict
   ready-of =
       split Ready (eqb held 0) Nothing _ (λ _. other Nothing refl)
       (λ _. split Ready (eqb (bit held from) 1) Nothing _ (λ _. other Nothing refl)
@@ -126,7 +126,7 @@ module _ (s : Replica) (op : Op) (held from room : ℕ) where
       (λ l. split Ready (ltb room (36 * (op .0 - s .commit .0))) (Refuse 10) _ (λ _. other (Refuse 10) refl)
       (λ m _. (ltb-false (s .op .0) (op .0) l, ltb-false room (36 * (op .0 - s .commit .0)) m))))))
 
-  pub ready : (d : Count) → d ≡ verdictOf s op held from room → d ≡ Commit → (op .0 ≤ s .op .0) × (36 * (op .0 - s .commit .0) ≤ room)
+  pub ready : (d : Count) → d ≡ ackVerdict s op held from room → d ≡ Commit → (op .0 ≤ s .op .0) × (36 * (op .0 - s .commit .0) ≤ room)
   ready d e h = ready-of (sym e ∙ h)
 
 -- commit_with_replies
@@ -146,7 +146,7 @@ module _ (s : Replica) (op : Op) (log results totals : List ℕ) (h : Sound s (r
   acks-fit acks n p e = omega (arith, h .op-le)
 
 module _ (s : Replica) (op : Op) (log results totals acks reps : List ℕ) where
-  pub all-committed : (t : Replica) (a : Answer) (n : ℕ) (rs ts ks ps : List ℕ) → t ≡ committedTo s op
+  pub all-committed : (t : Replica) (a : Returned) (n : ℕ) (rs ts ks ps : List ℕ) → t ≡ committedTo s op
       → runs log rs ts ≡ settled s op (runs log results totals)
       → ps ≡ over (replies (s .view) log rs (s .commit .0) (op .0 - s .commit .0)) reps → n ≡ ackPlace (op .0) → ks ≡ over (replicate n 0) acks
       → a ≡ completed t 0 (36 * (op .0 - s .commit .0)) false
@@ -166,13 +166,13 @@ sender-small s x from h l = omega (arith, sized (s .setup) (h .sized) .seven)
 -- on_prepare_ok: one that isn't looked at, and one that is, by what it calls for
 module _ (s : Replica) (v : View) (op : Op) (from : ℕ) (log : List ℕ) (x : Money) (acks reps : List ℕ) (b : Bool)
     (p : b ≡ listens s v op) where
-  pub unheard : (a : Answer) → not b ≡ true → a ≡ quiet s → counted a x acks reps ≡ prepareOkStep s v op from log x acks reps
+  pub unheard : (a : Returned) → not b ≡ true → a ≡ quiet s → counted a x acks reps ≡ prepareOkStep s v op from log x acks reps
   unfolding prepareOkStep if_then_else_
   unheard a n e = rw (← p, n, e)
 
-  pub weighed : (i : ℕ) (d e : Count) (y : Counted) → i ≡ ackPlace (op .0 - 1) → not b ≡ false → d ≡ verdictOf s op (getD acks i 0) from (length reps) → d ≡ e
+  pub weighed : (i : ℕ) (d e : Count) (y : Counted) → i ≡ ackPlace (op .0 - 1) → not b ≡ false → d ≡ ackVerdict s op (getD acks i 0) from (length reps) → d ≡ e
       → y ≡ byCount e s op from log x acks reps → y ≡ prepareOkStep s v op from log x acks reps
   unfolding prepareOkStep if_then_else_
   weighed i d e y h n q m z =
-      let r = q ∙ ap (λ (k : ℕ). verdictOf s op (getD acks k 0) from (length reps)) h in
+      let r = q ∙ ap (λ (k : ℕ). ackVerdict s op (getD acks k 0) from (length reps)) h in
       rw (← p, n) (z ∙ ap (λ (k : Count). byCount k s op from log x acks reps) (sym m ∙ r))

@@ -26,13 +26,13 @@ use Rattle.state.specs.declared.Replica.{Replica}
 use Rattle.steps.specs.Steps.{Sound, committedTo}
 use Rattle.normal.specs.declared.prepare_ok.Count.{Count}
 use Rattle.normal.specs.declared.prepare_ok.Count.the-variants.{Nothing, Note, Refuse, Commit}
-use Rattle.normal.specs.PrepareOk.{Counted, counted, listens, verdictOf, committedBy, byCount, prepareOkStep}
-use Rattle.model.specs.State.{Row, State, Reply, Answer, ignored, withBook, withVotes, withAcks, opOf}
+use Rattle.normal.specs.PrepareOk.{Counted, counted, listens, ackVerdict, committedBy, byCount, prepareOkStep}
+use Rattle.model.specs.State.{ClientEntry, State, Reply, Answer, ignored, setBook, setVotes, setAcks, opOf}
 use Rattle.model.specs.State.Answer.{refused, done}
 use Rattle.model.specs.Book.{appendAll, commitReplies}
 use Rattle.model.specs.Sending.{messagesOut, repliesOut, primary, isPrimary}
 use Rattle.model.specs.Normal.{committed, ackRow, acked, blanked, onPrepareOk}
-use Rattle.layout.specs.Layout.{Runs, bookOf, storeOf, modelOf}
+use Rattle.layout.specs.Layout.{LentRuns, bookOf, storeOf, modelOf}
 use Rattle.model.specs.Steps.{fitted}
 use Rattle.layout.specs.Shown.{Given, Step, Grew, Did, Shown}
 use Rattle.layout.specs.Shown.Grew.{more}
@@ -81,7 +81,7 @@ either true b x y e = refl
 either false true x y e = refl
 either false false x y e = absurd (false≢true e)
 
-module _ (c : Given) (table : List Row) (applied : List Entry) (v : View) (o : Op) (r : ℕ) (sound : Sound (c .state) (bookRuns (c .runs)))
+module _ (c : Given) (table : List ClientEntry) (applied : List Entry) (v : View) (o : Op) (r : ℕ) (sound : Sound (c .state) (bookRuns (c .runs)))
     (bytes : Bytes (c .runs .totals)) where
   abbrev s : Replica
   s = c .state
@@ -114,11 +114,11 @@ module _ (c : Given) (table : List Row) (applied : List Entry) (v : View) (o : O
   nothing-shown = idle-shown c table applied
 
   -- the runs with other results, totals and acks
-  abbrev left : Money → List ℕ → Runs
+  abbrev left : Money → List ℕ → LentRuns
   left y acks = ofCounted c (counted (quiet s) y acks (c .reps)) .runs
 
   note-did : Did c (told c s (left x noted) false [] [] 0 0) (now .book) (acked now (o .0) r) [] []
-  unfolding acked ackRow withAcks withVotes modelOf storeOf bookOf messagesOut repliesOut packed
+  unfolding acked ackRow setAcks setVotes modelOf storeOf bookOf messagesOut repliesOut packed
   note-did =
       told-did c s (left x noted) false (now .book) (acked now (o .0) r) refl refl (no-growth (now .book))
       [] [] [] [] 0 0 refl refl refl refl
@@ -132,7 +132,7 @@ module _ (c : Given) (table : List Row) (applied : List Entry) (v : View) (o : O
   -- ---- the op and all before it are committed
 
   abbrev next : State
-  next = withAcks (committed now (o .0)) (blanked (o .0) (c .runs .acks))
+  next = setAcks (committed now (o .0)) (blanked (o .0) (c .runs .acks))
 
   abbrev after : Counted
   after = committedBy s o (c .runs .log) x (c .runs .acks) (c .reps)
@@ -149,16 +149,16 @@ module _ (c : Given) (table : List Row) (applied : List Entry) (v : View) (o : O
     blanks = ap (λ (k : ℕ). replicate (o .0) 0 ++ drop k (c .runs .acks)) (length-replicate (o .0) 0)
 
     reads : modelOf (committedTo s o) (ofCounted c after .runs) (next .book .table) (next .book .applied) ≡ next
-    unfolding modelOf storeOf committedBy committed withAcks withVotes withBook
+    unfolding modelOf storeOf committedBy committed setAcks setVotes setBook
     reads =
-        λ i. withAcks
-        (withBook now
+        λ i. setAcks
+        (setBook now
         (settle-lift (s .setup .members) (c .runs .log) (s .commit .0) x bytes wide (s .op .0) table applied (o .0)
         results-room (sound .commit-le) le i))
         (blanks i)
 
     grew : Grew (now .book) false (next .book)
-    unfolding committed withAcks withVotes withBook appendAll
+    unfolding committed setAcks setVotes setBook appendAll
     grew = more [] (o .0) refl refl
 
     abbrev answers : List Reply
@@ -206,10 +206,10 @@ module _ (c : Given) (table : List Row) (applied : List Entry) (v : View) (o : O
       if ltb (opOf now) (o .0) then refused 5 else
       done next [] (commitReplies w (now .book) (o .0))
 
-  weighed : Agree (verdictOf s o held r (length (c .reps))) (rest (s .view .0))
-  unfolding verdictOf
+  weighed : Agree (ackVerdict s o held r (length (c .reps))) (rest (s .view .0))
+  unfolding ackVerdict
   weighed =
-      split (Agree (verdictOf s o held r (length (c .reps)))) _ _ _
+      split (Agree (ackVerdict s o held r (length (c .reps)))) _ _ _
       (λ t. subst (λ (z : Count). Agree z (ignored now)) (sym (either _ _ _ _ t)) nothing-shown)
       (λ f.
       subst (λ (z : Count). Agree z (if not (eqb (ones (withMember held r)) (quorumOf (s .setup .n))) then ignored (acked now (o .0) r) else

@@ -21,7 +21,7 @@ use Rattle.normal.specs.Tick as T
 use Rattle.normal.specs.Tick.{Leading, heartbeatLength, preparesLength, heartbeatOf, preparesTo, preparesOf}
 use Rattle.normal.proofs.SendLaws.{beat-long}
 use Rattle.normal.proofs.TickLaws.{prepares-long}
-use Rattle.model.specs.State.{opNumber, Row, State, withClock}
+use Rattle.model.specs.State.{opNumber, ClientEntry, State, setClock}
 use Rattle.model.specs.Sending.{sentBytes, messagesOut, sendPrepare, sendPrepares, sendCommit}
 use Rattle.layout.specs.Layout.{bookOf, storeOf, modelOf}
 use Rattle.model.specs.Steps.{fitted, primaryTick}
@@ -39,7 +39,7 @@ prepares-end u m o (x ∷ es) e =
     let n : o + 1 + length es ≡ o + suc (length es) = omega arith in
     rw (prepares-end u m (o + 1) es e, n) (sym (append-assoc (sendPrepare u m o x) (sendPrepares u m (o + 1) es) _))
 
-module _ (c : Given) (table : List Row) (applied : List Entry) (leading : Leading (c .state) (length (c .runs .log))) where
+module _ (c : Given) (table : List ClientEntry) (applied : List Entry) (leading : Leading (c .state) (length (c .runs .log))) where
   abbrev s : Replica
   s = c .state
 
@@ -50,7 +50,7 @@ module _ (c : Given) (table : List Row) (applied : List Entry) (leading : Leadin
   now = modelOf s (c .runs) table applied
 
   abbrev next : State
-  next = withClock now (tickOf (s .setup .timeout) Lead (s .clock) .clock)
+  next = setClock now (tickOf (s .setup .timeout) Lead (s .clock) .clock)
 
   beat-bytes : messagesOut (sendCommit (s .setup) now) ≡ heartbeatOf s
   unfolding sendCommit modelOf bookOf
@@ -98,12 +98,12 @@ module _ (c : Given) (table : List Row) (applied : List Entry) (leading : Leadin
       ∙ λ i. beat-long (s .setup) (leading .sized) (s .view) (s .commit) i + prepares-long s log leading (s .op .0 - s .commit .0) i
 
   reads : modelOf (S.withClock s (tickOf (s .setup .timeout) Lead (s .clock) .clock)) (c .runs) (next .book .table) (next .book .applied) ≡ next
-  unfolding modelOf bookOf storeOf withClock
+  unfolding modelOf bookOf storeOf setClock
   reads = refl
 
   pub primary-tick-shown : Shown c (ofSpoke c (T.primaryTick s log (c .out))) (now .book)
       (fitted (length (c .out)) (length (c .reps)) (primaryTick (s .setup) now))
-  unfolding primaryTick T.primaryTick modelOf bookOf storeOf withClock
+  unfolding primaryTick T.primaryTick modelOf bookOf storeOf setClock
   primary-tick-shown =
       spoke-shown c (S.withClock s (tickOf (s .setup .timeout) Lead (s .clock) .clock)) (now .book) next refl reads (no-growth (now .book))
       _ _ _ tick-bytes tick-long

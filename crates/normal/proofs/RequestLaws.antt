@@ -18,18 +18,18 @@ use Rattle.config.specs.Replicas.{withMember}
 use Rattle.config.proofs.SetupLaws.{sized}
 use Rattle.fees.specs.declared.Outcome.{Outcome}
 use Rattle.writers.specs.Writers.{sizeOf, reply, toOthers}
-use Rattle.rows.specs.declared.Latest.{Latest}
+use Rattle.client_table.specs.declared.Latest.{Latest}
 use Rattle.book.specs.Log.{withEntries}
 use Rattle.book.specs.Runs.{replyTo}
 use Rattle.book.proofs.RunLaws.{reply-length}
 use Rattle.state.specs.State.{leads, withLog}
 use Rattle.state.specs.Statuses.{isNormal}
 use Rattle.state.specs.Answers.{refusal, completed, quiet}
-use Rattle.state.specs.declared.Answer.{Answer}
+use Rattle.state.specs.declared.Returned.{Returned}
 use Rattle.state.specs.declared.Replica.{Replica}
-use Rattle.normal.specs.declared.request.Call.{Call}
-use Rattle.normal.specs.declared.request.Call.the-variants.{Nothing, Resend, Refuse, Append}
-use Rattle.normal.specs.Request.{Ready, Took, Answered, served, took, answered, sendsOf, knownVerdict, newVerdict, clientVerdict, verdictOf, nextOp, prepareOf, accepted, resent, byCall, requestStep}
+use Rattle.normal.specs.declared.request.RequestVerdict.{RequestVerdict}
+use Rattle.normal.specs.declared.request.RequestVerdict.the-variants.{Nothing, Resend, Refuse, Append}
+use Rattle.normal.specs.Request.{Ready, Took, Answered, served, took, answered, sendsOf, knownVerdict, newVerdict, clientVerdict, requestVerdict, nextOp, prepareOf, accepted, resent, byCall, requestStep}
 use Rattle.normal.proofs.SendLaws.{prepare-long}
 
 -- weigh_known
@@ -68,36 +68,36 @@ module _ (s : Replica) (out : ℕ) where
 
 -- weigh_client, weigh
 module _ (s : Replica) (e : Entry) (latest : Latest) (out reps : ℕ) where
-  pub first : (k : Call) → not (latest .there) ≡ true → k ≡ newVerdict s out → k ≡ clientVerdict s e latest out reps
+  pub first : (k : RequestVerdict) → not (latest .there) ≡ true → k ≡ newVerdict s out → k ≡ clientVerdict s e latest out reps
   unfolding clientVerdict if_then_else_
   first k t p = rw t p
 
-  pub later : (k : Call) → not (latest .there) ≡ false → latest .request < e .request → k ≡ newVerdict s out
+  pub later : (k : RequestVerdict) → not (latest .there) ≡ false → latest .request < e .request → k ≡ newVerdict s out
       → k ≡ clientVerdict s e latest out reps
   unfolding clientVerdict if_then_else_
   later k t h p = rw (t, lt-ltb (latest .request) (e .request) h) p
 
-  pub again : (k : Call) → not (latest .there) ≡ false → e .request ≤ latest .request → k ≡ knownVerdict e latest reps
+  pub again : (k : RequestVerdict) → not (latest .there) ≡ false → e .request ≤ latest .request → k ≡ knownVerdict e latest reps
       → k ≡ clientVerdict s e latest out reps
   unfolding clientVerdict if_then_else_
   again k t h p = rw (t, le-ltb (latest .request) (e .request) h) p
 
-  pub follower : not (leads s) ≡ true → Nothing ≡ verdictOf s e latest out reps
-  unfolding verdictOf if_then_else_
+  pub follower : not (leads s) ≡ true → Nothing ≡ requestVerdict s e latest out reps
+  unfolding requestVerdict if_then_else_
   follower l = rw l
 
-  pub absent : not (leads s) ≡ false → not (isNormal (s .status)) ≡ true → Nothing ≡ verdictOf s e latest out reps
-  unfolding verdictOf if_then_else_
+  pub absent : not (leads s) ≡ false → not (isNormal (s .status)) ≡ true → Nothing ≡ requestVerdict s e latest out reps
+  unfolding requestVerdict if_then_else_
   absent l n = rw (l, n)
 
-  pub primary : (k : Call) → not (leads s) ≡ false → not (isNormal (s .status)) ≡ false → k ≡ clientVerdict s e latest out reps
-      → k ≡ verdictOf s e latest out reps
-  unfolding verdictOf if_then_else_
+  pub primary : (k : RequestVerdict) → not (leads s) ≡ false → not (isNormal (s .status)) ≡ false → k ≡ clientVerdict s e latest out reps
+      → k ≡ requestVerdict s e latest out reps
+  unfolding requestVerdict if_then_else_
   primary k l n p = rw (l, n) p
 
 -- what a verdict says of the log's room and of the areas
 module _ (s : Replica) (out reps : ℕ) where
-  abbrev Fits : Call → Type 0
+  abbrev Fits : RequestVerdict → Type 0
   Fits Nothing = Unit {0}
   Fits Resend = 36 ≤ reps
   Fits (Refuse k) = Unit {0}
@@ -106,8 +106,8 @@ module _ (s : Replica) (out reps : ℕ) where
   known-fits : (e : Entry) (latest : Latest) → Fits (knownVerdict e latest reps)
   unfolding knownVerdict
   known-fits e latest =
-      let b : Call = if ltb reps 36 then Refuse 10 else Resend in
-      let a : Call = if not (latest .replied) then Nothing else b in
+      let b : RequestVerdict = if ltb reps 36 then Refuse 10 else Resend in
+      let a : RequestVerdict = if not (latest .replied) then Nothing else b in
       split Fits (ltb (e .request) (latest .request)) Nothing a (λ h. tt)
       (λ h. split Fits (not (latest .replied)) Nothing b (λ r. tt)
       (λ r. split Fits (ltb reps 36) (Refuse 10) Resend (λ l. tt) (λ l. ltb-false reps 36 l)))
@@ -115,7 +115,7 @@ module _ (s : Replica) (out reps : ℕ) where
   new-fits : Fits (newVerdict s out)
   unfolding newVerdict
   new-fits =
-      let a : Call = if ltb out (sendsOf s) then Refuse 9 else Append in
+      let a : RequestVerdict = if ltb out (sendsOf s) then Refuse 9 else Append in
       split Fits (leb (s .setup .room) (s .op .0)) (Refuse 4) a (λ h. tt)
       (λ h. split Fits (ltb out (sendsOf s)) (Refuse 9) Append (λ l. tt)
       (λ l. (leb-false (s .setup .room) (s .op .0) h, ltb-false out (sendsOf s) l)))
@@ -123,27 +123,27 @@ module _ (s : Replica) (out reps : ℕ) where
   client-fits : (e : Entry) (latest : Latest) → Fits (clientVerdict s e latest out reps)
   unfolding clientVerdict
   client-fits e latest =
-      let a : Call = if ltb (latest .request) (e .request) then newVerdict s out else knownVerdict e latest reps in
+      let a : RequestVerdict = if ltb (latest .request) (e .request) then newVerdict s out else knownVerdict e latest reps in
       split Fits (not (latest .there)) (newVerdict s out) a (λ t. new-fits)
       (λ t. split Fits (ltb (latest .request) (e .request)) (newVerdict s out) (knownVerdict e latest reps)
       (λ h. new-fits) (λ h. known-fits e latest))
 
-  fits : (e : Entry) (latest : Latest) → Fits (verdictOf s e latest out reps)
-  unfolding verdictOf
+  fits : (e : Entry) (latest : Latest) → Fits (requestVerdict s e latest out reps)
+  unfolding requestVerdict
   fits e latest =
-      let b : Call = clientVerdict s e latest out reps in
-      let a : Call = if not (isNormal (s .status)) then Nothing else b in
+      let b : RequestVerdict = clientVerdict s e latest out reps in
+      let a : RequestVerdict = if not (isNormal (s .status)) then Nothing else b in
       split Fits (not (leads s)) Nothing a (λ l. tt)
       (λ l. split Fits (not (isNormal (s .status))) Nothing b (λ n. tt) (λ n. client-fits e latest))
 
-  pub resend-fits : (e : Entry) (latest : Latest) → verdictOf s e latest out reps ≡ Resend → 36 ≤ reps
+  pub resend-fits : (e : Entry) (latest : Latest) → requestVerdict s e latest out reps ≡ Resend → 36 ≤ reps
   resend-fits e latest p = subst Fits p (fits e latest)
 
-  pub append-fits : (e : Entry) (latest : Latest) → verdictOf s e latest out reps ≡ Append → (s .op .0 < s .setup .room) × (sendsOf s ≤ out)
+  pub append-fits : (e : Entry) (latest : Latest) → requestVerdict s e latest out reps ≡ Append → (s .op .0 < s .setup .room) × (sendsOf s ≤ out)
   append-fits e latest p = subst Fits p (fits e latest)
 
 -- resend
-pub resends : (s : Replica) (e : Entry) (o : Outcome) (reps r : List ℕ) (a : Answer) (w : ℕ)
+pub resends : (s : Replica) (e : Entry) (o : Outcome) (reps r : List ℕ) (a : Returned) (w : ℕ)
     → Wrote (reply (s .view) (e .client) (e .request) (o .code) (o .total)) reps r w → a ≡ completed s 0 w false
     → answered a r ≡ resent s e o reps
 unfolding resent replyTo
@@ -165,7 +165,7 @@ module _ (s : Replica) (log acks : List ℕ) (h : Ready s (length log) (length a
       let z = sized (s .setup) (h .sized) in
       omega (arith, z .own, z .seven)
 
-  pub accepts : (e : Entry) (out l o : List ℕ) (i b w : ℕ) (t : Replica) (a : Answer) → l ≡ withEntries (s .op .0) (encodeEntry e) log
+  pub accepts : (e : Entry) (out l o : List ℕ) (i b w : ℕ) (t : Replica) (a : Returned) → l ≡ withEntries (s .op .0) (encodeEntry e) log
       → i ≡ ackPlace (s .op .0) → b ≡ withMember 0 (s .setup .id)
       → Wrote (toOthers (s .setup .n) (s .setup .id) (prepareOf s e) (take (32 * sizeOf (prepareOf s e) .entries) l)) out o w
       → t ≡ withLog s (nextOp s) (s .commit) → a ≡ completed t w 0 false
@@ -177,22 +177,22 @@ module _ (s : Replica) (log acks : List ℕ) (h : Ready s (length log) (length a
 
 -- on_request
 module _ (s : Replica) (e : Entry) (latest : Latest) (log acks out reps : List ℕ) where
-  pub nothing : (a : Answer) → verdictOf s e latest (length out) (length reps) ≡ Nothing → a ≡ quiet s
+  pub nothing : (a : Returned) → requestVerdict s e latest (length out) (length reps) ≡ Nothing → a ≡ quiet s
       → served a log acks out reps ≡ requestStep s e latest log acks out reps
   unfolding requestStep byCall
   nothing a v p = rw (v, p)
 
-  pub answers : (a : Answer) (r : List ℕ) → verdictOf s e latest (length out) (length reps) ≡ Resend
+  pub answers : (a : Returned) (r : List ℕ) → requestVerdict s e latest (length out) (length reps) ≡ Resend
       → answered a r ≡ resent s e (latest .reply) reps → served a log acks out r ≡ requestStep s e latest log acks out reps
   unfolding requestStep byCall
   answers a r v p = rw v (ap (λ (d : Answered). served (d .answer) log acks out (d .reps)) p)
 
-  pub refuses : (a : Answer) (k : ℕ) → verdictOf s e latest (length out) (length reps) ≡ Refuse k → a ≡ refusal k s
+  pub refuses : (a : Returned) (k : ℕ) → requestVerdict s e latest (length out) (length reps) ≡ Refuse k → a ≡ refusal k s
       → served a log acks out reps ≡ requestStep s e latest log acks out reps
   unfolding requestStep byCall
   refuses a k v p = rw (v, p)
 
-  pub takes : (a : Answer) (l k o : List ℕ) → verdictOf s e latest (length out) (length reps) ≡ Append
+  pub takes : (a : Returned) (l k o : List ℕ) → requestVerdict s e latest (length out) (length reps) ≡ Append
       → took a l k o ≡ accepted s e log acks out → served a l k o reps ≡ requestStep s e latest log acks out reps
   unfolding requestStep byCall
   takes a l k o v p = rw v (ap (λ (d : Took). served (d .answer) (d .log) (d .acks) (d .out) reps) p)

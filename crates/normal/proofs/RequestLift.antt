@@ -23,21 +23,21 @@ use Rattle.entries.proofs.PlaceLaws.{place-is, place-mono}
 use Rattle.fees.specs.declared.Outcome.{Outcome}
 use Rattle.frames.specs.declared.Message.the-variants.{Prepare}
 use Rattle.writers.specs.Writers as W
-use Rattle.rows.specs.declared.Latest.{Latest}
+use Rattle.client_table.specs.declared.Latest.{Latest}
 use Rattle.book.specs.Runs.{replyTo}
 use Rattle.book.specs.Memory.{money}
 use Rattle.book.proofs.RunLaws.{reply-length}
 use Rattle.state.specs.State.{leads, withLog}
 use Rattle.state.specs.declared.Replica.{Replica}
-use Rattle.normal.specs.declared.request.Call.{Call}
-use Rattle.normal.specs.declared.request.Call.the-variants.{Nothing, Resend, Refuse, Append}
+use Rattle.normal.specs.declared.request.RequestVerdict.{RequestVerdict}
+use Rattle.normal.specs.declared.request.RequestVerdict.the-variants.{Nothing, Resend, Refuse, Append}
 use Rattle.normal.specs.Request as R
-use Rattle.normal.specs.Request.{Ready, Served, sendsOf, knownVerdict, newVerdict, clientVerdict, verdictOf, nextOp, prepareOf, resent, byCall, requestStep}
+use Rattle.normal.specs.Request.{Ready, Served, sendsOf, knownVerdict, newVerdict, clientVerdict, requestVerdict, nextOp, prepareOf, resent, byCall, requestStep}
 use Rattle.normal.proofs.RequestLaws.{older, again, first, later}
 use Rattle.normal.proofs.SendLaws.{prepare-long}
-use Rattle.model.specs.State.{opNumber, Row, Book, State, Reply, Answer, ignored, withBook, withVotes, withAcks, opOf}
+use Rattle.model.specs.State.{opNumber, ClientEntry, Book, State, Reply, Answer, ignored, setBook, setVotes, setAcks, opOf}
 use Rattle.model.specs.State.Answer.{refused, done}
-use Rattle.model.specs.Book.{Seen, find, append, appendAll, commitAll, due, commitUpTo}
+use Rattle.model.specs.Book.{Seen, find, append, appendAll, commitAll, dueEntries, commitUpTo}
 use Rattle.model.specs.Sending.{replyBytes, messagesOut, repliesOut, sendPrepare}
 use Rattle.model.specs.Sending as Sending
 use Rattle.model.specs.ViewChange.{ownVote}
@@ -70,7 +70,7 @@ ofServed c d =
     }
 
 -- a Request in a state that calls left
-pub record Asked (c : Given) (table : List Row) (e : Entry) (latest : Latest) : Type 0 where
+pub record Asked (c : Given) (table : List ClientEntry) (e : Entry) (latest : Latest) : Type 0 where
   pub ready : Ready (c .state) (length (c .runs .log)) (length (c .runs .acks))
   pub fits : EntryFits e
   pub rises : rising (entries (c .state .op .0) (c .runs .log)) ≡ true
@@ -104,10 +104,10 @@ above true x y h = lt-leb x y (h refl)
 
 -- a book that only grew
 grown : (b : Book) (e : Entry) → Grew b false (append b e)
-unfolding commitUpTo due commitAll appendAll append
+unfolding commitUpTo dueEntries commitAll appendAll append
 grown b e = more (e ∷ []) 0 refl (rw (zero-sub (b .commit)))
 
-module _ (c : Given) (table : List Row) (applied : List Entry) (e : Entry) (latest : Latest) (asked : Asked c table e latest) where
+module _ (c : Given) (table : List ClientEntry) (applied : List Entry) (e : Entry) (latest : Latest) (asked : Asked c table e latest) where
   abbrev s : Replica
   s = c .state
 
@@ -120,10 +120,10 @@ module _ (c : Given) (table : List Row) (applied : List Entry) (e : Entry) (late
   abbrev fit : Answer → Answer
   fit a = fitted (length (c .out)) (length (c .reps)) a
 
-  abbrev by : Call → Served
+  abbrev by : RequestVerdict → Served
   by z = byCall z s e latest (c .runs .log) (c .runs .acks) (c .out) (c .reps)
 
-  abbrev Agree : Call → Answer → Type 0
+  abbrev Agree : RequestVerdict → Answer → Type 0
   Agree z a = Goal (by z) (fit a)
 
   nothing-shown : Agree Nothing (ignored now)
@@ -161,7 +161,7 @@ module _ (c : Given) (table : List Row) (applied : List Entry) (e : Entry) (late
   resend-shown =
       subst (Goal (by (if ltb (length (c .reps)) 36 then Refuse 10 else Resend)))
       (sym (replies-only (length (c .out)) (length (c .reps)) now (again-with (latest .reply) ∷ [])))
-      (split₂ (λ (z : Call) (a : Answer). Goal (by z) a) _ _ _ _ _ _ (ap (ltb (length (c .reps))) (sym (reply-long (latest .reply))))
+      (split₂ (λ (z : RequestVerdict) (a : Answer). Goal (by z) a) _ _ _ _ _ _ (ap (ltb (length (c .reps))) (sym (reply-long (latest .reply))))
       (λ _. refuse-fitted 10) (λ _. resend-did))
 
   kept-shown : (b : Bool) → Agree (if not b then Nothing else if ltb (length (c .reps)) 36 then Refuse 10 else Resend)
@@ -194,16 +194,16 @@ module _ (c : Given) (table : List Row) (applied : List Entry) (e : Entry) (late
         omega (arith, asked .ready .log-long, place-is (s .setup .room), place-mono (s .op .0 + 1) (s .setup .room) (omega (arith, room)))
 
     reads : modelOf (withLog s (nextOp s) (s .commit)) (ofServed c (by Append) .runs) (next .book .table) (next .book .applied) ≡ next
-    unfolding byCall R.accepted modelOf storeOf accepted withAcks withVotes withBook ownVote append bookOf
+    unfolding byCall R.accepted modelOf storeOf accepted setAcks setVotes setBook ownVote append bookOf
     reads =
-        λ i. withAcks
-        (withBook now
+        λ i. setAcks
+        (setBook now
         (append-lift (s .setup .members) (s .op .0) (s .commit .0) (c .runs .log) (money (c .runs .results) (c .runs .totals)) table applied e
         (asked .fits) place i))
         (set (c .runs .acks) (sym op-is i) (ownVote (s .setup)))
 
     grew : Grew (now .book) false (next .book)
-    unfolding accepted withAcks withVotes withBook
+    unfolding accepted setAcks setVotes setBook
     grew = grown (now .book) e
 
     append-did : Did c (ofServed c (by Append)) (now .book) next (sendPrepare (s .setup) now (opOf now + 1) e) []
@@ -218,7 +218,7 @@ module _ (c : Given) (table : List Row) (applied : List Entry) (e : Entry) (late
     append-shown =
         subst (Goal (by (if ltb (length (c .out)) (sendsOf s) then Refuse 9 else Append)))
         (sym (sends-only (length (c .out)) (length (c .reps)) next (sendPrepare (s .setup) now (opOf now + 1) e)))
-        (split₂ (λ (z : Call) (a : Answer). Goal (by z) a) _ _ _ _ _ _
+        (split₂ (λ (z : RequestVerdict) (a : Answer). Goal (by z) a) _ _ _ _ _ _
         (ap (ltb (length (c .out))) (sym (ap length prepare-bytes ∙ prepares-long)))
         (λ _. refuse-fitted 9) (λ _. append-did))
 
@@ -247,7 +247,7 @@ module _ (c : Given) (table : List Row) (applied : List Entry) (e : Entry) (late
 
   -- ---- by the client's row
 
-  abbrev verdict : Call
+  abbrev verdict : RequestVerdict
   verdict = clientVerdict s e latest (length (c .out)) (length (c .reps))
 
   row-there : seen .there ≡ true → latest .there ≡ true
@@ -259,7 +259,7 @@ module _ (c : Given) (table : List Row) (applied : List Entry) (e : Entry) (late
   old-shown : seen .there ≡ true → e .request < seen .request → Agree verdict (ignored now)
   old-shown p h =
       let q : e .request < latest .request = omega (arith, h, row-request p) in
-      subst (λ (z : Call). Agree z (ignored now))
+      subst (λ (z : RequestVerdict). Agree z (ignored now))
       (again s e latest (length (c .out)) (length (c .reps)) Nothing (ap not (row-there p)) (omega (arith, q))
       (older e latest (length (c .reps)) q))
       nothing-shown
@@ -276,7 +276,7 @@ module _ (c : Given) (table : List Row) (applied : List Entry) (e : Entry) (late
   same-shown : seen .there ≡ true → e .request ≡ seen .request → Agree verdict (resend now e (seen .kept))
   same-shown p h =
       subst (λ (k : Option Outcome). Agree verdict (resend now e k)) (asked .tells .kept (row-there p))
-      (subst (λ (z : Call). Agree z (resend now e (if latest .replied then some (latest .reply) else none))) (same-verdict p h)
+      (subst (λ (z : RequestVerdict). Agree z (resend now e (if latest .replied then some (latest .reply) else none))) (same-verdict p h)
       (kept-shown (latest .replied)))
 
   new-verdict : (seen .there ≡ true → seen .request < e .request) → newVerdict s (length (c .out)) ≡ verdict
@@ -296,17 +296,17 @@ module _ (c : Given) (table : List Row) (applied : List Entry) (e : Entry) (late
       split (Agree verdict) _ _ _ (λ t. let p = and-both _ _ t in old-shown (p .0) (ltb-true _ _ (p .1))) λ f.
       split (Agree verdict) _ _ _ (λ t. let p = and-both _ _ t in same-shown (p .0) (eqb-true _ _ (p .1))) λ g.
       let h = past (seen .there) (e .request) (seen .request) f g in
-      subst (λ (z : Call). Agree z taken) (new-verdict h) (new-shown h)
+      subst (λ (z : RequestVerdict). Agree z taken) (new-verdict h) (new-shown h)
 
   pub request-shown : Shown c (ofServed c (requestStep s e latest (c .runs .log) (c .runs .acks) (c .out) (c .reps))) (now .book)
       (fitted (length (c .out)) (length (c .reps)) (onRequest (s .setup) now e))
-  unfolding requestStep verdictOf onRequest Sending.isPrimary Sending.primary leads modelOf bookOf
+  unfolding requestStep requestVerdict onRequest Sending.isPrimary Sending.primary leads modelOf bookOf
   request-shown =
-      split (Agree (verdictOf s e latest (length (c .out)) (length (c .reps)))) _ _ _
-      (λ t. subst (λ (z : Call). Agree z (ignored now)) (sym (outside _ _ _ _ t)) nothing-shown)
+      split (Agree (requestVerdict s e latest (length (c .out)) (length (c .reps)))) _ _ _
+      (λ t. subst (λ (z : RequestVerdict). Agree z (ignored now)) (sym (outside _ _ _ _ t)) nothing-shown)
       (λ f.
       subst
-      (λ (z : Call). Agree z
+      (λ (z : RequestVerdict). Agree z
       (if seen .there and ltb (e .request) (seen .request) then ignored now else
       if seen .there and eqb (e .request) (seen .request) then resend now e (seen .kept) else
       taken))

@@ -22,7 +22,7 @@ use Rattle.frames.specs.declared.Message.the-variants.{Prepare, Commit}
 use Rattle.writers.specs.Writers.{sizeOf, toOthers}
 use Rattle.state.specs.State.{withClock}
 use Rattle.state.specs.Answers.{refusal, completed}
-use Rattle.state.specs.declared.Answer.{Answer}
+use Rattle.state.specs.declared.Returned.{Returned}
 use Rattle.state.specs.declared.Replica.{Replica}
 use Rattle.steps.specs.Steps.{spoke}
 use Rattle.normal.specs.Tick.{Leading, heartbeatLength, preparesLength, heartbeatOf, preparesTo, preparesOf, primaryTick}
@@ -136,7 +136,7 @@ module _ (s : Replica) (log : List ℕ) (h : Leading s (length log)) where
 
   -- tick_primary
   module _ (out : List ℕ) (k : ℕ) (e : k ≡ heartbeatLength s + preparesLength s (s .op .0 - s .commit .0)) where
-    pub tick-short : (a : Answer) → length out < k → a ≡ refusal 9 s → spoke a out ≡ primaryTick s log out
+    pub tick-short : (a : Returned) → length out < k → a ≡ refusal 9 s → spoke a out ≡ primaryTick s log out
     unfolding primaryTick if_then_else_
     tick-short a l p = rw (lt-ltb (length out) (heartbeatLength s + preparesLength s (s .op .0 - s .commit .0)) (omega arith), p)
 
@@ -171,7 +171,7 @@ module _ (s : Replica) (log : List ℕ) (h : Leading s (length log)) where
             let z = sized (s .setup) (h .sized) in
             omega (arith, z .seven, beat-count, all-count, prepares-small s (length log) h)
 
-        pub ticks : (x : Ticked) (t : Replica) (a : Answer) → x ≡ tickOf (s .setup .timeout) Lead (s .clock) → t ≡ withClock s (x .clock)
+        pub ticks : (x : Ticked) (t : Replica) (a : Returned) → x ≡ tickOf (s .setup .timeout) Lead (s .clock) → t ≡ withClock s (x .clock)
             → a ≡ completed t (w + p) 0 false
             → spoke a (take w o ++ (part ++ drop (length o - w) (drop w o))) ≡ primaryTick s log out
         unfolding primaryTick if_then_else_ sizeOf

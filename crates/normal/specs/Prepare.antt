@@ -12,18 +12,19 @@ use Rattle.book.specs.Log.{withEntries}
 use Rattle.state.specs.State.{heardBy, withLog}
 use Rattle.state.specs.Answers.{refusal}
 use Rattle.state.specs.declared.Replica.{Replica}
-use Rattle.steps.specs.Steps.{Left, left, alone, acceptOf, isTake, deferred, transferred, acked}
+use Rattle.steps.specs.Steps.{Left, left, alone, acceptOf, isTake, deferred, transferred, committedAndAcked}
 use Rattle.book.specs.Memory.{Runs}
-use Rattle.normal.specs.declared.prepare.Verdict.{Verdict}
-use Rattle.normal.specs.declared.prepare.Verdict.the-variants.{Transfer, Again, Refuse, Append}
+use Rattle.normal.specs.declared.prepare.PrepareVerdict.{PrepareVerdict}
+use Rattle.normal.specs.declared.prepare.PrepareVerdict.the-variants.{Transfer, Again, Refuse, Append}
 use Rattle.normal.specs.declared.prepare.Prepared.{Prepared}
+use Rattle.normal.specs.Request.{nextOp}
 
 -- the lower of two op numbers
 abbrev pub lowerOf : Op → Op → Op
 lowerOf a b = record { 0 = min (a .0) (b .0) }
 
 -- the next op: refusal 4 where the log has L entries; 6 where the client's row has this number or a later one
-unfoldable pub appendVerdict : Replica → Prepared → Verdict
+unfoldable pub appendVerdict : Replica → Prepared → PrepareVerdict
 appendVerdict s p =
     if leb (s .setup .room) (s .op .0) then Refuse 4 else
     if not (p .latest .there) then Append else
@@ -31,8 +32,8 @@ appendVerdict s p =
     Append
 
 -- past the next op a state transfer; an earlier one is a re-sent Prepare, not compared with our entry
-unfoldable pub verdictOf : Replica → Prepared → Verdict
-verdictOf s p =
+unfoldable pub prepareVerdict : Replica → Prepared → PrepareVerdict
+prepareVerdict s p =
     if ltb (s .op .0 + 1) (p .op .0) then Transfer else
     if ltb (p .op .0) (s .op .0 + 1) then Again else
     appendVerdict s p
@@ -41,25 +42,21 @@ verdictOf s p =
 abbrev pub withEntry : Replica → Prepared → Runs → Runs
 withEntry s p x = record { log = withEntries (s .op .0) (encodeEntry (p .entry)) (x .log); money = x .money }
 
--- the op number after the next entry
-abbrev pub nextOp : Replica → Op
-nextOp s = record { 0 = s .op .0 + 1 }
-
 -- appended; then commit to the smaller of c and our op number, and acknowledge our op number
 unfoldable pub appendedBy : Replica → Prepared → Runs → List ℕ → Left
 appendedBy s p x out =
     if ltb (length out) 16 then left (refusal 9 s) x out else
-    acked s (withLog (heardBy s) (nextOp s) (s .commit)) (lowerOf (p .commit) (nextOp s)) false (withEntry s p x) out
+    committedAndAcked s (withLog (heardBy s) (nextOp s) (s .commit)) (lowerOf (p .commit) (nextOp s)) false (withEntry s p x) out
 
-unfoldable pub byVerdict : Verdict → Replica → Prepared → Runs → List ℕ → Left
-byVerdict Transfer s p x out = alone x (transferred s out)
-byVerdict Again s p x out = acked s (heardBy s) (lowerOf (p .commit) (s .op)) false x out
-byVerdict (Refuse k) s p x out = left (refusal k s) x out
-byVerdict Append s p x out = appendedBy s p x out
+unfoldable pub byPrepareVerdict : PrepareVerdict → Replica → Prepared → Runs → List ℕ → Left
+byPrepareVerdict Transfer s p x out = alone x (transferred s out)
+byPrepareVerdict Again s p x out = committedAndAcked s (heardBy s) (lowerOf (p .commit) (s .op)) false x out
+byPrepareVerdict (Refuse k) s p x out = left (refusal k s) x out
+byPrepareVerdict Append s p x out = appendedBy s p x out
 
 -- on_prepare, of a backup in Normal in the message's view
 unfoldable pub takenPrepare : Replica → Prepared → Runs → List ℕ → Left
-takenPrepare s p x out = byVerdict (verdictOf s p) s p x out
+takenPrepare s p x out = byPrepareVerdict (prepareVerdict s p) s p x out
 
 -- on_prepare
 unfoldable pub prepareStep : Replica → View → Prepared → Runs → List ℕ → Left

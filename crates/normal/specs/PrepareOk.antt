@@ -12,12 +12,12 @@ use Rattle.numbers.specs.declared.View.{View}
 use Rattle.numbers.specs.declared.Op.{Op}
 use Rattle.entries.specs.Places.{ackPlace}
 use Rattle.config.specs.Replicas.{bit, withMember, quorumOf}
-use Rattle.book.specs.Runs.{committed, replies}
+use Rattle.book.specs.Runs.{moneyCommitted, replies}
 use Rattle.book.specs.Memory.{Money}
 use Rattle.state.specs.State.{leads}
 use Rattle.state.specs.Statuses.{isNormal}
 use Rattle.state.specs.Answers.{refusal, completed, quiet}
-use Rattle.state.specs.declared.Answer.{Answer}
+use Rattle.state.specs.declared.Returned.{Returned}
 use Rattle.state.specs.declared.Replica.{Replica}
 use Rattle.steps.specs.Steps.{committedTo}
 use Rattle.normal.specs.declared.prepare_ok.Count.{Count}
@@ -25,15 +25,15 @@ use Rattle.normal.specs.declared.prepare_ok.Count.the-variants.{Nothing,
 
 -- what a PrepareOk leaves: the answer, results and totals, acks, and the area for replies
 pub record Counted : Type 0 where
-  pub answer : Answer
+  pub answer : Returned
   pub money : Money
   pub acks : List ℕ
   pub reps : List ℕ
 
-abbrev pub counted : Answer → Money → (acks reps : List ℕ) → Counted
+abbrev pub counted : Returned → Money → (acks reps : List ℕ) → Counted
 counted a x acks reps = record { answer = a; money = x; acks = acks; reps = reps }
 
--- a Normal primary, in its view, for an op that isn't committed
+-- a Normal primary, in its view, for an op that isn't moneyCommitted
 unfoldable pub listens : Replica → View → Op → Bool
 listens s v op =
     if not (eqb (v .0) (s .view .0)) then false else
@@ -42,8 +42,8 @@ listens s v op =
     ltb (s .commit .0) (op .0)
 
 -- what one more ack calls for, `held` being the row of the op, `room` the size of the area for replies
-unfoldable pub verdictOf : Replica → Op → (held from room : ℕ) → Count
-verdictOf s op held from room =
+unfoldable pub ackVerdict : Replica → Op → (held from room : ℕ) → Count
+ackVerdict s op held from room =
     if eqb held 0 then Nothing else
     if eqb (bit held from) 1 then Nothing else
     if not (eqb (ones (withMember held from)) (quorumOf (s .setup .n))) then Note else
@@ -51,18 +51,18 @@ verdictOf s op held from room =
     if ltb room (36 * (op .0 - s .commit .0)) then Refuse 10 else
     Commit
 
--- all up to op is committed, with a reply to each in the current view, and the rows of acks up to it go
+-- all up to op is moneyCommitted, with a reply to each in the current view, and the rows of acks up to it go
 unfoldable pub committedBy : Replica → Op → (log : List ℕ) → Money → (acks reps : List ℕ) → Counted
 committedBy s op log x acks reps =
     counted
     (completed (committedTo s op) 0 (36 * (op .0 - s .commit .0)) false)
-    (committed (s .setup .members) log (s .commit .0) (op .0 - s .commit .0) x)
+    (moneyCommitted (s .setup .members) log (s .commit .0) (op .0 - s .commit .0) x)
     (over (replicate (ackPlace (op .0)) 0) acks)
     (over
     (replies
     (s .view)
     log
-    (committed (s .setup .members) log (s .commit .0) (op .0 - s .commit .0) x .results)
+    (moneyCommitted (s .setup .members) log (s .commit .0) (op .0 - s .commit .0) x .results)
     (s .commit .0)
     (op .0 - s .commit .0))
     reps)
@@ -78,4 +78,4 @@ byCount Commit s op from log x acks reps = committedBy s op log x acks reps
 unfoldable pub prepareOkStep : Replica → View → Op → (from : ℕ) (log : List ℕ) → Money → (acks reps : List ℕ) → Counted
 prepareOkStep s v op from log x acks reps =
     if not (listens s v op) then counted (quiet s) x acks reps else
-    byCount (verdictOf s op (getD acks (ackPlace (op .0 - 1)) 0) from (length reps)) s op from log x acks reps
+    byCount (ackVerdict s op (getD acks (ackPlace (op .0 - 1)) 0) from (length reps)) s op from log x acks reps

@@ -18,17 +18,17 @@ use Rattle.fees.specs.declared.Outcome.{Outcome}
 use Rattle.frames.specs.declared.Message.{Message}
 use Rattle.frames.specs.declared.Message.the-variants.{Prepare}
 use Rattle.writers.specs.Writers.{toOthers}
-use Rattle.rows.specs.declared.Latest.{Latest}
+use Rattle.client_table.specs.declared.Latest.{Latest}
 use Rattle.book.specs.Log.{withEntries}
 use Rattle.book.specs.Runs.{replyTo}
 use Rattle.state.specs.State.{leads, withLog}
 use Rattle.state.specs.Statuses.{isNormal}
 use Rattle.state.specs.Answers.{refusal, completed, quiet}
 use Rattle.state.specs.Lengths.{logLength, acksLength}
-use Rattle.state.specs.declared.Answer.{Answer}
+use Rattle.state.specs.declared.Returned.{Returned}
 use Rattle.state.specs.declared.Replica.{Replica}
-use Rattle.normal.specs.declared.request.Call.{Call}
-use Rattle.normal.specs.declared.request.Call.the-variants.{Nothing, Resend, Refuse, Append}
+use Rattle.normal.specs.declared.request.RequestVerdict.{RequestVerdict}
+use Rattle.normal.specs.declared.request.RequestVerdict.the-variants.{Nothing, Resend, Refuse, Append}
 
 -- what refusal 1 leaves, of log and acks
 pub record Ready (s : Replica) (log acks : ℕ) : Type 0 where
@@ -40,31 +40,31 @@ pub record Ready (s : Replica) (log acks : ℕ) : Type 0 where
 
 -- what a Request leaves: the answer, log, acks, and the two areas
 pub record Served : Type 0 where
-  pub answer : Answer
+  pub answer : Returned
   pub log : List ℕ
   pub acks : List ℕ
   pub out : List ℕ
   pub reps : List ℕ
 
-abbrev pub served : Answer → (log acks out reps : List ℕ) → Served
+abbrev pub served : Returned → (log acks out reps : List ℕ) → Served
 served a log acks out reps = record { answer = a; log = log; acks = acks; out = out; reps = reps }
 
 -- one that was appended leaves the area for replies alone
 pub record Took : Type 0 where
-  pub answer : Answer
+  pub answer : Returned
   pub log : List ℕ
   pub acks : List ℕ
   pub out : List ℕ
 
-abbrev pub took : Answer → (log acks out : List ℕ) → Took
+abbrev pub took : Returned → (log acks out : List ℕ) → Took
 took a log acks out = record { answer = a; log = log; acks = acks; out = out }
 
 -- one that is answered again leaves all but that area alone
 pub record Answered : Type 0 where
-  pub answer : Answer
+  pub answer : Returned
   pub reps : List ℕ
 
-abbrev pub answered : Answer → List ℕ → Answered
+abbrev pub answered : Returned → List ℕ → Answered
 answered a reps = record { answer = a; reps = reps }
 
 -- the Prepares of an op, to all others
@@ -72,7 +72,7 @@ abbrev pub sendsOf : Replica → ℕ
 sendsOf s = 51 * (s .setup .n - 1)
 
 -- a number no larger than the client's latest: the reply again, if it is the latest and there is one, or refusal 10
-unfoldable pub knownVerdict : Entry → Latest → ℕ → Call
+unfoldable pub knownVerdict : Entry → Latest → ℕ → RequestVerdict
 knownVerdict e latest room =
     if ltb (e .request) (latest .request) then Nothing else
     if not (latest .replied) then Nothing else
@@ -80,21 +80,21 @@ knownVerdict e latest room =
     Resend
 
 -- a new number: refusal 4 where the log has L entries, then 9
-unfoldable pub newVerdict : Replica → ℕ → Call
+unfoldable pub newVerdict : Replica → ℕ → RequestVerdict
 newVerdict s out =
     if leb (s .setup .room) (s .op .0) then Refuse 4 else
     if ltb out (sendsOf s) then Refuse 9 else
     Append
 
-unfoldable pub clientVerdict : Replica → Entry → Latest → (out reps : ℕ) → Call
+unfoldable pub clientVerdict : Replica → Entry → Latest → (out reps : ℕ) → RequestVerdict
 clientVerdict s e latest out reps =
     if not (latest .there) then newVerdict s out else
     if ltb (latest .request) (e .request) then newVerdict s out else
     knownVerdict e latest reps
 
 -- only a Normal primary looks at a Request; out and reps are the sizes of the areas
-unfoldable pub verdictOf : Replica → Entry → Latest → (out reps : ℕ) → Call
-verdictOf s e latest out reps =
+unfoldable pub requestVerdict : Replica → Entry → Latest → (out reps : ℕ) → RequestVerdict
+requestVerdict s e latest out reps =
     if not (leads s) then Nothing else
     if not (isNormal (s .status)) then Nothing else
     clientVerdict s e latest out reps
@@ -126,7 +126,7 @@ ofTook reps d = served (d .answer) (d .log) (d .acks) (d .out) reps
 abbrev ofAnswered : (log acks out : List ℕ) → Answered → Served
 ofAnswered log acks out d = served (d .answer) log acks out (d .reps)
 
-unfoldable pub byCall : Call → Replica → Entry → Latest → (log acks out reps : List ℕ) → Served
+unfoldable pub byCall : RequestVerdict → Replica → Entry → Latest → (log acks out reps : List ℕ) → Served
 byCall Nothing s e latest log acks out reps = served (quiet s) log acks out reps
 byCall Resend s e latest log acks out reps = ofAnswered log acks out (resent s e (latest .reply) reps)
 byCall (Refuse k) s e latest log acks out reps = served (refusal k s) log acks out reps
@@ -134,4 +134,4 @@ byCall Append s e latest log acks out reps = ofTook reps (accepted s e log acks 
 
 -- on_request
 unfoldable pub requestStep : Replica → Entry → Latest → (log acks out reps : List ℕ) → Served
-requestStep s e latest log acks out reps = byCall (verdictOf s e latest (length out) (length reps)) s e latest log acks out reps
+requestStep s e latest log acks out reps = byCall (requestVerdict s e latest (length out) (length reps)) s e latest log acks out reps

@@ -19,7 +19,7 @@ use Rattle.writers.specs.Writers.{toOthers}
 use Rattle.state.specs.State.{withClock}
 use Rattle.state.specs.Answers.{refusal, completed, quiet}
 use Rattle.state.specs.Lengths.{logLength}
-use Rattle.state.specs.declared.Answer.{Answer}
+use Rattle.state.specs.declared.Returned.{Returned}
 use Rattle.state.specs.declared.Replica.{Replica}
 use Rattle.steps.specs.Steps.{Spoke, spoke}
 
@@ -65,5 +65,5 @@ primaryTick s log out =
     (over (heartbeatOf s ++ preparesOf s log (s .op .0 - s .commit .0)) out)
 
 -- on_idle of a Normal backup whose wait isn't over; c is the clock after it
-abbrev pub backupTick : Replica → Clock → Answer
+abbrev pub backupTick : Replica → Clock → Returned
 backupTick s c = quiet (withClock s c)

@@ -5,8 +5,8 @@ ghost use Rattle.book.specs.Memory.{runs};
 ghost use Rattle.normal.specs.Commit.{takenCommit, commitStep};
 use numbers::Op;
 use numbers::View;
-use state::Answer;
 use state::Replica;
+use state::Returned;
 
 // A Commit past our log starts a state transfer.
 fn take_commit(
@@ -16,7 +16,7 @@ fn take_commit(
     results: &mut [u8],
     totals: &mut [u8],
     out: &mut [u8],
-) -> Answer
+) -> Returned
     requires { ⌜ Sound s (runs (now log) (now results) (now totals)) ⌝ }
     ensures { λ r. ⌜ left r (runs (now (log .entry)) (now (results .exit)) (now (totals .exit))) (now (out .exit)) ≡ takenCommit s c (runs (now (log .entry)) (now (results .entry)) (now (totals .entry))) (now (out .entry)) ⌝ }
 {
@@ -36,7 +36,7 @@ pub fn on_commit(
     results: &mut [u8],
     totals: &mut [u8],
     out: &mut [u8],
-) -> Answer
+) -> Returned
     requires { ⌜ Sound s (runs (now log) (now results) (now totals)) ⌝ }
     ensures { λ r. ⌜ left r (runs (now (log .entry)) (now (results .exit)) (now (totals .exit))) (now (out .exit)) ≡ commitStep s v c (runs (now (log .entry)) (now (results .entry)) (now (totals .entry))) (now (out .entry)) ⌝ }
 {

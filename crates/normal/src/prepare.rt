@@ -3,17 +3,17 @@ ghost use mathlib.Core.Path.{_≡_};
 ghost use Prim.Native.Nat.{_≤_, _<_};
 ghost use Rattle.steps.specs.Steps.{Sound, left};
 ghost use Rattle.book.specs.Memory.{runs};
-ghost use Rattle.normal.specs.Prepare.{lowerOf, appendVerdict, verdictOf, appendedBy, takenPrepare, prepareStep};
+ghost use Rattle.normal.specs.Prepare.{lowerOf, appendVerdict, prepareVerdict, appendedBy, takenPrepare, prepareStep};
+use client_table::Latest;
 use entries::Entry;
 use numbers::Op;
 use numbers::View;
-use rows::Latest;
-use state::Answer;
 use state::Replica;
+use state::Returned;
 
 // What a backup does with the Prepare of op o: asks for what it misses; only commits and acknowledges, as it has the op; refuses it by 4 or 6; or
 // appends it.
-pub enum Verdict {
+pub enum PrepareVerdict {
     Transfer,
     Again,
     Refuse { code: u8 },
@@ -39,31 +39,31 @@ fn lower(a: Op, b: Op) -> Op
 }
 
 // Refusal 6 by the client's row: an entry of its latest number or an earlier one would not rise.
-fn weigh_append(s: Replica, p: Prepared) -> Verdict
+fn weigh_append(s: Replica, p: Prepared) -> PrepareVerdict
     ensures { λ r. ⌜ r ≡ appendVerdict s p ⌝ }
 {
     if s.setup.room <= s.op.0 {
-        return Verdict::Refuse { code: 4 };
+        return PrepareVerdict::Refuse { code: 4 };
     }
     if !p.latest.there {
-        return Verdict::Append;
+        return PrepareVerdict::Append;
     }
     if p.entry.request <= p.latest.request {
-        return Verdict::Refuse { code: 6 };
+        return PrepareVerdict::Refuse { code: 6 };
     }
-    Verdict::Append
+    PrepareVerdict::Append
 }
 
-fn weigh(s: Replica, p: Prepared) -> Verdict
+fn weigh(s: Replica, p: Prepared) -> PrepareVerdict
     requires { ⌜ s .op .0 ≤ 4096 ⌝ }
-    ensures { λ r. ⌜ r ≡ verdictOf s p ⌝ }
+    ensures { λ r. ⌜ r ≡ prepareVerdict s p ⌝ }
 {
     let next = s.op.0 + 1;
     if next < p.op.0 {
-        return Verdict::Transfer;
+        return PrepareVerdict::Transfer;
     }
     if p.op.0 < next {
-        return Verdict::Again;
+        return PrepareVerdict::Again;
     }
     weigh_append(s, p)
 }
@@ -76,7 +76,7 @@ fn append(
     results: &mut [u8],
     totals: &mut [u8],
     out: &mut [u8],
-) -> Answer
+) -> Returned
     requires { ⌜ Sound s (runs (now log) (now results) (now totals)) × (s .op .0 < s .setup .room) ⌝ }
     ensures { λ r. ⌜ left r (runs (now (log .exit)) (now (results .exit)) (now (totals .exit))) (now (out .exit)) ≡ appendedBy s p (runs (now (log .entry)) (now (results .entry)) (now (totals .entry))) (now (out .entry)) ⌝ }
 {
@@ -99,20 +99,20 @@ fn take_prepare(
     results: &mut [u8],
     totals: &mut [u8],
     out: &mut [u8],
-) -> Answer
+) -> Returned
     requires { ⌜ Sound s (runs (now log) (now results) (now totals)) ⌝ }
     ensures { λ r. ⌜ left r (runs (now (log .exit)) (now (results .exit)) (now (totals .exit))) (now (out .exit)) ≡ takenPrepare s p (runs (now (log .entry)) (now (results .entry)) (now (totals .entry))) (now (out .entry)) ⌝ }
 {
     let c = p.commit;
     let op = s.op;
     match weigh(s, p) {
-        Verdict::Transfer => steps::state_transfer(s, out),
-        Verdict::Again => {
+        PrepareVerdict::Transfer => steps::state_transfer(s, out),
+        PrepareVerdict::Again => {
             let u = state::heard(s);
             steps::acknowledge(s, u, lower(c, op), false, log, results, totals, out)
         }
-        Verdict::Refuse { code } => state::refused(code, s),
-        Verdict::Append => append(s, p, log, results, totals, out),
+        PrepareVerdict::Refuse { code } => state::refused(code, s),
+        PrepareVerdict::Append => append(s, p, log, results, totals, out),
     }
 }
 
@@ -125,7 +125,7 @@ pub fn on_prepare(
     results: &mut [u8],
     totals: &mut [u8],
     out: &mut [u8],
-) -> Answer
+) -> Returned
     requires { ⌜ Sound s (runs (now log) (now results) (now totals)) ⌝ }
     ensures { λ r. ⌜ left r (runs (now (log .exit)) (now (results .exit)) (now (totals .exit))) (now (out .exit)) ≡ prepareStep s v p (runs (now (log .entry)) (now (results .entry)) (now (totals .entry))) (now (out .entry)) ⌝ }
 {

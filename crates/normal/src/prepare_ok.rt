@@ -4,11 +4,11 @@ ghost use Prim.Native.Nat.{_-_, _*_, _≤_, _<_};
 ghost use lib.ListN.{length};
 ghost use Rattle.book.specs.Memory.{money, runs};
 ghost use Rattle.steps.specs.Steps.{Sound};
-ghost use Rattle.normal.specs.PrepareOk.{listens, verdictOf, counted, committedBy, prepareOkStep};
+ghost use Rattle.normal.specs.PrepareOk.{listens, ackVerdict, counted, committedBy, prepareOkStep};
 use numbers::Op;
 use numbers::View;
-use state::Answer;
 use state::Replica;
+use state::Returned;
 
 // What an acknowledgement calls for: nothing; one more is noted; it makes a quorum for an op past the log, or replies that don't fit, both
 // refused; or all up to its op is committed.
@@ -40,7 +40,7 @@ fn hears(s: Replica, v: View, op: Op) -> bool
 // An ack fires only when the count reaches the quorum exactly. `held`: who acknowledged the op so far; `room`: of the area for replies.
 fn weigh(s: Replica, op: Op, held: u8, from: u8, room: usize) -> Count
     requires { ⌜ (from < 8) × (s .commit .0 < op .0) ⌝ }
-    ensures { λ r. ⌜ r ≡ verdictOf s op held from room ⌝ }
+    ensures { λ r. ⌜ r ≡ ackVerdict s op held from room ⌝ }
 {
     if held == 0 {
         return Count::Nothing;
@@ -69,7 +69,7 @@ fn commit_with_replies(
     totals: &mut [u8],
     acks: &mut [u8],
     reps: &mut [u8],
-) -> Answer
+) -> Returned
     requires { ⌜ Sound s (runs (now log) (now results) (now totals)) × ((s .commit .0 < op .0) × ((op .0 ≤ s .op .0) × ((length (now acks) ≡ s .setup .room) × (36 * (op .0 - s .commit .0) ≤ length (now reps))))) ⌝ }
     ensures { λ r. ⌜ counted r (money (now (results .exit)) (now (totals .exit))) (now (acks .exit)) (now (reps .exit)) ≡ committedBy s op (now (log .entry)) (money (now (results .entry)) (now (totals .entry))) (now (acks .entry)) (now (reps .entry)) ⌝ }
 {
@@ -93,7 +93,7 @@ pub fn on_prepare_ok(
     totals: &mut [u8],
     acks: &mut [u8],
     reps: &mut [u8],
-) -> Answer
+) -> Returned
     requires { ⌜ Sound s (runs (now log) (now results) (now totals)) × ((length (now acks) ≡ s .setup .room) × ((from < s .setup .n) × (op .0 ≤ s .setup .room))) ⌝ }
     ensures { λ r. ⌜ counted r (money (now (results .exit)) (now (totals .exit))) (now (acks .exit)) (now (reps .exit)) ≡ prepareOkStep s v op from (now (log .entry)) (money (now (results .entry)) (now (totals .entry))) (now (acks .entry)) (now (reps .entry)) ⌝ }
 {

@@ -3,17 +3,17 @@ ghost use mathlib.Core.Path.{_≡_};
 ghost use Prim.Native.Nat.{_+_, _*_, _≤_, _<_};
 ghost use lib.ListN.{length};
 ghost use Rattle.state.specs.Lengths.{logLength};
-ghost use Rattle.normal.specs.Request.{Ready, sendsOf, knownVerdict, newVerdict, clientVerdict, verdictOf, served, took, answered, resent, accepted, requestStep};
+ghost use Rattle.normal.specs.Request.{Ready, sendsOf, knownVerdict, newVerdict, clientVerdict, requestVerdict, served, took, answered, resent, accepted, requestStep};
+use client_table::Latest;
 use entries::Entry;
 use fees::Outcome;
 use frames::Message;
 use numbers::Op;
-use rows::Latest;
-use state::Answer;
 use state::Replica;
+use state::Returned;
 
 // What a Request calls for: nothing; its reply again; refusal 4, 9 or 10; or it is appended.
-pub enum Call {
+pub enum RequestVerdict {
     Nothing,
     Resend,
     Refuse { code: u8 },
@@ -29,36 +29,36 @@ fn sends(s: Replica) -> usize
 }
 
 // A number no larger than the client's latest: the reply again, if it is the latest and there is one.
-fn weigh_known(e: Entry, latest: Latest, room: usize) -> Call
+fn weigh_known(e: Entry, latest: Latest, room: usize) -> RequestVerdict
     ensures { λ r. ⌜ r ≡ knownVerdict e latest room ⌝ }
 {
     if e.request < latest.request {
-        return Call::Nothing;
+        return RequestVerdict::Nothing;
     }
     if !latest.replied {
-        return Call::Nothing;
+        return RequestVerdict::Nothing;
     }
     if room < 36 {
-        return Call::Refuse { code: 10 };
+        return RequestVerdict::Refuse { code: 10 };
     }
-    Call::Resend
+    RequestVerdict::Resend
 }
 
 // `out` and `reps` are the sizes of the two areas.
-fn weigh_new(s: Replica, out: usize) -> Call
+fn weigh_new(s: Replica, out: usize) -> RequestVerdict
     requires { ⌜ (0 < s .setup .n) × (s .setup .n ≤ 7) ⌝ }
     ensures { λ r. ⌜ r ≡ newVerdict s out ⌝ }
 {
     if s.setup.room <= s.op.0 {
-        return Call::Refuse { code: 4 };
+        return RequestVerdict::Refuse { code: 4 };
     }
     if out < sends(s) {
-        return Call::Refuse { code: 9 };
+        return RequestVerdict::Refuse { code: 9 };
     }
-    Call::Append
+    RequestVerdict::Append
 }
 
-fn weigh_client(s: Replica, e: Entry, latest: Latest, out: usize, reps: usize) -> Call
+fn weigh_client(s: Replica, e: Entry, latest: Latest, out: usize, reps: usize) -> RequestVerdict
     requires { ⌜ (0 < s .setup .n) × (s .setup .n ≤ 7) ⌝ }
     ensures { λ r. ⌜ r ≡ clientVerdict s e latest out reps ⌝ }
 {
@@ -71,22 +71,22 @@ fn weigh_client(s: Replica, e: Entry, latest: Latest, out: usize, reps: usize) -
     weigh_known(e, latest, reps)
 }
 
-fn weigh(s: Replica, e: Entry, latest: Latest, out: usize, reps: usize) -> Call
+fn weigh(s: Replica, e: Entry, latest: Latest, out: usize, reps: usize) -> RequestVerdict
     requires { ⌜ (0 < s .setup .n) × (s .setup .n ≤ 7) ⌝ }
-    ensures { λ r. ⌜ r ≡ verdictOf s e latest out reps ⌝ }
+    ensures { λ r. ⌜ r ≡ requestVerdict s e latest out reps ⌝ }
 {
     if !state::is_primary(s) {
-        return Call::Nothing;
+        return RequestVerdict::Nothing;
     }
     let status = s.status;
     if !state::is_normal(status) {
-        return Call::Nothing;
+        return RequestVerdict::Nothing;
     }
     weigh_client(s, e, latest, out, reps)
 }
 
 // The entry is appended, acknowledged by ourselves, and sent to all others.
-fn accept(s: Replica, e: Entry, log: &mut [u8], acks: &mut [u8], out: &mut [u8]) -> Answer
+fn accept(s: Replica, e: Entry, log: &mut [u8], acks: &mut [u8], out: &mut [u8]) -> Returned
     requires { ⌜ Ready s (length (now log)) (length (now acks)) × ((s .op .0 < s .setup .room) × (sendsOf s ≤ length (now out))) ⌝ }
     ensures { λ r. ⌜ took r (now (log .exit)) (now (acks .exit)) (now (out .exit)) ≡ accepted s e (now (log .entry)) (now (acks .entry)) (now (out .entry)) ⌝ }
 {
@@ -107,7 +107,7 @@ fn accept(s: Replica, e: Entry, log: &mut [u8], acks: &mut [u8], out: &mut [u8])
 }
 
 // The reply again, with the current view.
-fn resend(s: Replica, e: Entry, o: Outcome, reps: &mut [u8]) -> Answer
+fn resend(s: Replica, e: Entry, o: Outcome, reps: &mut [u8]) -> Returned
     requires { ⌜ 36 ≤ length (now reps) ⌝ }
     ensures { λ r. ⌜ answered r (now (reps .exit)) ≡ resent s e o (now (reps .entry)) ⌝ }
 {
@@ -125,15 +125,15 @@ pub fn on_request(
     acks: &mut [u8],
     out: &mut [u8],
     reps: &mut [u8],
-) -> Answer
+) -> Returned
     requires { ⌜ Ready s (length (now log)) (length (now acks)) ⌝ }
     ensures { λ r. ⌜ served r (now (log .exit)) (now (acks .exit)) (now (out .exit)) (now (reps .exit)) ≡ requestStep s e latest (now (log .entry)) (now (acks .entry)) (now (out .entry)) (now (reps .entry)) ⌝ }
 {
     let o = latest.reply;
     match weigh(s, e, latest, out.len(), reps.len()) {
-        Call::Nothing => state::done(s, 0, 0, false),
-        Call::Resend => resend(s, e, o, reps),
-        Call::Refuse { code } => state::refused(code, s),
-        Call::Append => accept(s, e, log, acks, out),
+        RequestVerdict::Nothing => state::done(s, 0, 0, false),
+        RequestVerdict::Resend => resend(s, e, o, reps),
+        RequestVerdict::Refuse { code } => state::refused(code, s),
+        RequestVerdict::Append => accept(s, e, log, acks, out),
     }
 }

@@ -9,8 +9,8 @@ use clock::Clock;
 use clock::Duty;
 use frames::Message;
 use numbers::Op;
-use state::Answer;
 use state::Replica;
+use state::Returned;
 
 // The Prepare of the op after the first i, to all others.
 fn send_prepare(s: Replica, i: u32, log: &[u8], out: &mut [u8]) -> usize
@@ -53,7 +53,7 @@ fn tick_len(s: Replica) -> usize
 }
 
 // The heartbeat, then a Prepare for every op that isn't committed.
-pub fn tick_primary(s: Replica, log: &[u8], out: &mut [u8]) -> Answer
+pub fn tick_primary(s: Replica, log: &[u8], out: &mut [u8]) -> Returned
     requires { ⌜ Leading s (length (now log)) ⌝ }
     ensures { λ r. ⌜ spoke r (now (out .exit)) ≡ primaryTick s (now (log .entry)) (now (out .entry)) ⌝ }
 {
@@ -79,7 +79,7 @@ pub fn tick_primary(s: Replica, log: &[u8], out: &mut [u8]) -> Answer
 }
 
 // A backup's tick after which the wait isn't over; `c` is the clock after it. Nothing is sent.
-pub fn tick_backup(s: Replica, c: Clock) -> Answer
+pub fn tick_backup(s: Replica, c: Clock) -> Returned
     ensures { λ r. ⌜ r ≡ backupTick s c ⌝ }
 {
     state::done(state::with_clock(s, c), 0, 0, false)

@@ -13,7 +13,7 @@ use Rattle.frames.specs.Refusals.{checkFrame}
 use Rattle.frames.specs.declared.Message.{Message}
 use Rattle.frames.specs.declared.Checked.{Checked}
 use Rattle.frames.specs.declared.Checked.the-variants.{Passed, Refused}
-use Rattle.rows.specs.declared.Latest.{Latest}
+use Rattle.client_table.specs.declared.Latest.{Latest}
 use Rattle.state.specs.declared.Replica.{Replica}
 use Rattle.outside.specs.Sound.{sound}
 use Rattle.outside.specs.Calls.{checkedOf, carriedBy, nobody, toldOf}

@@ -19,25 +19,25 @@ use Rattle.frames.specs.declared.Status.the-variants.{Normal, Recovering}
 use Rattle.state.specs.State.{newIn}
 use Rattle.state.specs.Answers.{refusal, completed}
 use Rattle.state.specs.Lengths.{totalsLength, acksLength}
-use Rattle.state.specs.declared.Answer.{Answer}
+use Rattle.state.specs.declared.Returned.{Returned}
 use Rattle.state.specs.declared.Replica.{Replica}
 use Rattle.steps.specs.Steps.{spoke}
 use Rattle.recovery.specs.Recovery.{recoveriesLength, recoveriesOf, recoveringTick}
 use Rattle.outside.specs.Sound.{creatable, noReplica}
-use Rattle.outside.specs.Creation.{Begun, begun, createStep, recoverStep}
+use Rattle.outside.specs.Creation.{Started, started, createStep, recoverStep}
 use Rattle.outside.specs.declared.Lengths.{Lengths}
 use Rattle.outside.proofs.SoundLaws.{Long, creatable-is}
 
 module _ (u : Setup) (lengths : Lengths) (totals acks out : List ℕ) (b : Bool) (e : b ≡ creatable u lengths) where
-  pub not-created : not b ≡ true → {a : Answer} (z : Replica) → z ≡ noReplica → a ≡ refusal 1 z
-      → begun a totals acks out ≡ createStep u lengths totals acks out
+  pub not-created : not b ≡ true → {a : Returned} (z : Replica) → z ≡ noReplica → a ≡ refusal 1 z
+      → started a totals acks out ≡ createStep u lengths totals acks out
   unfolding createStep if_then_else_
   not-created h z q p = rw (← e, h, p, q)
 
   module _ (h : not b ≡ false) {totals′ acks′ : List ℕ} (t : totals′ ≡ over (replicate (totalsLength u) 0) totals)
       (k : acks′ ≡ over (replicate (acksLength u) 0) acks) where
-    pub created : {a : Answer} (s : Replica) → s ≡ newIn u Normal (record { 0 = 0 }) 0 → a ≡ completed s 0 0 false
-        → begun a totals′ acks′ out ≡ createStep u lengths totals acks out
+    pub created : {a : Returned} (s : Replica) → s ≡ newIn u Normal (record { 0 = 0 }) 0 → a ≡ completed s 0 0 false
+        → started a totals′ acks′ out ≡ createStep u lengths totals acks out
     unfolding createStep if_then_else_
     created s q p = rw (← e, h, p, q, t, k)
 
@@ -47,7 +47,7 @@ module _ (u : Setup) (lengths : Lengths) (totals acks out : List ℕ) (b : Bool)
       sends l = if-false _ _ _ (le-ltb (length out) (recoveriesLength s) l)
 
       comes-back : recoveriesLength s ≤ length out
-          → begun (completed s (recoveriesLength s) 0 false) totals′ acks′ (over (recoveriesOf s) out) ≡ recoverStep u v nonce lengths totals acks out
+          → started (completed s (recoveriesLength s) 0 false) totals′ acks′ (over (recoveriesOf s) out) ≡ recoverStep u v nonce lengths totals acks out
       unfolding recoverStep
       comes-back l =
           rw (t, k, q)
@@ -56,32 +56,32 @@ module _ (u : Setup) (lengths : Lengths) (totals acks out : List ℕ) (b : Bool)
           ∙ if-false _ _ _
           (le-ltb (length out) (recoveriesLength (newIn u Recovering v nonce)) (subst (λ (y : Replica). recoveriesLength y ≤ length out) q l))))
 
-      pub recovered : recoveriesLength s ≤ length out → {a : Answer} {out′ : List ℕ} → spoke a out′ ≡ recoveringTick s out
-          → begun a totals′ acks′ out′ ≡ recoverStep u v nonce lengths totals acks out
-      recovered l p = ap (λ z. begun (z .answer) totals′ acks′ (z .out)) (p ∙ sends l) ∙ comes-back l
+      pub recovered : recoveriesLength s ≤ length out → {a : Returned} {out′ : List ℕ} → spoke a out′ ≡ recoveringTick s out
+          → started a totals′ acks′ out′ ≡ recoverStep u v nonce lengths totals acks out
+      recovered l p = ap (λ z. started (z .answer) totals′ acks′ (z .out)) (p ∙ sends l) ∙ comes-back l
 
-  pub not-recovered : not b ≡ true → (v : View) (nonce : ℕ) {a : Answer} (z : Replica) → z ≡ noReplica → a ≡ refusal 1 z
-      → begun a totals acks out ≡ recoverStep u v nonce lengths totals acks out
+  pub not-recovered : not b ≡ true → (v : View) (nonce : ℕ) {a : Returned} (z : Replica) → z ≡ noReplica → a ≡ refusal 1 z
+      → started a totals acks out ≡ recoverStep u v nonce lengths totals acks out
   unfolding recoverStep if_then_else_
   not-recovered h v nonce z q p = rw (← e, h, p, q)
 
-  pub no-room : not b ≡ false → (v : View) (nonce : ℕ) → length out < recoveriesLength (newIn u Recovering v nonce) → {a : Answer} (z : Replica)
-      → z ≡ noReplica → a ≡ refusal 9 z → begun a totals acks out ≡ recoverStep u v nonce lengths totals acks out
+  pub no-room : not b ≡ false → (v : View) (nonce : ℕ) → length out < recoveriesLength (newIn u Recovering v nonce) → {a : Returned} (z : Replica)
+      → z ≡ noReplica → a ≡ refusal 9 z → started a totals acks out ≡ recoverStep u v nonce lengths totals acks out
   unfolding recoverStep if_then_else_
   no-room h v nonce l z q p = rw (← e, h, lt-ltb (length out) (recoveriesLength (newIn u Recovering v nonce)) l, p, q)
 
 -- where it isn't refused, the setup is one and each buffer has its length
 module _ (u : Setup) (lengths : Lengths) (totals acks out : List ℕ) where
-  abbrev Tells : Begun → Type 0
+  abbrev Tells : Started → Type 0
   Tells d = d .answer .code ≡ 0 → (setupOk u ≡ true) × Long u lengths
 
-  pub create-long : {d : Begun} → d ≡ createStep u lengths totals acks out → d .answer .code ≡ 0 → (setupOk u ≡ true) × Long u lengths
+  pub create-long : {d : Started} → d ≡ createStep u lengths totals acks out → d .answer .code ≡ 0 → (setupOk u ≡ true) × Long u lengths
   unfolding createStep
   create-long e =
       subst Tells (sym e)
       (split Tells _ _ _ (λ _ z. absurd (omega (arith, z))) (λ f _. creatable-is u lengths _ refl f))
 
-  pub recover-long : (v : View) (nonce : ℕ) {d : Begun} → d ≡ recoverStep u v nonce lengths totals acks out → d .answer .code ≡ 0
+  pub recover-long : (v : View) (nonce : ℕ) {d : Started} → d ≡ recoverStep u v nonce lengths totals acks out → d .answer .code ≡ 0
       → (setupOk u ≡ true) × Long u lengths
   unfolding recoverStep
   recover-long v nonce e =

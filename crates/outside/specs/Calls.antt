@@ -9,13 +9,13 @@ use Rattle.frames.specs.declared.Message.{Message}
 use Rattle.frames.specs.declared.Message.the-variants.{Request, Prepare, PrepareOk, Commit, GetState, NewState, StartViewChange, DoViewChange, StartView, Recovery, RecoveryResponse}
 use Rattle.frames.specs.declared.Checked.{Checked}
 use Rattle.frames.specs.declared.Checked.the-variants.{Refused}
-use Rattle.rows.specs.declared.Latest.{Latest}
-use Rattle.rows.specs.declared.Change.{Change}
-use Rattle.state.specs.declared.Answer.{Answer}
+use Rattle.client_table.specs.declared.Latest.{Latest}
+use Rattle.client_table.specs.declared.Change.{Change}
+use Rattle.state.specs.declared.Returned.{Returned}
 use Rattle.state.specs.declared.Replica.{Replica}
 use Rattle.outside.specs.Sound.{sound}
 use Rattle.outside.specs.declared.Lengths.{Lengths}
-use Rattle.outside.specs.declared.call.Carried.{Carried}
+use Rattle.outside.specs.declared.call.Carrying.{Carrying}
 
 -- refusal 1, then 2 to 6 on the frame alone
 unfoldable pub checkedOf : Replica → Lengths → (frame : List ℕ) → Checked
@@ -24,13 +24,13 @@ checkedOf s l frame =
     checkFrame (s .setup) frame
 
 -- whether a message carries an entry, and whose
-abbrev pub entryFrom : (client : ℕ) → Carried
+abbrev pub entryFrom : (client : ℕ) → Carrying
 entryFrom client = record { carries = true; client = client }
 
-abbrev pub noEntry : Carried
+abbrev pub noEntry : Carrying
 noEntry = record { carries = false; client = 0 }
 
-unfoldable pub carriedBy : Message → Carried
+unfoldable pub carriedBy : Message → Carrying
 carriedBy (Request e) = entryFrom (e .client)
 carriedBy (Prepare v o c e) = entryFrom (e .client)
 carriedBy (PrepareOk v o r) = noEntry
@@ -52,6 +52,6 @@ unfoldable pub toldOf : Message → Latest → Latest
 toldOf m l = if carriedBy m .carries then l else nobody
 
 -- what a call did to the log, s being the state before it
-abbrev pub changeBy : Replica → Answer → Change
+abbrev pub changeBy : Replica → Returned → Change
 changeBy s a =
     record { installed = a .installed; op = s .op; commit = s .commit; to = a .state .op; done = a .state .commit }

@@ -3,13 +3,13 @@ ghost use mathlib.Core.Path.{_≡_};
 ghost use Rattle.outside.specs.Calls.{checkedOf, entryFrom, noEntry, carriedBy, nobody, toldOf, changeBy};
 use crate::Lengths;
 use crate::sound;
+use client_table::Change;
+use client_table::Latest;
 use fees::Outcome;
 use frames::Checked;
 use frames::Message;
-use rows::Change;
-use rows::Latest;
-use state::Answer;
 use state::Replica;
+use state::Returned;
 
 // Refusal 1, then 2 to 6 on the frame alone.
 pub fn checked(s: Replica, l: Lengths, frame: &[u8]) -> Checked
@@ -23,30 +23,30 @@ pub fn checked(s: Replica, l: Lengths, frame: &[u8]) -> Checked
 }
 
 // Whether a message carries an entry, and whose.
-pub struct Carried {
+pub struct Carrying {
     pub carries: bool,
     pub client: u64,
 }
 
-fn entry_from(client: u64) -> Carried
+fn entry_from(client: u64) -> Carrying
     ensures { λ r. ⌜ r ≡ entryFrom client ⌝ }
 {
-    Carried {
+    Carrying {
         carries: true,
         client,
     }
 }
 
-fn no_entry() -> Carried
+fn no_entry() -> Carrying
     ensures { λ r. ⌜ r ≡ noEntry ⌝ }
 {
-    Carried {
+    Carrying {
         carries: false,
         client: 0,
     }
 }
 
-pub fn carried_by(m: Message) -> Carried
+pub fn carried_by(m: Message) -> Carrying
     ensures { λ r. ⌜ r ≡ carriedBy m ⌝ }
 {
     match m {
@@ -87,7 +87,7 @@ pub fn told(m: Message, l: Latest) -> Latest
 }
 
 // What a call that wasn't refused did to the log, s being the state before it.
-pub fn change_by(s: Replica, a: Answer) -> Change
+pub fn change_by(s: Replica, a: Returned) -> Change
     ensures { λ r. ⌜ r ≡ changeBy s a ⌝ }
 {
     let op = s.op;

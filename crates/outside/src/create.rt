@@ -7,15 +7,15 @@ ghost use Rattle.numbers.specs.Numbers.{over};
 ghost use Rattle.config.specs.Setup.{setupOk};
 ghost use Rattle.state.specs.Lengths.{totalsLength, acksLength};
 ghost use Rattle.outside.specs.Sound.{noReplica};
-ghost use Rattle.outside.specs.Creation.{begun, createStep, recoverStep};
+ghost use Rattle.outside.specs.Creation.{started, createStep, recoverStep};
 use crate::Lengths;
 use crate::sound;
 use clock::Clock;
 use config::Setup;
 use frames::Status;
 use numbers::View;
-use state::Answer;
 use state::Replica;
+use state::Returned;
 
 // The all-zero state, which refusal 1 then catches.
 pub fn no_replica() -> Replica
@@ -47,9 +47,9 @@ fn empty(u: Setup, totals: &mut [u8], acks: &mut [u8])
 }
 
 // new: in Normal, in view 0, with an empty log. Refusal 1.
-pub fn create(u: Setup, l: Lengths, totals: &mut [u8], acks: &mut [u8]) -> Answer
+pub fn create(u: Setup, l: Lengths, totals: &mut [u8], acks: &mut [u8]) -> Returned
     requires { ⌜ (l .totals ≡ length (now totals)) × (l .acks ≡ length (now acks)) ⌝ }
-    ensures { λ a. ⌜ begun a (now (totals .exit)) (now (acks .exit)) [] ≡ createStep u l (now (totals .entry)) (now (acks .entry)) [] ⌝ }
+    ensures { λ a. ⌜ started a (now (totals .exit)) (now (acks .exit)) [] ≡ createStep u l (now (totals .entry)) (now (acks .entry)) [] ⌝ }
 {
     if !sound::is_creatable(u, l) {
         return state::refused(1, no_replica());
@@ -67,9 +67,9 @@ pub fn recover(
     totals: &mut [u8],
     acks: &mut [u8],
     out: &mut [u8],
-) -> Answer
+) -> Returned
     requires { ⌜ (l .totals ≡ length (now totals)) × (l .acks ≡ length (now acks)) ⌝ }
-    ensures { λ a. ⌜ begun a (now (totals .exit)) (now (acks .exit)) (now (out .exit)) ≡ recoverStep u v nonce l (now (totals .entry)) (now (acks .entry)) (now (out .entry)) ⌝ }
+    ensures { λ a. ⌜ started a (now (totals .exit)) (now (acks .exit)) (now (out .exit)) ≡ recoverStep u v nonce l (now (totals .entry)) (now (acks .entry)) (now (out .entry)) ⌝ }
 {
     if !sound::is_creatable(u, l) {
         return state::refused(1, no_replica());

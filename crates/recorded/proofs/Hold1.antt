@@ -1,89 +1,89 @@
 -- The definitions answer as recorded: antt computes it. By tools/model-replay. Assumes nothing.
 use mathlib.Core.Path.{refl}
-use Rattle.against_rust.specs.Shape.{Holds}
+use Rattle.against_rust.specs.Shape.{RunHolds}
 use Rattle.recorded.specs.Runs1.{run17, run18, run19, run20, run21, run22, run23, run24, run25, run26, run27, run28, run29, run30, run31, run32, run33, run34, run35, run36, run37}
 use Rattle.against_rust.proofs.OpenRuns.{open-runs}
 
-pub hold17 : Holds run17
+pub hold17 : RunHolds run17
 unfolding open-runs run17
 hold17 = refl
 
-pub hold18 : Holds run18
+pub hold18 : RunHolds run18
 unfolding open-runs run18
 hold18 = refl
 
-pub hold19 : Holds run19
+pub hold19 : RunHolds run19
 unfolding open-runs run19
 hold19 = refl
 
-pub hold20 : Holds run20
+pub hold20 : RunHolds run20
 unfolding open-runs run20
 hold20 = refl
 
-pub hold21 : Holds run21
+pub hold21 : RunHolds run21
 unfolding open-runs run21
 hold21 = refl
 
-pub hold22 : Holds run22
+pub hold22 : RunHolds run22
 unfolding open-runs run22
 hold22 = refl
 
-pub hold23 : Holds run23
+pub hold23 : RunHolds run23
 unfolding open-runs run23
 hold23 = refl
 
-pub hold24 : Holds run24
+pub hold24 : RunHolds run24
 unfolding open-runs run24
 hold24 = refl
 
-pub hold25 : Holds run25
+pub hold25 : RunHolds run25
 unfolding open-runs run25
 hold25 = refl
 
-pub hold26 : Holds run26
+pub hold26 : RunHolds run26
 unfolding open-runs run26
 hold26 = refl
 
-pub hold27 : Holds run27
+pub hold27 : RunHolds run27
 unfolding open-runs run27
 hold27 = refl
 
-pub hold28 : Holds run28
+pub hold28 : RunHolds run28
 unfolding open-runs run28
 hold28 = refl
 
-pub hold29 : Holds run29
+pub hold29 : RunHolds run29
 unfolding open-runs run29
 hold29 = refl
 
-pub hold30 : Holds run30
+pub hold30 : RunHolds run30
 unfolding open-runs run30
 hold30 = refl
 
-pub hold31 : Holds run31
+pub hold31 : RunHolds run31
 unfolding open-runs run31
 hold31 = refl
 
-pub hold32 : Holds run32
+pub hold32 : RunHolds run32
 unfolding open-runs run32
 hold32 = refl
 
-pub hold33 : Holds run33
+pub hold33 : RunHolds run33
 unfolding open-runs run33
 hold33 = refl
 
-pub hold34 : Holds run34
+pub hold34 : RunHolds run34
 unfolding open-runs run34
 hold34 = refl
 
-pub hold35 : Holds run35
+pub hold35 : RunHolds run35
 unfolding open-runs run35
 hold35 = refl
 
-pub hold36 : Holds run36
+pub hold36 : RunHolds run36
 unfolding open-runs run36
 hold36 = refl
 
-pub hold37 : Holds run37
+pub hold37 : RunHolds run37
 unfolding open-runs run37
 hold37 = refl

@@ -22,7 +22,7 @@ use Rattle.state.specs.Statuses.{isRecovering, noReport}
 use Rattle.state.specs.Lengths.{storedPlace}
 use Rattle.state.specs.declared.Replica.{Replica}
 use Rattle.state.specs.declared.Report.{Report}
-use Rattle.reports.specs.Rows.{withReport, filledIn, latestIn}
+use Rattle.reports.specs.Rows.{withReport, filledIn, latestViewIn}
 use Rattle.reports.specs.Store.{keptLog}
 use Rattle.reports.proofs.PlaceLaws.{other-entries, own-place}
 use Rattle.reports.proofs.WholeLaws.{runOf}
@@ -30,7 +30,7 @@ use Rattle.recovery.specs.Recovery.{responseOf}
 use Rattle.model.specs.State as M
 use Rattle.model.specs.ViewChange.{filled}
 use Rattle.model.specs.Recovery.{latestView, noted}
-use Rattle.layout.specs.Layout.{Runs, heldAt, responseAt, placed, storeOf, modelOf}
+use Rattle.layout.specs.Layout.{LentRuns, heldAt, responseAt, placed, storeOf, modelOf}
 use Rattle.model.specs.Steps.{heldIn}
 use Rattle.reports.proofs.ReportLift.{placed-get, ifThere, responseIn, with-answer, answers-filled, answers-latest}
 use Rattle.reports.proofs.StoredLift.{kept-places}
@@ -76,7 +76,7 @@ module _ (u : Setup) (r : ℕ) (d : Report) (fresh stored : List ℕ) (l : List 
 
 -- ---- in Recovering
 
-module _ (t : Replica) (x : Runs) (table : List M.Row) (applied : List Entry) (recovering : isRecovering (t .status) ≡ true) (r : ℕ) (d : Report)
+module _ (t : Replica) (x : LentRuns) (table : List M.ClientEntry) (applied : List Entry) (recovering : isRecovering (t .status) ≡ true) (r : ℕ) (d : Report)
     (fresh : List ℕ) (below : r < t .setup .n) (few : t .setup .n ≤ length (t .reports .rows)) (there : d .there ≡ true) where
   abbrev m : M.State
   m = modelOf t x table applied
@@ -95,7 +95,7 @@ module _ (t : Replica) (x : Runs) (table : List M.Row) (applied : List Entry) (r
   responses-are = if-true _ _ _ recovering
 
   noted-are : noted m r new .store .responses ≡ placed (ifThere (responseIn run)) 0 rows
-  unfolding noted M.withStore
+  unfolding noted M.setStore
   noted-are =
       ap (λ (y : List (Option M.Response)). set y r (some new)) responses-are
       ∙ with-answer (t .setup) (x .stored) r fresh (t .reports .rows) (t .setup .n) d below few there
@@ -105,7 +105,7 @@ module _ (t : Replica) (x : Runs) (table : List M.Row) (applied : List Entry) (r
   noted-filled = ap filled noted-are ∙ answers-filled run rows
 
   pub noted-latest : latestView (noted (modelOf t x table applied) r (responseIn (λ _. fresh) r d) .store .responses)
-      ≡ latestIn (take (t .setup .n) (set (t .reports .rows) r d))
+      ≡ latestViewIn (take (t .setup .n) (set (t .reports .rows) r d))
   noted-latest = ap latestView noted-are ∙ answers-latest run rows
 
   pub noted-place : (i : ℕ) → i < t .setup .n
@@ -123,7 +123,7 @@ module _ (t : Replica) (x : Runs) (table : List M.Row) (applied : List Entry) (r
     now = keptLog (t .setup .room) r (d .op) fresh (x .stored)
 
     noted-store : storeOf (withReports t (withReport (t .reports) r d)) now ≡ noted m r new .store
-    unfolding storeOf modelOf noted M.withStore
+    unfolding storeOf modelOf noted M.setStore
     noted-store =
         let e : placed (responseAt (t .setup) now) 0 rows ≡ set (m .store .responses) r (some new) =
         kept-answers (t .setup) r d fresh (x .stored) (t .reports .rows) below few there fits long held old
@@ -142,5 +142,5 @@ module _ (t : Replica) (x : Runs) (table : List M.Row) (applied : List Entry) (r
           stored = keptLog (t .setup .room) r (d .op) fresh (x .stored);
         }) table applied
         ≡ noted (modelOf t x table applied) r (responseIn (λ _. fresh) r d)
-    unfolding modelOf noted M.withStore
-    noted-reads = λ i. M.withStore m (noted-store i)
+    unfolding modelOf noted M.setStore
+    noted-reads = λ i. M.setStore m (noted-store i)

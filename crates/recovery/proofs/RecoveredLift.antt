@@ -22,9 +22,9 @@ use Rattle.state.specs.Answers.{completed}
 use Rattle.state.specs.declared.Replica.{Replica}
 use Rattle.book.specs.Memory as Memory
 use Rattle.steps.specs.Steps.{Sound, committedTo, settled}
-use Rattle.view_change.specs.StartView.{Carried, withLogOf}
+use Rattle.view_change.specs.StartView.{LogPassed, withLogOf}
 use Rattle.view_change.proofs.StartViewLaws.{part-fits, joins-sound}
-use Rattle.model.specs.State.{Row, Book, State, withBook, withStore}
+use Rattle.model.specs.State.{ClientEntry, Book, State, setBook, setStore}
 use Rattle.model.specs.Book.{commitUpTo, install}
 use Rattle.model.specs.Sending.{messagesOut, repliesOut}
 use Rattle.model.specs.Normal.{committed}
@@ -38,8 +38,8 @@ use Rattle.steps.proofs.StepLift.{bookRuns, reports-cleared}
 use Rattle.steps.proofs.AckLift.{withRuns, committed-reads}
 use Rattle.steps.proofs.SendLift.{told-did}
 
-module _ (c : Given) (table : List Row) (applied : List Entry) (sound : Sound (c .state) (bookRuns (c .runs))) (totals : Bytes (c .runs .totals))
-    (v : View) (o g : Op) (part : List ℕ) (numbers : Carried (c .state) o g) (l : c .state .commit .0 ≤ o .0) (long : 32 * o .0 ≤ length part) where
+module _ (c : Given) (table : List ClientEntry) (applied : List Entry) (sound : Sound (c .state) (bookRuns (c .runs))) (totals : Bytes (c .runs .totals))
+    (v : View) (o g : Op) (part : List ℕ) (numbers : LogPassed (c .state) o g) (l : c .state .commit .0 ≤ o .0) (long : 32 * o .0 ≤ length part) where
   abbrev s : Replica
   s = c .state
 
@@ -77,11 +77,11 @@ module _ (c : Given) (table : List Row) (applied : List Entry) (sound : Sound (c
 
   -- neither responses nor reports
   new-store : storeOf r (c .runs .stored) ≡ clearedStore u (forgotten u was)
-  unfolding modelOf storeOf clearedStore forgotten withStore noReports noResponses isRecovering if_then_else_
+  unfolding modelOf storeOf clearedStore forgotten setStore noReports noResponses isRecovering if_then_else_
   new-store = rw (reports-cleared u (c .runs .stored) (sized u (sound .sized) .seven))
 
   new-reads : modelOf r (withRuns (c .runs) y) (new-book .table) applied ≡ enterNormal u (forgotten u was) (v .0) new-book (was .votes .acks)
-  unfolding modelOf enterNormal forgotten withStore
+  unfolding modelOf enterNormal forgotten setStore
   new-reads =
       λ i. record {
         place = record { status = Normal; view = v .0; lastNormal = v .0; catchingUp = false };
@@ -95,11 +95,11 @@ module _ (c : Given) (table : List Row) (applied : List Entry) (sound : Sound (c
   next = committed (modelOf r (withRuns (c .runs) y) (new-book .table) applied) (g .0)
 
   next-is : next ≡ after
-  unfolding committed recovered enterNormal withBook
-  next-is = ap (λ (m : State). withBook m (commitUpTo (m .book) (g .0))) new-reads
+  unfolding committed recovered enterNormal setBook
+  next-is = ap (λ (m : State). setBook m (commitUpTo (m .book) (g .0))) new-reads
 
   new-grew : Grew (was .book) true (next .book)
-  unfolding modelOf committed withBook
+  unfolding modelOf committed setBook
   new-grew = anew es (g .0) refl (ap (λ (q : Book). commitUpTo q (g .0)) new-book-is)
 
   -- what the step leaves

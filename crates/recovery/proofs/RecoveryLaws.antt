@@ -19,18 +19,18 @@ use Rattle.writers.proofs.WriterLaws.{encode-length}
 use Rattle.state.specs.State.{leads}
 use Rattle.state.specs.Statuses.{isNormal}
 use Rattle.state.specs.Answers.{refusal, completed, quiet}
-use Rattle.state.specs.declared.Answer.{Answer}
+use Rattle.state.specs.declared.Returned.{Returned}
 use Rattle.state.specs.declared.Replica.{Replica}
 use Rattle.steps.specs.Steps.{Spoke, spoke}
 use Rattle.steps.proofs.SendLaws.{bare-asks, bare-long}
-use Rattle.view_change.specs.StartView.{Holding}
+use Rattle.view_change.specs.StartView.{LogHeld}
 use Rattle.view_change.specs.StartViewChange.{startedChange}
 use Rattle.recovery.specs.Recovery.{recoveriesLength, recoveriesOf, recoveringTick, fullLength, fullAnswer, bareAnswer, recoveryStep}
 
 -- ---- send_recovery
 
 module _ (s : Replica) (out : List ℕ) where
-  pub ticks-short : (a : Answer) → length out < recoveriesLength s → a ≡ refusal 9 s → spoke a out ≡ recoveringTick s out
+  pub ticks-short : (a : Returned) → length out < recoveriesLength s → a ≡ refusal 9 s → spoke a out ≡ recoveringTick s out
   unfolding recoveringTick if_then_else_
   ticks-short a h p = rw (lt-ltb (length out) (recoveriesLength s) h, p)
 
@@ -47,7 +47,7 @@ module _ (s : Replica) (out : List ℕ) where
     unfolding sizeOf lengthOf
     recoveries-long = bare-long (s .setup) ok (Recovery (s .setup .id) (s .nonce) (s .view)) refl
 
-    pub ticks : (a : Answer) (w : ℕ) (o : List ℕ) → Wrote (recoveriesOf s) out o w → a ≡ completed s w 0 false
+    pub ticks : (a : Returned) (w : ℕ) (o : List ℕ) → Wrote (recoveriesOf s) out o w → a ≡ completed s w 0 false
         → spoke a o ≡ recoveringTick s out
     unfolding recoveringTick if_then_else_
     ticks a w o q p = rw (le-ltb (length out) (recoveriesLength s) h, p, q .bytes, q .count, recoveries-long)
@@ -55,11 +55,11 @@ module _ (s : Replica) (out : List ℕ) where
 -- ---- the answers to a Recovery
 
 module _ (s : Replica) (r x : ℕ) (log out : List ℕ) where
-  pub full-short : (a : Answer) → length out < fullLength s → a ≡ refusal 9 s → spoke a out ≡ fullAnswer s r x log out
+  pub full-short : (a : Returned) → length out < fullLength s → a ≡ refusal 9 s → spoke a out ≡ fullAnswer s r x log out
   unfolding fullAnswer if_then_else_
   full-short a h p = rw (lt-ltb (length out) (fullLength s) h, p)
 
-  module _ (h : Holding s (length log)) (l : fullLength s ≤ length out) where
+  module _ (h : LogHeld s (length log)) (l : fullLength s ≤ length out) where
     pub full-fits : (s .op .0 ≤ 4096) × ((32 * s .op .0 ≤ length log) × (29 + 32 * s .op .0 ≤ length out))
     full-fits =
         let z = sized (s .setup) (h .sized) in
@@ -72,14 +72,14 @@ module _ (s : Replica) (r x : ℕ) (log out : List ℕ) where
         encode-length r (RecoveryResponse (s .view) x (s .setup .id) (Present (s .op) (s .commit))) (take (32 * s .op .0) log)
         (length-take-le (32 * s .op .0) log (omega (arith, h .op-le, h .log-long)))
 
-    pub answers-full : (a : Answer) (w : ℕ) (o : List ℕ)
+    pub answers-full : (a : Returned) (w : ℕ) (o : List ℕ)
         → Wrote (encode r (RecoveryResponse (s .view) x (s .setup .id) (Present (s .op) (s .commit))) (take (32 * s .op .0) log)) out o w
         → a ≡ completed s w 0 false → spoke a o ≡ fullAnswer s r x log out
     unfolding fullAnswer if_then_else_
     answers-full a w o q p = rw (le-ltb (length out) (fullLength s) l, p, q .bytes, q .count, full-long)
 
 module _ (s : Replica) (r x : ℕ) (out : List ℕ) where
-  pub bare-short : (a : Answer) → length out < 21 → a ≡ refusal 9 s → spoke a out ≡ bareAnswer s r x out
+  pub bare-short : (a : Returned) → length out < 21 → a ≡ refusal 9 s → spoke a out ≡ bareAnswer s r x out
   unfolding bareAnswer if_then_else_
   bare-short a h p = rw (lt-ltb (length out) 21 h, p)
 
@@ -87,7 +87,7 @@ module _ (s : Replica) (r x : ℕ) (out : List ℕ) where
   unfolding sizeOf stateSize lengthOf
   bare-answer-long = encode-length r (RecoveryResponse (s .view) x (s .setup .id) Absent) [] refl
 
-  pub answers-bare : (a : Answer) (w : ℕ) (o : List ℕ) → 21 ≤ length out
+  pub answers-bare : (a : Returned) (w : ℕ) (o : List ℕ) → 21 ≤ length out
       → Wrote (encode r (RecoveryResponse (s .view) x (s .setup .id) Absent) []) out o w → a ≡ completed s w 0 false
       → spoke a o ≡ bareAnswer s r x out
   unfolding bareAnswer if_then_else_
@@ -101,7 +101,7 @@ module _ (s : Replica) (r x : ℕ) (v : View) (log out : List ℕ) where
   starts-change d h p = rw (lt-ltb (s .view .0) (v .0) h, p)
 
   module _ (h : v .0 ≤ s .view .0) where
-    pub silent : (a : Answer) → not (isNormal (s .status)) ≡ true → a ≡ quiet s → spoke a out ≡ recoveryStep s r x v log out
+    pub silent : (a : Returned) → not (isNormal (s .status)) ≡ true → a ≡ quiet s → spoke a out ≡ recoveryStep s r x v log out
     unfolding recoveryStep if_then_else_
     silent a n p = rw (le-ltb (s .view .0) (v .0) h, n, p)
 

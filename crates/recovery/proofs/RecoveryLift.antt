@@ -43,8 +43,8 @@ use Rattle.state.specs.Answers.{completed}
 use Rattle.state.specs.Lengths.{storedPlace}
 use Rattle.state.specs.declared.Replica.{Replica}
 use Rattle.state.specs.declared.Report.{Report}
-use Rattle.reports.specs.Rows.{withReport, latestIn}
-use Rattle.reports.specs.Judge.{chosenLog, weighed, primaryRow, answered, responded}
+use Rattle.reports.specs.Rows.{withReport, latestViewIn}
+use Rattle.reports.specs.Judge.{chosenLog, weighed, primaryRow, answeredByPrimary, responded}
 use Rattle.reports.specs.Store.{chosenOver}
 use Rattle.reports.specs.declared.Best.{Best}
 use Rattle.reports.specs.declared.Judged.{Judged}
@@ -53,11 +53,11 @@ use Rattle.reports.proofs.RowLaws.{rows-ok-is}
 use Rattle.reports.proofs.WholeLaws.{runOf, Whole, new-whole, row-whole, lent-is}
 use Rattle.steps.specs.Steps.{Spoke, committedTo, settled}
 use Rattle.steps.proofs.SendLaws.{bare-long}
-use Rattle.view_change.specs.StartView.{Holding, Carried}
+use Rattle.view_change.specs.StartView.{LogHeld, LogPassed}
 use Rattle.recovery.specs.Recovery.{recoveriesLength, recoveriesOf, recoveringTick, fullLength, fullAnswer, bareAnswer, recoveryStep}
-use Rattle.recovery.specs.Recovery.{responseOf, Collecting, Answered, Collected, collected, backIn}
+use Rattle.recovery.specs.Recovery.{responseOf, Collecting, ResponsePassed, Collected, collected, backIn}
 use Rattle.recovery.specs.Recovery.{recoveredBy, byResponse, collectedBy, responseStep}
-use Rattle.model.specs.State.{viewOf, opNumber, Row, Held, Response, State, Sent, Answer, opOf, ignored, withStore}
+use Rattle.model.specs.State.{viewOf, opNumber, ClientEntry, Held, Response, State, Sent, Answer, opOf, ignored, setStore}
 use Rattle.model.specs.State.Answer.{refused, done}
 use Rattle.model.specs.Book.{agree}
 use Rattle.model.specs.Sending.{messagesOut, repliesOut, send, primary, isPrimary, sendRecovery, sendRecoveryResponse}
@@ -113,7 +113,7 @@ unfolding recoverWith if_then_else_
 with-row u m w v true h = refl
 with-row u m w v false h = refl
 
-module _ (c : Given) (table : List Row) (applied : List Entry) where
+module _ (c : Given) (table : List ClientEntry) (applied : List Entry) where
   abbrev m : State
   m = modelOf (c .state) (c .runs) table applied
 
@@ -159,7 +159,7 @@ module _ (c : Given) (table : List Row) (applied : List Entry) where
         spoke-shown c s (m .book) m refl (still-reads c table applied) (no-growth (m .book)) _ _ 21 (one-message r bare) bare-long-is
 
     -- the primary's
-    module _ (h : Holding s (length (c .runs .log))) (ok : entriesOk (s .op .0) (c .runs .log) ≡ true) (bytes : Bytes (c .runs .log)) where
+    module _ (h : LogHeld s (length (c .runs .log))) (ok : entriesOk (s .op .0) (c .runs .log) ≡ true) (bytes : Bytes (c .runs .log)) where
       log-long : 32 * s .op .0 ≤ length (c .runs .log)
       log-long = omega (arith, h .op-le, h .log-long)
 
@@ -195,7 +195,7 @@ module _ (c : Given) (table : List Row) (applied : List Entry) where
       response-sent =
           split₂ (λ (d : Spoke) (ms : List Sent). Agree d (done m ms [])) _ _ _ _ _ _ refl (λ _. full-shown) (λ _. bare-shown)
 
-  pub recovery-shown : (r x : ℕ) (v : View) → Holding (c .state) (length (c .runs .log)) → isRecovering (c .state .status) ≡ false
+  pub recovery-shown : (r x : ℕ) (v : View) → LogHeld (c .state) (length (c .runs .log)) → isRecovering (c .state .status) ≡ false
       → entriesOk (c .state .op .0) (c .runs .log) ≡ true → Bytes (c .runs .log)
       → Shown c (ofSpoke c (recoveryStep (c .state) r x v (c .runs .log) (c .out))) (m .book)
       (fitted (length (c .out)) (length (c .reps)) (onRecovery (c .state .setup) m r x (v .0)))
@@ -207,7 +207,7 @@ module _ (c : Given) (table : List Row) (applied : List Entry) where
 
   -- what refusal 1 and the frame's own leave, and the rules of the entries
   module _ (v : View) (x r : ℕ) (state : RecoveryState) (part : List ℕ)
-      (h : Collecting (c .state) (bookRuns (c .runs)) (length (c .runs .stored))) (told : Answered (c .state) r (responseOf v state) (length part))
+      (h : Collecting (c .state) (bookRuns (c .runs)) (length (c .runs .stored))) (told : ResponsePassed (c .state) r (responseOf v state) (length part))
       (recovering : isRecovering (c .state .status) ≡ true) (totals : Bytes (c .runs .totals)) (kept : StoredOk (c .state) (c .runs .stored))
       (log-ok : entriesOk (c .state .op .0) (c .runs .log) ≡ true) (log-bytes : Bytes (c .runs .log))
       (part-ok : entriesOk (responseOf v state .op .0) part ≡ true) (part-bytes : Bytes part) where
@@ -273,12 +273,12 @@ module _ (c : Given) (table : List Row) (applied : List Entry) where
     refuse-shown = refl
 
     wait-reads : modelOf (by Wait .answer .state) (by Wait .runs) (next .book .table) (next .book .applied) ≡ next
-    unfolding byResponse noted withStore modelOf bookOf
+    unfolding byResponse noted setStore modelOf bookOf
     wait-reads =
         noted-reads s (c .runs) table applied recovering r d part (told .sender) few there (told .op-le) (told .long) held row-ok
 
     wait-did : Did c (by Wait) (m .book) next [] []
-    unfolding byResponse noted withStore over messagesOut repliesOut packed
+    unfolding byResponse noted setStore over messagesOut repliesOut packed
     wait-did =
         told-did c (by Wait .answer .state) (by Wait .runs) false (m .book) next refl wait-reads (no-growth (m .book)) [] [] [] [] 0 0
         refl refl refl refl
@@ -326,18 +326,18 @@ module _ (c : Given) (table : List Row) (applied : List Entry) where
             (omega (arith, size .three)) few held row-ok (kept .logs) (best .id) below answers
 
         keep-is : agree (next .book .commit) (carried .log) (next .book .log) ≡ keep
-        unfolding noted withStore modelOf bookOf
+        unfolding noted setStore modelOf bookOf
         keep-is =
             let q = h .sound in
             keeps-chosen u stored r part best whole (kept .bytes) part-bytes (s .commit .0) (s .op .0) (c .runs .log) log-ok log-bytes
             (q .commit-le) (omega (arith, q .op-le, q .log-long, place-is (s .op .0)))
 
-        numbers : Carried s o (best .report .commit)
+        numbers : LogPassed s o (best .report .commit)
         numbers = record { op-le = whole .short; commit-le = row-commit (best .id) below answers }
 
         begin-did : keep ≡ true
             → Did c (by (Begin best (best .report .commit))) (m .book) (recovered u next (best .report .view .0) carried) [] []
-        unfolding byResponse recoveredBy chosenOver recovered forgotten noted withStore enterNormal clearedStore
+        unfolding byResponse recoveredBy chosenOver recovered forgotten noted setStore enterNormal clearedStore
         begin-did k =
             subst
             (λ (y : List ℕ).
@@ -363,7 +363,7 @@ module _ (c : Given) (table : List Row) (applied : List Entry) where
 
         -- nor does the model's second, a view that falls
         weigh-shown : best .report .view .0 ≡ w → Gives weighs ends
-        unfolding noted withStore modelOf
+        unfolding noted setStore modelOf
         weigh-shown e =
             subst (λ (j : Judged). Gives j ends) (sym weigh-is)
             (split₂ Gives _ _ _ _ _ _ (ap not (sym keep-is)) (λ _. refuse-shown)
@@ -391,11 +391,11 @@ module _ (c : Given) (table : List Row) (applied : List Entry) where
           ∙ ap (λ (a : Answer). if not (best .report .there) then ignored next else a)
           (with-row u next w (best .report .view .0) (best .report .full) carried)
 
-      answered-shown : Gives (answered best w r (u .room) (s .commit .0) (c .runs .log) stored part)
+      answered-shown : Gives (answeredByPrimary best w r (u .room) (s .commit .0) (c .runs .log) stored part)
           (recoverFrom u next w (getD (next .store .responses) (primary u w) none))
-      unfolding answered
+      unfolding answeredByPrimary
       answered-shown =
-          subst (Gives (answered best w r (u .room) (s .commit .0) (c .runs .log) stored part)) (sym answered-is)
+          subst (Gives (answeredByPrimary best w r (u .room) (s .commit .0) (c .runs .log) stored part)) (sym answered-is)
           (split₂ Gives _ _ _ _ _ _ refl (λ _. wait-shown) λ e.
           split₂ Gives _ _ _ _ _ _ refl (λ _. wait-shown) (λ _. stated-shown (not-false (best .report .there) e)))
 
@@ -405,16 +405,16 @@ module _ (c : Given) (table : List Row) (applied : List Entry) where
     judges = responded (withReport (s .reports) r d) (u .n) r (u .room) (s .view .0) (s .commit .0) (c .runs .log) stored part
 
     next-view : s .view .0 ≡ next .place .view
-    unfolding noted withStore modelOf
+    unfolding noted setStore modelOf
     next-view = refl
 
-    latest-shown : Gives judges (recoverLatest u next (latestIn rows))
+    latest-shown : Gives judges (recoverLatest u next (latestViewIn rows))
     unfolding responded recoverLatest
     latest-shown =
         split₂ Gives _ _ _ _ _ _
         (ap (λ (i : ℕ). ltb i (quorumOf (u .n)))
         (sym (noted-filled s (c .runs) table applied recovering r d part (told .sender) few there))) (λ _. wait-shown) λ _.
-        split₂ Gives _ _ _ _ _ _ (ap (ltb (latestIn rows)) next-view) (λ _. wait-shown) (λ f. answered-shown (latestIn rows) (ltb-false _ _ f))
+        split₂ Gives _ _ _ _ _ _ (ap (ltb (latestViewIn rows)) next-view) (λ _. wait-shown) (λ f. answered-shown (latestViewIn rows) (ltb-false _ _ f))
 
     collected-shown : Shown c (ofCollected c (collectedBy s r d part (bookRuns (c .runs)) stored)) (m .book)
         (fitted (length (c .out)) (length (c .reps))

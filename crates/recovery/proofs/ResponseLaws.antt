@@ -19,7 +19,7 @@ use Rattle.state.specs.State.{withReports}
 use Rattle.state.specs.Statuses.{noReport}
 use Rattle.state.specs.Answers.{refusal, completed, quiet}
 use Rattle.state.specs.Lengths.{storedPlace}
-use Rattle.state.specs.declared.Answer.{Answer}
+use Rattle.state.specs.declared.Returned.{Returned}
 use Rattle.state.specs.declared.Replica.{Replica}
 use Rattle.state.specs.declared.Report.{Report}
 use Rattle.state.specs.declared.Reports.{Reports}
@@ -35,7 +35,7 @@ use Rattle.reports.proofs.JudgeLaws.{response-lies, response-within}
 use Rattle.reports.proofs.StoreLaws.{chosen-over-length}
 use Rattle.steps.specs.Steps.{Sound, committedTo, settled}
 use Rattle.book.specs.Memory.{runs}
-use Rattle.recovery.specs.Recovery.{responseOf, Collecting, Answered, Collected, collected, backIn, recoveredBy, byResponse, collectedBy, responseStep}
+use Rattle.recovery.specs.Recovery.{responseOf, Collecting, ResponsePassed, Collected, collected, backIn, recoveredBy, byResponse, collectedBy, responseStep}
 
 -- ---- what is held of a response
 
@@ -74,7 +74,7 @@ module _ (s : Replica) (b : Best) (g : Op) (r : ℕ) (fresh log results totals s
           k,
         )
 
-  pub comes-back : (a : Answer) (t u : Replica) (log′ results′ totals′ : List ℕ) → t ≡ backIn s b
+  pub comes-back : (a : Returned) (t u : Replica) (log′ results′ totals′ : List ℕ) → t ≡ backIn s b
       → log′ ≡ chosenOver b r (s .setup .room) stored fresh log → u ≡ committedTo t g
       → runs log′ results′ totals′ ≡ settled t g (runs log′ results totals) → a ≡ completed u 0 0 true
       → collected a (runs log′ results′ totals′) stored ≡ recoveredBy s b g r fresh (runs log results totals) stored
@@ -87,7 +87,7 @@ module _ (s : Replica) (b : Best) (g : Op) (r : ℕ) (fresh log results totals s
 -- ---- a response is recorded
 
 module _ (s : Replica) (r : ℕ) (d : Report) (fresh log results totals stored : List ℕ) where
-  module _ (h : Collecting s (runs log results totals) (length stored)) (a : Answered s r d (length fresh)) where
+  module _ (h : Collecting s (runs log results totals) (length stored)) (a : ResponsePassed s r d (length fresh)) where
     pub sender-seven : r < 7
     sender-seven = let z = sized (s .setup) (h .sound .sized) in omega (arith, a .sender, z .seven)
 
@@ -163,13 +163,13 @@ module _ (s : Replica) (r : ℕ) (d : Report) (fresh log results totals stored :
         let w = sym e ∙ q ∙ λ i. responded (p i) (s .setup .n) r (s .setup .room) (s .view .0) (s .commit .0) log stored fresh in
         c ∙ λ i. byResponse (w i) s (p i) r (d .op) fresh (runs log results totals) stored
 
-    pub keeps-it : (a : Answer) (t : Replica) (stored′ : List ℕ) → j ≡ Wait → stored′ ≡ keptLog (s .setup .room) r (d .op) fresh stored
+    pub keeps-it : (a : Returned) (t : Replica) (stored′ : List ℕ) → j ≡ Wait → stored′ ≡ keptLog (s .setup .room) r (d .op) fresh stored
         → t ≡ withReports s rows → a ≡ quiet t
         → collected a (runs log results totals) stored′ ≡ collectedBy s r d fresh (runs log results totals) stored
     unfolding byResponse
     keeps-it a t stored′ e k w c = leads-to Wait _ e (λ i. collected ((c ∙ ap quiet w) i) (runs log results totals) (k i))
 
-    pub refuses-it : (a : Answer) → j ≡ Refuse → a ≡ refusal 7 s
+    pub refuses-it : (a : Returned) → j ≡ Refuse → a ≡ refusal 7 s
         → collected a (runs log results totals) stored ≡ collectedBy s r d fresh (runs log results totals) stored
     unfolding byResponse
     refuses-it a e c = leads-to Refuse _ e (λ i. collected (c i) (runs log results totals) stored)
@@ -183,7 +183,7 @@ module _ (s : Replica) (r : ℕ) (d : Report) (fresh log results totals stored :
 -- ---- on_recovery_response
 
 module _ (s : Replica) (v : View) (x r : ℕ) (state : RecoveryState) (part log results totals stored : List ℕ) where
-  pub other-nonce : (a : Answer) → (x ≡ s .nonce → ⊥) → a ≡ quiet s
+  pub other-nonce : (a : Returned) → (x ≡ s .nonce → ⊥) → a ≡ quiet s
       → collected a (runs log results totals) stored ≡ responseStep s v x r state part (runs log results totals) stored
   unfolding responseStep if_then_else_
   other-nonce a h p = rw (ne-eqb x (s .nonce) h, p)
@@ -197,5 +197,5 @@ module _ (s : Replica) (v : View) (x r : ℕ) (state : RecoveryState) (part log 
       ∙ (λ i. collectedBy s r (e i) part (runs log results totals) stored)
       ∙ sym (rw (eq-eqb x (s .nonce) h))
 
-pub answered-is : (s : Replica) (r n : ℕ) (d e : Report) → d ≡ e → Answered s r e n → Answered s r d n
-answered-is s r n d e p h = subst (λ (x : Report). Answered s r x n) (sym p) h
+pub answered-is : (s : Replica) (r n : ℕ) (d e : Report) → d ≡ e → ResponsePassed s r e n → ResponsePassed s r d n
+answered-is s r n d e p h = subst (λ (x : Report). ResponsePassed s r x n) (sym p) h

@@ -18,7 +18,7 @@ use Rattle.state.specs.State.{leads, withLog, normalIn, withReports}
 use Rattle.state.specs.Statuses.{isNormal}
 use Rattle.state.specs.Answers.{refusal, completed, quiet}
 use Rattle.state.specs.Lengths.{storedLength}
-use Rattle.state.specs.declared.Answer.{Answer}
+use Rattle.state.specs.declared.Returned.{Returned}
 use Rattle.state.specs.declared.Replica.{Replica}
 use Rattle.state.specs.declared.Report.{Report}
 use Rattle.state.specs.declared.Reports.{Reports}
@@ -83,7 +83,7 @@ pub record Collecting (s : Replica) (x : Runs) (stored : ℕ) : Type 0 where
   pub stored-long : stored ≡ storedLength (s .setup)
 
 -- what refusals 3 to 5 leave of a response d of replica r, whose log is in `fresh`
-pub record Answered (s : Replica) (r : ℕ) (d : Report) (fresh : ℕ) : Type 0 where
+pub record ResponsePassed (s : Replica) (r : ℕ) (d : Report) (fresh : ℕ) : Type 0 where
   pub sender : r < s .setup .n
   pub op-le : d .op .0 ≤ s .setup .room
   pub commit-le : d .commit .0 ≤ d .op .0
@@ -91,11 +91,11 @@ pub record Answered (s : Replica) (r : ℕ) (d : Report) (fresh : ℕ) : Type 0 
 
 -- what a response leaves: the answer, log, results and totals, and the stored logs
 pub record Collected : Type 0 where
-  pub answer : Answer
+  pub answer : Returned
   pub runs : Runs
   pub stored : List ℕ
 
-abbrev pub collected : Answer → Runs → List ℕ → Collected
+abbrev pub collected : Returned → Runs → List ℕ → Collected
 collected a x stored = record { answer = a; runs = x; stored = stored }
 
 -- Normal in the view of the chosen response, with its log

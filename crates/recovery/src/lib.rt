@@ -4,17 +4,17 @@ ghost use mathlib.Core.Bool.{true};
 ghost use lib.ListN.{length};
 ghost use Rattle.config.specs.Setup.{setupOk};
 ghost use Rattle.steps.specs.Steps.{spoke};
-ghost use Rattle.view_change.specs.StartView.{Holding};
+ghost use Rattle.view_change.specs.StartView.{LogHeld};
 ghost use Rattle.recovery.specs.Recovery.{recoveringTick, fullAnswer, bareAnswer, recoveryStep};
 use frames::Message;
 use numbers::View;
-use state::Answer;
 use state::Replica;
+use state::Returned;
 
 pub mod response; // on_recovery_response
 
 // send_recovery, on each tick in Recovering; the clock is left alone.
-pub fn tick_recovering(s: Replica, out: &mut [u8]) -> Answer
+pub fn tick_recovering(s: Replica, out: &mut [u8]) -> Returned
     requires { ⌜ setupOk (s .setup) ≡ true ⌝ }
     ensures { λ a. ⌜ spoke a (now (out .exit)) ≡ recoveringTick s (now (out .entry)) ⌝ }
 {
@@ -32,8 +32,8 @@ pub fn tick_recovering(s: Replica, out: &mut [u8]) -> Answer
 }
 
 // A primary's answer, with its log.
-fn answer_full(s: Replica, r: u8, x: u64, log: &[u8], out: &mut [u8]) -> Answer
-    requires { ⌜ Holding s (length (now log)) ⌝ }
+fn answer_full(s: Replica, r: u8, x: u64, log: &[u8], out: &mut [u8]) -> Returned
+    requires { ⌜ LogHeld s (length (now log)) ⌝ }
     ensures { λ a. ⌜ spoke a (now (out .exit)) ≡ fullAnswer s r x (now (log .entry)) (now (out .entry)) ⌝ }
 {
     if out.len() < 29 + 32 * (s.op.0 as usize) {
@@ -47,7 +47,7 @@ fn answer_full(s: Replica, r: u8, x: u64, log: &[u8], out: &mut [u8]) -> Answer
 }
 
 // A backup's, without.
-fn answer_bare(s: Replica, r: u8, x: u64, out: &mut [u8]) -> Answer
+fn answer_bare(s: Replica, r: u8, x: u64, out: &mut [u8]) -> Returned
     ensures { λ a. ⌜ spoke a (now (out .exit)) ≡ bareAnswer s r x (now (out .entry)) ⌝ }
 {
     if out.len() < 21 {
@@ -59,8 +59,8 @@ fn answer_bare(s: Replica, r: u8, x: u64, out: &mut [u8]) -> Answer
 }
 
 // on_recovery of replica r, with its nonce x and view v: one of a later view starts the view change, and isn't answered.
-pub fn on_recovery(s: Replica, r: u8, x: u64, v: View, log: &[u8], out: &mut [u8]) -> Answer
-    requires { ⌜ Holding s (length (now log)) ⌝ }
+pub fn on_recovery(s: Replica, r: u8, x: u64, v: View, log: &[u8], out: &mut [u8]) -> Returned
+    requires { ⌜ LogHeld s (length (now log)) ⌝ }
     ensures { λ a. ⌜ spoke a (now (out .exit)) ≡ recoveryStep s r x v (now (log .entry)) (now (out .entry)) ⌝ }
 {
     if s.view.0 < v.0 {

@@ -5,15 +5,15 @@ ghost use lib.ListN.{length};
 ghost use Rattle.reports.specs.Judge.{Lies};
 ghost use Rattle.steps.specs.Steps.{Sound};
 ghost use Rattle.book.specs.Memory.{runs};
-ghost use Rattle.recovery.specs.Recovery.{responseOf, Collecting, Answered, collected, recoveredBy, collectedBy, responseStep};
+ghost use Rattle.recovery.specs.Recovery.{responseOf, Collecting, ResponsePassed, collected, recoveredBy, collectedBy, responseStep};
 use frames::RecoveryState;
 use numbers::Op;
 use numbers::View;
 use reports::Best;
 use reports::Judged;
-use state::Answer;
 use state::Replica;
 use state::Report;
+use state::Returned;
 
 // What is held of a response of view v.
 fn response(v: View, state: RecoveryState) -> Report
@@ -48,7 +48,7 @@ fn come_back<'a>(
     results: &mut [u8],
     totals: &mut [u8],
     stored: &'a [u8],
-) -> Answer
+) -> Returned
     requires { ⌜ Sound s (runs (now log) (now results) (now totals)) × (Lies b r (s .setup .room) (now stored) (now fresh) × ((s .commit .0 ≤ b .report .op .0) × (g .0 ≤ b .report .op .0))) ⌝ }
     ensures { λ a. ⌜ collected a (runs (now (log .exit)) (now (results .exit)) (now (totals .exit))) (now (stored .entry)) ≡ recoveredBy s b g r (now (fresh .entry)) (runs (now (log .entry)) (now (results .entry)) (now (totals .entry))) (now (stored .entry)) ⌝ }
 {
@@ -71,8 +71,8 @@ fn collect(
     results: &mut [u8],
     totals: &mut [u8],
     stored: &mut [u8],
-) -> Answer
-    requires { ⌜ Collecting s (runs (now log) (now results) (now totals)) (length (now stored)) × Answered s r d (length (now fresh)) ⌝ }
+) -> Returned
+    requires { ⌜ Collecting s (runs (now log) (now results) (now totals)) (length (now stored)) × ResponsePassed s r d (length (now fresh)) ⌝ }
     ensures { λ a. ⌜ collected a (runs (now (log .exit)) (now (results .exit)) (now (totals .exit))) (now (stored .exit)) ≡ collectedBy s r d (now (fresh .entry)) (runs (now (log .entry)) (now (results .entry)) (now (totals .entry))) (now (stored .entry)) ⌝ }
 {
     let n = s.setup.n;
@@ -106,8 +106,8 @@ pub fn on_recovery_response(
     results: &mut [u8],
     totals: &mut [u8],
     stored: &mut [u8],
-) -> Answer
-    requires { ⌜ Collecting s (runs (now log) (now results) (now totals)) (length (now stored)) × Answered s r (responseOf v state) (length (now part)) ⌝ }
+) -> Returned
+    requires { ⌜ Collecting s (runs (now log) (now results) (now totals)) (length (now stored)) × ResponsePassed s r (responseOf v state) (length (now part)) ⌝ }
     ensures { λ a. ⌜ collected a (runs (now (log .exit)) (now (results .exit)) (now (totals .exit))) (now (stored .exit)) ≡ responseStep s v x r state (now (part .entry)) (runs (now (log .entry)) (now (results .entry)) (now (totals .entry))) (now (stored .entry)) ⌝ }
 {
     if x != s.nonce {

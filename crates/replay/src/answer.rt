@@ -2,7 +2,7 @@
 use crate::digest;
 use crate::memory;
 use crate::words;
-use state::Answer;
+use state::Returned;
 
 // The number of a line, before what is said of it.
 pub fn say_line(n: u64) {
@@ -42,7 +42,7 @@ fn say_replies(n: u64, reps: &[u8], k: usize) {
 }
 
 // Whether line n is this answer.
-pub fn same(n: u64, a: Answer, line: &[u8], out: &[u8], reps: &[u8]) -> bool {
+pub fn same(n: u64, a: Returned, line: &[u8], out: &[u8], reps: &[u8]) -> bool {
     if a.code as u64 != words::decimal(line, 1) {
         say_code(n, a.code);
         return false;
@@ -66,7 +66,7 @@ fn said(n: u64, what: &[u8]) {
 // Whether a call left alone what is behind its messages and replies, in areas of so many bytes.
 pub fn clear_behind(
     n: u64,
-    a: Answer,
+    a: Returned,
     out: &[u8],
     messages: usize,
     reps: &[u8],
@@ -84,7 +84,7 @@ pub fn clear_behind(
 }
 
 // Whether a call that is refused left the memory as it was, `before` being its digest before the call.
-pub fn refused_clean(n: u64, a: Answer, mem: &[u8], before: u64) -> bool {
+pub fn refused_clean(n: u64, a: Returned, mem: &[u8], before: u64) -> bool {
     if a.code == 0 {
         return true;
     }

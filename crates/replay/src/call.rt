@@ -3,8 +3,8 @@ ghost use Prim.Native.Nat.{_≤_};
 use crate::memory;
 use config::Setup;
 use numbers::View;
-use state::Answer;
 use state::Replica;
+use state::Returned;
 
 // What is called, with what is handed over by value.
 pub enum Call {
@@ -63,7 +63,7 @@ fn made(
     old: &mut [u8],
     out: &mut [u8],
     reps: &mut [u8],
-) -> Answer {
+) -> Returned {
     let call = g.call;
     let u = g.setup;
     let s = g.state;
@@ -111,7 +111,7 @@ fn made(
 }
 
 // The call, with runs of the setup's lengths: parts of copies, since no two parts of one run can be lent at a time.
-pub fn make(g: Given, frame: &[u8], mem: &mut [u8], out: &mut [u8], reps: &mut [u8]) -> Answer {
+pub fn make(g: Given, frame: &[u8], mem: &mut [u8], out: &mut [u8], reps: &mut [u8]) -> Returned {
     let l = within(g.setup.room) as usize;
     let m = within(g.setup.members) as usize;
     let n = logs(g.setup.room, g.setup.n);

@@ -4,7 +4,7 @@ use crate::call::Call;
 use config::Setup;
 use frames::Status;
 use numbers::View;
-use state::Answer;
+use state::Returned;
 
 // What a line asks for.
 pub enum Step {
@@ -30,7 +30,7 @@ pub struct Play {
     pub titled: bool,
     pub due: u8,
     pub created: bool,
-    pub answer: Answer,
+    pub answer: Returned,
     pub before: u64,
     pub messages: usize,
     pub replies: usize,

@@ -10,7 +10,7 @@ use crate::digest;
 use crate::fields;
 use crate::memory;
 use crate::words;
-use state::Answer;
+use state::Returned;
 
 fn given(p: Play) -> Given {
     let asked = p.asked;
@@ -21,13 +21,13 @@ fn given(p: Play) -> Given {
     Given { call, setup, state }
 }
 
-fn not_made(p: Play) -> Answer {
+fn not_made(p: Play) -> Returned {
     let answer = p.answer;
     state::refused(99, answer.state)
 }
 
 // The call, with areas as long as the line says.
-fn in_areas(p: Play, frame: &[u8], mem: &mut [u8], out: &mut [u8], reps: &mut [u8]) -> Answer {
+fn in_areas(p: Play, frame: &[u8], mem: &mut [u8], out: &mut [u8], reps: &mut [u8]) -> Returned {
     let messages = p.messages;
     let replies = p.replies;
     if out.len() < messages {

@@ -20,14 +20,14 @@ use Rattle.fees.specs.Results.{outcomes}
 use Rattle.frames.specs.declared.Message.{Message}
 use Rattle.frames.specs.declared.Checked.{Checked}
 use Rattle.frames.specs.declared.Checked.the-variants.{Passed, Refused}
-use Rattle.rows.specs.Rows.{followed}
-use Rattle.rows.specs.declared.Latest.{Latest}
-use Rattle.rows.specs.declared.Change.{Change}
-use Rattle.table.specs.Layout.{byteRow, rowsOf}
-use Rattle.table.specs.Steps.{Left, oldAfter}
+use Rattle.client_table.specs.Rows.{followed}
+use Rattle.client_table.specs.declared.Latest.{Latest}
+use Rattle.client_table.specs.declared.Change.{Change}
+use Rattle.client_table_bytes.specs.Layout.{byteRow, rowsOf}
+use Rattle.client_table_bytes.specs.Steps.{RowsLeft, oldAfter}
 use Rattle.state.specs.Answers.{refusal}
 use Rattle.state.specs.Lengths.{tableLength}
-use Rattle.state.specs.declared.Answer.{Answer}
+use Rattle.state.specs.declared.Returned.{Returned}
 use Rattle.state.specs.declared.Replica.{Replica}
 use Rattle.do_view_change.specs.Record.{Recorded, recorded}
 use Rattle.book.specs.Memory.{Memory}
@@ -35,26 +35,26 @@ use Rattle.handlers.specs.Handlers.{messageStep, idleStep}
 use Rattle.handlers.proofs.Stays.{Stays}
 use Rattle.outside.specs.Sound.{sound}
 use Rattle.outside.specs.Calls.{checkedOf, changeBy}
-use Rattle.outside.specs.Creation.{Begun, begun}
+use Rattle.outside.specs.Creation.{Started, started}
 use Rattle.replica.specs.Calls.{latestFor, tableAfter, tabled, followedBy, Following, withTable, following, checkedCall, messageCall, idleCall, cleared}
 use Rattle.replica.specs.Lent.{Lent, lent, Called, called, lengthsOf}
 
 -- ---- the client table
 
-module _ (s : Replica) (a : Answer) (log results table old : List ℕ) where
+module _ (s : Replica) (a : Returned) (log results table old : List ℕ) where
   pub follow-refused : (a .code ≡ 0 → ⊥) → tabled a table old ≡ followedBy s a log results table old
   unfolding followedBy if_then_else_
   follow-refused h = rw (ne-eqb (a .code) 0 h)
 
   pub follow-done : a .code ≡ 0 → (k : Change) → k ≡ changeBy s a → {table′ old′ : List ℕ}
-      → Left (s .setup .room) table table′
+      → RowsLeft (s .setup .room) table table′
       (followed byteRow k (rowsOf (s .setup .room) table) (entries (k .to .0) log) (outcomes (k .done .0) results))
       → old′ ≡ oldAfter (s .setup .room) k table old → tabled a table′ old′ ≡ followedBy s a log results table old
   unfolding followedBy tableAfter if_then_else_
   follow-done h k e l o = rw (eq-eqb (a .code) 0 h, l .bytes, o, e)
 
 -- what the core left is what the table needs
-pub stays-follow : (s : Replica) (d : Recorded) (a : Answer) (m : Memory) (table old : ℕ) → setupOk (s .setup) ≡ true → Stays s d
+pub stays-follow : (s : Replica) (d : Recorded) (a : Returned) (m : Memory) (table old : ℕ) → setupOk (s .setup) ≡ true → Stays s d
     → recorded a m ≡ d → table ≡ tableLength (s .setup) → old ≡ tableLength (s .setup)
     → Following s a (length (m .runs .log)) (length (m .runs .money .results)) table old
 stays-follow s d a m table old ok h e t o =
@@ -70,8 +70,8 @@ stays-follow s d a m table old ok h e t o =
       old-long = o;
     }
 
-pub followed-is : (s : Replica) (d : Recorded) (a : Answer) (m : Memory) (table old : List ℕ) → recorded a m ≡ d
-    → {r : Answer} {table′ old′ : List ℕ} → tabled r table′ old′ ≡ followedBy s a (m .runs .log) (m .runs .money .results) table old
+pub followed-is : (s : Replica) (d : Recorded) (a : Returned) (m : Memory) (table old : List ℕ) → recorded a m ≡ d
+    → {r : Returned} {table′ old′ : List ℕ} → tabled r table′ old′ ≡ followedBy s a (m .runs .log) (m .runs .money .results) table old
     → called r (record { core = m; table = table′; old = old′ }) ≡ following s table old d
 unfolding following
 followed-is s d a m table old e q =
@@ -82,7 +82,7 @@ followed-is s d a m table old e q =
 -- ---- a frame
 
 module _ (s : Replica) (frame : List ℕ) (x : Lent) (j : Checked) (q : j ≡ checkedOf s (lengthsOf x) frame) where
-  pub malformed : (k : ℕ) → j ≡ Refused k → {a : Answer} → a ≡ refusal k s → called a x ≡ messageCall s frame x
+  pub malformed : (k : ℕ) → j ≡ Refused k → {a : Returned} → a ≡ refusal k s → called a x ≡ messageCall s frame x
   unfolding messageCall checkedCall
   malformed k r p = rw (← q, r, p)
 
@@ -99,7 +99,7 @@ taken s m frame x l e p = p ∙ ap (λ (y : Latest). following s (x .table) (x .
 -- ---- a tick
 
 module _ (s : Replica) (x : Lent) (b : Bool) (e : b ≡ sound s (lengthsOf x)) where
-  pub idle-unsound : not b ≡ true → {a : Answer} → a ≡ refusal 1 s → called a x ≡ idleCall s x
+  pub idle-unsound : not b ≡ true → {a : Returned} → a ≡ refusal 1 s → called a x ≡ idleCall s x
   unfolding idleCall if_then_else_
   idle-unsound h p = rw (← e, h, p)
 
@@ -109,7 +109,7 @@ module _ (s : Replica) (x : Lent) (b : Bool) (e : b ≡ sound s (lengthsOf x)) w
 
 -- ---- creation
 
-module _ (u : Setup) (x : Lent) {a : Answer} {totals acks out : List ℕ} {d : Begun} (e : begun a totals acks out ≡ d) where
+module _ (u : Setup) (x : Lent) {a : Returned} {totals acks out : List ℕ} {d : Started} (e : started a totals acks out ≡ d) where
   abbrev left : (table : List ℕ) → Called
   left table =
       called a (lent (x .core .runs .log) (x .core .runs .money .results) totals acks (x .core .stored) table (x .old) out (x .core .reps))

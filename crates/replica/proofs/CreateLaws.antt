@@ -18,16 +18,16 @@ use Rattle.config.specs.Setup.{setupOk}
 use Rattle.config.specs.declared.Setup.{Setup}
 use Rattle.config.proofs.SetupLaws.{sized}
 use Rattle.frames.specs.declared.Status.{Status}
-use Rattle.table.specs.Layout.{noRow, byteRow, rowsOf}
-use Rattle.table.proofs.LayoutLaws.{left-cleared, byte-lawful}
+use Rattle.client_table_bytes.specs.Layout.{noRow, byteRow, rowsOf}
+use Rattle.client_table_bytes.proofs.LayoutLaws.{left-cleared, byte-lawful}
 use Rattle.state.specs.State.{newIn}
 use Rattle.state.specs.Answers.{refusal}
 use Rattle.state.specs.Statuses.{isRecovering, noReport}
 use Rattle.state.specs.Lengths.{acksLength, totalsLength, tableLength}
-use Rattle.state.specs.declared.Answer.{Answer}
+use Rattle.state.specs.declared.Returned.{Returned}
 use Rattle.state.specs.declared.Replica.{Replica}
 use Rattle.handlers.proofs.Held.{none-ok}
-use Rattle.model.specs.State.{Report, Response}
+use Rattle.model.specs.State.{Reported, Response}
 use Rattle.model.specs.Book.{emptyBook}
 use Rattle.model.specs.ViewChange.{noReports, noAcks}
 use Rattle.model.specs.Recovery.{noResponses}
@@ -38,7 +38,7 @@ use Rattle.layout.proofs.TableLift.{blank-means}
 use Rattle.steps.proofs.StepLift.{reports-cleared, responses-cleared}
 use Rattle.safety.specs.Demand.{Created, run}
 use Rattle.outside.specs.Sound.{sound}
-use Rattle.outside.specs.Creation.{begun, zeroed}
+use Rattle.outside.specs.Creation.{started, zeroed}
 use Rattle.outside.proofs.SoundLaws.{Long, is-sound}
 use Rattle.replica.specs.Calls.{cleared}
 use Rattle.replica.specs.Lent.{Lent, lent, called, lengthsOf}
@@ -58,11 +58,11 @@ emptied u x out =
 
 module _ (u : Setup) (x : Lent) where
   pub cleared-refused : (k : ℕ) (z : Replica) → (k ≡ 0 → ⊥)
-      → cleared u x (begun (refusal k z) (x .core .runs .money .totals) (x .core .acks) (x .core .out)) ≡ called (refusal k z) x
+      → cleared u x (started (refusal k z) (x .core .runs .money .totals) (x .core .acks) (x .core .out)) ≡ called (refusal k z) x
   unfolding cleared if_then_else_
   cleared-refused k z h = rw (ne-eqb k 0 h)
 
-  pub cleared-done : (a : Answer) (out : List ℕ) → a .code ≡ 0
+  pub cleared-done : (a : Returned) (out : List ℕ) → a .code ≡ 0
       → cleared u x (zeroed u a (x .core .runs .money .totals) (x .core .acks) out) ≡ called a (emptied u x out)
   unfolding cleared emptied if_then_else_
   cleared-done a out h = rw (eq-eqb (a .code) 0 h)
@@ -101,7 +101,7 @@ module _ (u : Setup) (x : Lent) (out : List ℕ) (ok : setupOk u ≡ true) (long
   unfolding storeOf noReports noResponses
   store-is =
       let few = sized u ok .seven in
-      let p = split (λ (l : List (Option Report)). l ≡ replicate (u .n) none) (isRecovering status) _ _ (λ _. refl)
+      let p = split (λ (l : List (Option Reported)). l ≡ replicate (u .n) none) (isRecovering status) _ _ (λ _. refl)
       (λ _. reports-cleared u (x .core .stored) few) in
       let q = split (λ (l : List (Option Response)). l ≡ replicate (u .n) none) (isRecovering status) _ _
       (λ _. responses-cleared u (x .core .stored) few) (λ _. refl) in

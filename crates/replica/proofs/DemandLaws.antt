@@ -15,7 +15,7 @@ use Rattle.entries.specs.declared.Entry.{Entry}
 use Rattle.config.specs.declared.Setup.{Setup}
 use Rattle.frames.specs.declared.Checked.{Checked}
 use Rattle.frames.specs.declared.Checked.the-variants.{Passed, Refused}
-use Rattle.table.specs.Steps.{oldAfter}
+use Rattle.client_table_bytes.specs.Steps.{oldAfter}
 use Rattle.state.specs.Answers.{refusal}
 use Rattle.state.specs.declared.Replica.{Replica}
 use Rattle.do_view_change.specs.Record.{Recorded}

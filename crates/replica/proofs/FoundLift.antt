@@ -6,10 +6,10 @@ use mathlib.Core.List.{List}
 use mathlib.Core.Option.{Option, none, some}
 use lib.Dec.{eqb}
 use Rattle.numbers.specs.Words.{if_then_else_}
-use Rattle.table.specs.Layout.{byteRow}
-use Rattle.table.specs.Steps.{foundIn, latestOf}
-use Rattle.table.specs.declared.Row.{Row}
-use Rattle.table.proofs.LayoutLaws.{byte-lawful}
+use Rattle.client_table_bytes.specs.Layout.{byteRow}
+use Rattle.client_table_bytes.specs.Steps.{foundIn, latestOf}
+use Rattle.client_table_bytes.specs.declared.MarkedRow.{MarkedRow}
+use Rattle.client_table_bytes.proofs.LayoutLaws.{byte-lawful}
 use Rattle.layout.specs.Layout.{tableOf, Ordered}
 use Rattle.layout.specs.Shown.{Tells}
 use Rattle.layout.proofs.RowLift.{find-there, find-row}
@@ -19,7 +19,7 @@ unfolding if_then_else_
 turned true x y = refl
 turned false x y = refl
 
-pub found-tells : (xs : List Row) (c : ℕ) → Ordered byteRow xs → Tells (tableOf byteRow xs) c (latestOf (foundIn xs c))
+pub found-tells : (xs : List MarkedRow) (c : ℕ) → Ordered byteRow xs → Tells (tableOf byteRow xs) c (latestOf (foundIn xs c))
 unfolding foundIn
 found-tells xs c o =
     record {

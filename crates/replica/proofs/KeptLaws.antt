@@ -18,11 +18,11 @@ use Rattle.config.specs.declared.Setup.{Setup}
 use Rattle.fees.specs.Results.{outcomes}
 use Rattle.frames.specs.declared.Message.{Message}
 use Rattle.frames.specs.declared.Message.the-variants.{Request, Prepare, PrepareOk, Commit, GetState, NewState, StartViewChange, DoViewChange, StartView, Recovery, RecoveryResponse}
-use Rattle.rows.specs.Rows.{followed}
-use Rattle.table.specs.Layout.{byteRow, rowOf, rowsOf}
-use Rattle.table.specs.Steps.{Left, oldAfter}
-use Rattle.table.specs.declared.Row as T
-use Rattle.table.proofs.LayoutLaws.{left-size, byte-lawful}
+use Rattle.client_table.specs.Rows.{followed}
+use Rattle.client_table_bytes.specs.Layout.{byteRow, rowOf, rowsOf}
+use Rattle.client_table_bytes.specs.Steps.{RowsLeft, oldAfter}
+use Rattle.client_table_bytes.specs.declared.MarkedRow as T
+use Rattle.client_table_bytes.proofs.LayoutLaws.{left-size, byte-lawful}
 use Rattle.state.specs.Answers.{refusal}
 use Rattle.state.specs.Lengths.{tableLength}
 use Rattle.state.specs.declared.Replica.{Replica}
@@ -30,10 +30,10 @@ use Rattle.do_view_change.specs.Record.{Recorded, recorded}
 use Rattle.handlers.proofs.Stays.{Stays}
 use Rattle.handlers.proofs.RunBytes.{RunBytes}
 use Rattle.handlers.proofs.Ruled.{RuledBy}
-use Rattle.model.specs.State.{Row, State, Sent, Reply, Answer, after}
+use Rattle.model.specs.State.{ClientEntry, State, Sent, Reply, Answer, after}
 use Rattle.model.specs.State.Answer.{refused, done}
 use Rattle.layout.specs.Layout.{tableOf, Ordered, bookOf, modelOf}
-use Rattle.model.specs.Steps.{stateOk}
+use Rattle.model.specs.Steps.{numbersOk}
 use Rattle.layout.specs.Shown.{Given, Did, Shown}
 use Rattle.layout.proofs.RowLift as M
 use Rattle.do_view_change.proofs.BeginLift.{memoryOf, ofRecorded}
@@ -74,7 +74,7 @@ module _ (s : Replica) (x : Lent) (applied : List Entry) (o : Owned x) (k : Kept
   abbrev pub given : Given
   given = record { state = s; runs = runsOf x; out = x .core .out; reps = x .core .reps }
 
-  abbrev pub rows : List Row
+  abbrev pub rows : List ClientEntry
   rows = tableOf byteRow (rowsOf (s .setup .room) (x .table))
 
   abbrev m : State
@@ -88,7 +88,7 @@ module _ (s : Replica) (x : Lent) (applied : List Entry) (o : Owned x) (k : Kept
       subst (Safe (s .setup)) (sym (k .reached .is))
       (demand3 (s .setup) (k .reached .first) (k .reached .created) (k .reached .calls) [] .safe)
 
-  pub never-1 : stateOk (s .setup) (meaningOf s x applied) ≡ true
+  pub never-1 : numbersOk (s .setup) (meaningOf s x applied) ≡ true
   never-1 = safe .never-1
 
   pub fit : Fit given rows
@@ -135,7 +135,7 @@ module _ (s : Replica) (x : Lent) (applied : List Entry) (o : Owned x) (k : Kept
     abbrev t : Replica
     t = d .answer .state
 
-    abbrev now : List T.Row
+    abbrev now : List T.MarkedRow
     now =
         followed byteRow (changeBy s (d .answer)) (rowsOf (s .setup .room) (x .table)) (entries (t .op .0) (d .memory .runs .log))
         (outcomes (t .commit .0) (d .memory .runs .money .results))
@@ -162,7 +162,7 @@ module _ (s : Replica) (x : Lent) (applied : List Entry) (o : Owned x) (k : Kept
         (record { long = cells-length 25 rowOf (s .setup .room) (x .table); table = refl; ordered = k .ordered })
         table-le op-le
 
-    table-left : Left (s .setup .room) (x .table) (left .table) now
+    table-left : RowsLeft (s .setup .room) (x .table) (left .table) now
     table-left =
         table-after (s .setup .room) (changeBy s (d .answer)) (x .table) (d .memory .runs .log) (d .memory .runs .money .results) (o .table)
         (bytes .log) (bytes .money .results) (means .long)
@@ -172,7 +172,7 @@ module _ (s : Replica) (x : Lent) (applied : List Entry) (o : Owned x) (k : Kept
 
     state-is : meaningOf t left (m′ .book .applied) ≡ m′
     state-is =
-        ap (λ (l : List Row). modelOf t (runsOf left) l (m′ .book .applied)) (ap (tableOf byteRow) rows-are ∙ means .table) ∙ did .state
+        ap (λ (l : List ClientEntry). modelOf t (runsOf left) l (m′ .book .applied)) (ap (tableOf byteRow) rows-are ∙ means .table) ∙ did .state
 
     left-whole : Whole t (left .core) (length (left .table)) (length (left .old))
     left-whole =

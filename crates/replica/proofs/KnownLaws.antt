@@ -22,15 +22,15 @@ use Rattle.frames.specs.Refusals.{checkFrame}
 use Rattle.frames.specs.declared.Message.{Message}
 use Rattle.frames.specs.declared.Message.the-variants.{Request, Prepare, PrepareOk, Commit, GetState, NewState, StartViewChange, DoViewChange, StartView, Recovery, RecoveryResponse}
 use Rattle.frames.specs.declared.Checked.the-variants.{Passed}
-use Rattle.rows.specs.declared.Latest.{Latest}
-use Rattle.table.specs.declared.Found.{Found}
-use Rattle.table.specs.Layout.{rowsOf}
-use Rattle.table.specs.Steps.{foundIn, latestOf, AppendsFor}
+use Rattle.client_table.specs.declared.Latest.{Latest}
+use Rattle.client_table_bytes.specs.declared.Found.{Found}
+use Rattle.client_table_bytes.specs.Layout.{rowsOf}
+use Rattle.client_table_bytes.specs.Steps.{foundIn, latestOf, AppendsFor}
 use Rattle.book.specs.Log.{withEntries}
 use Rattle.book.specs.Memory.{Memory}
-use Rattle.state.specs.declared.Answer.{Answer}
+use Rattle.state.specs.declared.Returned.{Returned}
 use Rattle.state.specs.declared.Replica.{Replica}
-use Rattle.steps.specs.Steps.{Left, Spoke, acceptOf, settled, asked, transferred, deferred, acked}
+use Rattle.steps.specs.Steps.{Left, Spoke, acceptOf, settled, askedForState, transferred, deferred, committedAndAcked}
 use Rattle.steps.specs.declared.Accept.{Accept}
 use Rattle.steps.specs.declared.Accept.the-variants.{Ignore, Hear, Join, Rejoin, Take}
 use Rattle.normal.specs.Request as Requests
@@ -38,28 +38,28 @@ use Rattle.normal.specs.Request.{requestStep}
 use Rattle.normal.specs.Prepare as Prepares
 use Rattle.normal.specs.Prepare.{appendedBy, prepareStep}
 use Rattle.normal.specs.declared.prepare.Prepared.{Prepared}
-use Rattle.normal.specs.declared.prepare.Verdict.{Verdict}
-use Rattle.normal.specs.declared.prepare.Verdict.the-variants.{Transfer, Again, Refuse, Append}
-use Rattle.normal.specs.declared.request.Call.{Call}
-use Rattle.normal.specs.declared.request.Call.the-variants as Calls
+use Rattle.normal.specs.declared.prepare.PrepareVerdict.{PrepareVerdict}
+use Rattle.normal.specs.declared.prepare.PrepareVerdict.the-variants.{Transfer, Again, Refuse, Append}
+use Rattle.normal.specs.declared.request.RequestVerdict.{RequestVerdict}
+use Rattle.normal.specs.declared.request.RequestVerdict.the-variants as Calls
 use Rattle.do_view_change.specs.Record.{Recorded, recorded, Gathering}
 use Rattle.handlers.specs.Handlers.{preparedBy, handled, messageStep}
 use Rattle.handlers.proofs.FrameLaws.{request-ok, prepare-ok}
 use Rattle.outside.specs.Calls.{carriedBy, nobody, changeBy}
-use Rattle.outside.specs.declared.call.Carried.{Carried}
+use Rattle.outside.specs.declared.call.Carrying.{Carrying}
 use Rattle.outside.proofs.CallLaws.{told-his, told-other}
 use Rattle.replica.specs.declared.call.Known.{Known}
 use Rattle.replica.specs.Calls.{latestFor, KnownFor}
 
-module _ {m : Message} {n : ℕ} {table : List ℕ} {k : Known} (c : Carried) (e : c ≡ carriedBy m) where
+module _ {m : Message} {n : ℕ} {table : List ℕ} {k : Known} (c : Carrying) (e : c ≡ carriedBy m) where
   pub his-known : c .carries ≡ true
       → (k .carries ≡ true)
       × ((k .found ≡ foundIn (rowsOf n table) (c .client)) × (k .latest ≡ latestOf (foundIn (rowsOf n table) (c .client))))
       → KnownFor m n table k
   unfolding latestFor
   his-known t h =
-      let is = ap (λ (z : Carried). foundIn (rowsOf n table) (z .client)) e in
-      let his = ap (λ (z : Carried). z .carries) (sym e) ∙ t in
+      let is = ap (λ (z : Carrying). foundIn (rowsOf n table) (z .client)) e in
+      let his = ap (λ (z : Carrying). z .carries) (sym e) ∙ t in
       record {
         carries = h .0 ∙ sym his;
         found = λ _. h .1 .0 ∙ is;
@@ -69,7 +69,7 @@ module _ {m : Message} {n : ℕ} {table : List ℕ} {k : Known} (c : Carried) (e
   pub none-known : c .carries ≡ false → (k .carries ≡ false) × (k .latest ≡ nobody) → KnownFor m n table k
   unfolding latestFor
   none-known t h =
-      let his = ap (λ (z : Carried). z .carries) (sym e) ∙ t in
+      let his = ap (λ (z : Carrying). z .carries) (sym e) ∙ t in
       record {
         carries = h .0 ∙ sym his;
         found = λ y. absurd (false≢true (sym his ∙ y));
@@ -77,12 +77,12 @@ module _ {m : Message} {n : ℕ} {table : List ℕ} {k : Known} (c : Carried) (e
       }
 
 -- no more than one entry behind those of s, and it is of client c
-record One (s : Replica) (c : ℕ) (a : Answer) (log : List ℕ) : Type 0 where
+record One (s : Replica) (c : ℕ) (a : Returned) (log : List ℕ) : Type 0 where
   kept : a .installed ≡ false
   one : a .state .op .0 ≤ s .op .0 + 1
   client : s .op .0 < a .state .op .0 → entryOf (drop (32 * s .op .0) log) .client ≡ c
 
-still-one : {s : Replica} {c : ℕ} {a : Answer} {log : List ℕ} → a .installed ≡ false → a .state .op .0 ≡ s .op .0 → One s c a log
+still-one : {s : Replica} {c : ℕ} {a : Returned} {log : List ℕ} → a .installed ≡ false → a .state .op .0 ≡ s .op .0 → One s c a log
 still-one i e = record { kept = i; one = omega (arith, e); client = λ l. absurd (omega (arith, e, l)) }
 
 entry-back : (n : ℕ) (log : List ℕ) (e : Entry) → EntryFits e → 32 * n ≤ length log
@@ -101,7 +101,7 @@ module _ (s : Replica) (m : Memory) (h : Gathering s m) where
 
   -- ---- Request
 
-  call-one : (e : Entry) (latest : Latest) → EntryFits e → (k : Call)
+  call-one : (e : Entry) (latest : Latest) → EntryFits e → (k : RequestVerdict)
       → let d = Requests.byCall k s e latest (m .runs .log) (m .acks) (m .out) (m .reps) in One s (e .client) (d .answer) (d .log)
   unfolding Requests.byCall Requests.resent Requests.accepted
   call-one e latest f Calls.Nothing = still-one refl refl
@@ -112,7 +112,7 @@ module _ (s : Replica) (m : Memory) (h : Gathering s m) where
   request-one : (e : Entry) (latest : Latest) → EntryFits e
       → let d = requestStep s e latest (m .runs .log) (m .acks) (m .out) (m .reps) in One s (e .client) (d .answer) (d .log)
   unfolding requestStep
-  request-one e latest f = call-one e latest f (Requests.verdictOf s e latest (length (m .out)) (length (m .reps)))
+  request-one e latest f = call-one e latest f (Requests.requestVerdict s e latest (length (m .out)) (length (m .reps)))
 
   -- ---- Prepare
 
@@ -123,8 +123,8 @@ module _ (s : Replica) (m : Memory) (h : Gathering s m) where
     abbrev SpokeOne : Spoke → Type 0
     SpokeOne d = One s c (d .answer) (m .runs .log)
 
-    asked-one : (t : Replica) (at : Op) → t .op .0 ≡ s .op .0 → SpokeOne (asked s t at (m .out))
-    unfolding asked
+    asked-one : (t : Replica) (at : Op) → t .op .0 ≡ s .op .0 → SpokeOne (askedForState s t at (m .out))
+    unfolding askedForState
     asked-one t at e = split SpokeOne _ _ _ (λ _. still-one refl refl) (λ _. still-one refl e)
 
     deferred-one : (k : Accept) (v : View) → SpokeOne (deferred k s v (m .out))
@@ -135,8 +135,8 @@ module _ (s : Replica) (m : Memory) (h : Gathering s m) where
     deferred-one Rejoin v = asked-one _ (s .commit) refl
     deferred-one Take v = still-one refl refl
 
-  verdict-one : (p : Prepared) → EntryFits (p .entry) → (d : Verdict) → LeftOne (p .entry .client) (Prepares.byVerdict d s p (m .runs) (m .out))
-  unfolding Prepares.byVerdict appendedBy transferred acked settled
+  verdict-one : (p : Prepared) → EntryFits (p .entry) → (d : PrepareVerdict) → LeftOne (p .entry .client) (Prepares.byPrepareVerdict d s p (m .runs) (m .out))
+  unfolding Prepares.byPrepareVerdict appendedBy transferred committedAndAcked settled
   verdict-one p f Transfer = asked-one (p .entry .client) _ (s .op) refl
   verdict-one p f Again = split (LeftOne (p .entry .client)) _ _ _ (λ _. still-one refl refl) (λ _. still-one refl refl)
   verdict-one p f (Refuse k) = still-one refl refl
@@ -148,7 +148,7 @@ module _ (s : Replica) (m : Memory) (h : Gathering s m) where
   prepare-one : (v : View) (p : Prepared) → EntryFits (p .entry) → LeftOne (p .entry .client) (prepareStep s v p (m .runs) (m .out))
   unfolding prepareStep Prepares.takenPrepare
   prepare-one v p f =
-      split (LeftOne (p .entry .client)) _ _ _ (λ _. verdict-one p f (Prepares.verdictOf s p))
+      split (LeftOne (p .entry .client)) _ _ _ (λ _. verdict-one p f (Prepares.prepareVerdict s p))
       (λ _. deferred-one (p .entry .client) (acceptOf s v) v)
 
 -- ---- any message that carries an entry
@@ -180,7 +180,7 @@ message-one x s latest frame m g b ok h =
 
 pub appends : (x : Message) (s : Replica) (latest : Latest) (frame : List ℕ) (m : Memory) → Gathering s m → Bytes frame
     → checkFrame (s .setup) frame ≡ Passed x → carriedBy x .carries ≡ true
-    → (a : Answer) (m′ : Memory) → recorded a m′ ≡ messageStep x s latest frame m
+    → (a : Returned) (m′ : Memory) → recorded a m′ ≡ messageStep x s latest frame m
     → (f : Found) (table : List ℕ) → f ≡ foundIn (rowsOf (s .setup .room) table) (carriedBy x .client)
     → AppendsFor (s .setup .room) (changeBy s a) f table (m′ .runs .log)
 appends x s latest frame m g b ok h a m′ e f table p =

@@ -26,11 +26,11 @@ use Rattle.replica.specs.Meaning.{Owned, Kept, Means, meaningOf, applied
 use Rattle.replica.specs.Promise.{CreatePromise}
 use Rattle.replica.specs.Demands.{HandedBack}
 use Rattle.replica.proofs.DemandLaws.{handed-means, handed-kept, next-means}
-use Rattle.model.specs.Examples.{Start, Event, Seen, saw, sawRefused, answerSeen, answer, seen, starts, seenFrom, Example, Holds, setup}
+use Rattle.model.specs.Examples.{Start, Event, SeenCall, saw, sawRefused, answerSeen, answer, seen, starts, seenFrom, Example, ExampleHolds, setup}
 use Rattle.model.specs.Examples.Start.{new}
 use Rattle.model.specs.Examples.Event.{idle, idleIn, gets}
 use Rattle.model.specs.Marked.{first, ticksOnly, badFrames, two, full, again, short, marked}
-use Rattle.replica.specs.Marked.{Heard, heard, heardIn, each, Areas, CallOf, Played, PlayedSo, AllPlayed}
+use Rattle.replica.specs.Marked.{HeardBack, heard, heardIn, each, Areas, CallOf, Played, PlayedSo, AllPlayed}
 use Rattle.replica.specs.Marked.Played.{none, more}
 use Rattle.model.proofs.ExamplesHold.{marked-hold}
 use Rattle.model.proofs.Open.{open-examples, open-marked}
@@ -126,7 +126,7 @@ begins u es (done m ms rs) q ends x d y ds p w h c =
     let rest = played-so u m t y [] es ds (w .setup) (handed-means t [] (d .lent) y h ∙ is) (handed-kept t [] (d .lent) y h (p .keeps (w .code))) c in
     λ i. head i ∷ rest i
 
-plays : (e : Example) → e .start ≡ new → Ends e → Holds e → PlayedSo e
+plays : (e : Example) → e .start ≡ new → Ends e → ExampleHolds e → PlayedSo e
 unfolding starts
 plays e start ends holds =
     record {

@@ -18,13 +18,13 @@ use Rattle.entries.specs.declared.Entry.{Entry}
 use Rattle.fees.specs.Results.{resultOf, ResultFits, outcomes}
 use Rattle.fees.specs.declared.Outcome.{Outcome}
 use Rattle.book.proofs.EntryRules.{num-fits}
-use Rattle.rows.specs.Rows.{spotOf, stored, inserted, putRow, appended, replied, committed, keptRow, rebuilt, renewed, followed}
-use Rattle.rows.specs.Shape.{rowAt}
-use Rattle.rows.specs.declared.Change.{Change}
-use Rattle.table.specs.Layout.{noRow, byteRow, freshOf, rowWith, rowOf, encodeRow, rowsOf}
-use Rattle.table.specs.Steps.{RowFits}
-use Rattle.table.specs.declared.Row.{Row}
-use Rattle.table.proofs.LayoutLaws.{row-codec}
+use Rattle.client_table.specs.Rows.{spotOf, stored, inserted, putRow, appended, replied, rowsCommitted, keptRow, rebuilt, renewed, followed}
+use Rattle.client_table.specs.Shape.{rowAt}
+use Rattle.client_table.specs.declared.Change.{Change}
+use Rattle.client_table_bytes.specs.Layout.{noRow, byteRow, freshOf, rowWith, rowOf, encodeRow, rowsOf}
+use Rattle.client_table_bytes.specs.Steps.{RowFits}
+use Rattle.client_table_bytes.specs.declared.MarkedRow.{MarkedRow}
+use Rattle.client_table_bytes.proofs.LayoutLaws.{row-codec}
 use Rattle.safety.specs.Ranges.{All}
 use Rattle.safety.proofs.Changes.{all-append, all-take, all-drop}
 
@@ -53,7 +53,7 @@ results-fit k s b = cells-fit 9 resultOf ResultFits result-fits k s b
 
 -- ---- a row more
 
-abbrev Fit : List Row → Type 0
+abbrev Fit : List MarkedRow → Type 0
 Fit xs = All RowFits xs
 
 row-of : (e : Entry) (mark total : ℕ) → EntryFits e → mark < 2 ^ 8 → total < 2 ^ 64 → RowFits (rowWith e mark total)
@@ -62,12 +62,12 @@ row-of e mark total f m t = record { client = f .client; request = f .request; m
 fresh-fits : (e : Entry) → EntryFits e → RowFits (freshOf e)
 fresh-fits e f = row-of e 255 0 f (omega arith) (omega arith)
 
-row-at-fits : (xs : List Row) (i : ℕ) → Fit xs → RowFits (rowAt byteRow xs i)
+row-at-fits : (xs : List MarkedRow) (i : ℕ) → Fit xs → RowFits (rowAt byteRow xs i)
 row-at-fits [] i f = record { client = omega arith; request = omega arith; mark = omega arith; total = omega arith }
 row-at-fits (x ∷ xs) zero f = f .0
 row-at-fits (x ∷ xs) (suc i) f = row-at-fits xs i (f .1)
 
-stored-fits : (at to : ℕ) (r : Row) (xs : List Row) → RowFits r → Fit xs → Fit (stored byteRow at to r xs)
+stored-fits : (at to : ℕ) (r : MarkedRow) (xs : List MarkedRow) → RowFits r → Fit xs → Fit (stored byteRow at to r xs)
 unfolding stored
 stored-fits at to r xs g f =
     let mid : Fit (take (to - at) (drop at xs)) = all-take RowFits (to - at) _ (all-drop RowFits at xs f) in
@@ -75,7 +75,7 @@ stored-fits at to r xs g f =
     (all-append RowFits (take at xs) (r ∷ take (to - at) (drop at xs)) (all-take RowFits at xs f) (g, mid))
     (all-drop RowFits (to + 1) xs f)
 
-put-fits : (xs : List Row) (r : Row) → RowFits r → Fit xs → Fit (putRow byteRow xs r)
+put-fits : (xs : List MarkedRow) (r : MarkedRow) → RowFits r → Fit xs → Fit (putRow byteRow xs r)
 unfolding putRow inserted
 put-fits xs r g f =
     split Fit _ _ _ (λ _. stored-fits _ _ r xs g f) λ _.
@@ -83,31 +83,31 @@ put-fits xs r g f =
 
 -- ---- all that a call changes
 
-appended-fits : (xs : List Row) (es : List Entry) → All EntryFits es → Fit xs → Fit (appended byteRow xs es)
+appended-fits : (xs : List MarkedRow) (es : List Entry) → All EntryFits es → Fit xs → Fit (appended byteRow xs es)
 unfolding appended
 appended-fits xs [] g f = f
 appended-fits xs (e ∷ es) g f = appended-fits _ es (g .1) (put-fits xs (freshOf e) (fresh-fits e (g .0)) f)
 
-replied-fits : (xs : List Row) (e : Entry) (o : Outcome) → EntryFits e → ResultFits o → Fit xs → Fit (replied byteRow xs e o)
+replied-fits : (xs : List MarkedRow) (e : Entry) (o : Outcome) → EntryFits e → ResultFits o → Fit xs → Fit (replied byteRow xs e o)
 unfolding replied
 replied-fits xs e o g k f =
     split Fit _ _ _ (λ _. stored-fits _ _ _ xs (row-of e (o .code) (o .total) g (k .code) (k .total)) f) (λ _. f)
 
-committed-fits : (xs : List Row) (es : List Entry) (os : List Outcome) → All EntryFits es → All ResultFits os → Fit xs
-    → Fit (committed byteRow xs es os)
-unfolding committed
+committed-fits : (xs : List MarkedRow) (es : List Entry) (os : List Outcome) → All EntryFits es → All ResultFits os → Fit xs
+    → Fit (rowsCommitted byteRow xs es os)
+unfolding rowsCommitted
 committed-fits xs [] os g k f = f
 committed-fits xs (e ∷ es) [] g k f = f
 committed-fits xs (e ∷ es) (o ∷ os) g k f = committed-fits _ es os (g .1) (k .1) (replied-fits xs e o (g .0) (k .0) f)
 
-kept-fits : (old : List Row) (left : ℕ) (e : Entry) → EntryFits e → Fit old → RowFits (keptRow byteRow old left e)
+kept-fits : (old : List MarkedRow) (left : ℕ) (e : Entry) → EntryFits e → Fit old → RowFits (keptRow byteRow old left e)
 unfolding keptRow
 kept-fits old left e g f =
     let x = row-at-fits old (spotOf byteRow old (e .client)) f in
     split RowFits _ _ _ (λ _. fresh-fits e g) λ _.
     split RowFits _ _ _ (λ _. row-of e _ _ g (x .mark) (x .total)) (λ _. fresh-fits e g)
 
-rebuilt-fits : (old : List Row) (left : ℕ) (new : List Row) (es : List Entry) → All EntryFits es → Fit old → Fit new
+rebuilt-fits : (old : List MarkedRow) (left : ℕ) (new : List MarkedRow) (es : List Entry) → All EntryFits es → Fit old → Fit new
     → Fit (rebuilt byteRow old left new es)
 unfolding rebuilt
 rebuilt-fits old left new [] g f h = h
@@ -118,13 +118,13 @@ blank-fits : (n : ℕ) → Fit (replicate n noRow)
 blank-fits zero = tt
 blank-fits (suc n) = (row-at-fits [] 0 tt, blank-fits n)
 
-renewed-fits : (k : Change) (xs : List Row) (log : List Entry) → All EntryFits log → Fit xs → Fit (renewed byteRow k xs log)
+renewed-fits : (k : Change) (xs : List MarkedRow) (log : List Entry) → All EntryFits log → Fit xs → Fit (renewed byteRow k xs log)
 unfolding renewed
 renewed-fits k xs log g f =
     split Fit _ _ _ (λ _. rebuilt-fits xs (k .commit .0) _ log g f (blank-fits (length xs)))
     (λ _. appended-fits xs (drop (k .op .0) log) (all-drop EntryFits (k .op .0) log g) f)
 
-pub followed-fits : (k : Change) (xs : List Row) (log : List Entry) (os : List Outcome) → All EntryFits log → All ResultFits os → All RowFits xs
+pub followed-fits : (k : Change) (xs : List MarkedRow) (log : List Entry) (os : List Outcome) → All EntryFits log → All ResultFits os → All RowFits xs
     → All RowFits (followed byteRow k xs log os)
 unfolding followed
 followed-fits k xs log os g h f =
@@ -132,10 +132,10 @@ followed-fits k xs log os g h f =
 
 -- ---- rows in bytes, read again
 
-pub read-back : (xs : List Row) (rest : List ℕ) → All RowFits xs → rowsOf (length xs) (packed encodeRow xs ++ rest) ≡ xs
+pub read-back : (xs : List MarkedRow) (rest : List ℕ) → All RowFits xs → rowsOf (length xs) (packed encodeRow xs ++ rest) ≡ xs
 unfolding packed cells
 read-back [] rest f = refl
 read-back (x ∷ xs) rest f =
     rw append-assoc
     (cells-one 25 rowOf encodeRow RowFits row-codec (length xs) x (packed encodeRow xs ++ rest) (f .0)
-    ∙ ap (λ (l : List Row). x ∷ l) (read-back xs rest (f .1)))
+    ∙ ap (λ (l : List MarkedRow). x ∷ l) (read-back xs rest (f .1)))

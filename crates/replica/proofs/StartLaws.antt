@@ -33,7 +33,7 @@ use Rattle.model.specs.Steps.{newAt, create, recover}
 use Rattle.steps.proofs.SendLift.{bare-bytes, sends-only}
 use Rattle.safety.specs.Demand.Created.{new, back}
 use Rattle.outside.specs.Sound.{lengthsOk, creatable, noReplica}
-use Rattle.outside.specs.Creation.{Begun, begun, createStep, recoverStep}
+use Rattle.outside.specs.Creation.{Started, started, createStep, recoverStep}
 use Rattle.outside.proofs.SoundLaws.{Long, long-is}
 use Rattle.replica.specs.Calls.{cleared, createCall, recoverCall}
 use Rattle.replica.specs.Lent.{Lent, Called, called, lengthsOf}
@@ -79,16 +79,16 @@ module _ (u : Setup) (x : Lent) where
   create-is ok = if-true _ _ _ ok
 
   -- what is left, by the runs that a creation writes
-  abbrev MeansBy : Begun → Answer → Type 0
+  abbrev MeansBy : Started → Answer → Type 0
   MeansBy d a = Means u noReplica x (cleared u x d) a
 
-  abbrev KeptBy : Begun → Type 0
+  abbrev KeptBy : Started → Type 0
   KeptBy d = cleared u x d .answer .code ≡ 0 → Kept (cleared u x d .answer .state) (cleared u x d .lent) []
 
   abbrev KeptIn : Called → Type 0
   KeptIn d = d .answer .code ≡ 0 → Kept (d .answer .state) (d .lent) []
 
-  refused-kept : (k : ℕ) → (k ≡ 0 → ⊥) → KeptBy (begun (refusal k noReplica) (x .core .runs .money .totals) (x .core .acks) (x .core .out))
+  refused-kept : (k : ℕ) → (k ≡ 0 → ⊥) → KeptBy (started (refusal k noReplica) (x .core .runs .money .totals) (x .core .acks) (x .core .out))
   refused-kept k n = subst KeptIn (sym (cleared-refused u x k noReplica n)) (λ e. absurd (n e))
 
   pub create-means : lengthsOk u (lengthsOf x) ≡ true → Means u noReplica x (createCall u x) (create u)

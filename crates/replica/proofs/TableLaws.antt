@@ -19,12 +19,12 @@ use Rattle.numbers.proofs.CellLaws.{cells-length}
 use Rattle.entries.specs.Entries.{entryOf, entries}
 use Rattle.entries.specs.declared.Entry.{Entry}
 use Rattle.fees.specs.Results.{resultOf, outcomes}
-use Rattle.rows.specs.Rows.{appended, committed, renewed, followed}
-use Rattle.rows.specs.declared.Change.{Change}
-use Rattle.table.specs.Layout.{byteRow, encodeRow, rowsOf}
-use Rattle.table.specs.Steps.{Left, oldAfter}
-use Rattle.table.specs.declared.Row.{Row}
-use Rattle.table.proofs.LayoutLaws.{left-same}
+use Rattle.client_table.specs.Rows.{appended, rowsCommitted, renewed, followed}
+use Rattle.client_table.specs.declared.Change.{Change}
+use Rattle.client_table_bytes.specs.Layout.{byteRow, encodeRow, rowsOf}
+use Rattle.client_table_bytes.specs.Steps.{RowsLeft, oldAfter}
+use Rattle.client_table_bytes.specs.declared.MarkedRow.{MarkedRow}
+use Rattle.client_table_bytes.proofs.LayoutLaws.{left-same}
 use Rattle.state.specs.Answers.{refusal}
 use Rattle.state.specs.Lengths.{tableLength}
 use Rattle.state.specs.declared.Replica.{Replica}
@@ -38,8 +38,8 @@ use Rattle.replica.proofs.RowLaws.{rows-fit, results-fit, followed-fits
 
 -- ---- nothing changed
 
-none-replied : (xs : List Row) (es : List Entry) → committed byteRow xs es [] ≡ xs
-unfolding committed
+none-replied : (xs : List MarkedRow) (es : List Entry) → rowsCommitted byteRow xs es [] ≡ xs
+unfolding rowsCommitted
 none-replied xs [] = refl
 none-replied xs (e ∷ es) = refl
 
@@ -47,7 +47,7 @@ module _ (s : Replica) (i : ℕ) where
   abbrev still : Change
   still = changeBy s (refusal i s)
 
-  same-rows : (xs : List Row) (log results : List ℕ)
+  same-rows : (xs : List MarkedRow) (log results : List ℕ)
       → followed byteRow still xs (entries (s .op .0) log) (outcomes (s .commit .0) results) ≡ xs
   unfolding followed renewed appended if_then_else_
   same-rows xs log results =
@@ -61,7 +61,7 @@ module _ (s : Replica) (i : ℕ) where
     same-table : (log results : List ℕ) → tableAfter (s .setup .room) still table log results ≡ table
     unfolding tableAfter
     same-table log results =
-        ap (λ (xs : List Row). packed encodeRow xs ++ drop (25 * s .setup .room) table) (same-rows (rowsOf (s .setup .room) table) log results)
+        ap (λ (xs : List MarkedRow). packed encodeRow xs ++ drop (25 * s .setup .room) table) (same-rows (rowsOf (s .setup .room) table) log results)
         ∙ sym (left-same (s .setup .room) table b (omega (arith, l)) .bytes)
 
     pub refused-follows : (m : Memory)
@@ -91,7 +91,7 @@ done-follows s table old d e =
 module _ (n : ℕ) (k : Change) (table : List ℕ) where
   pub table-after : (log results : List ℕ) → Bytes table → Bytes log → Bytes results
       → length (followed byteRow k (rowsOf n table) (entries (k .to .0) log) (outcomes (k .done .0) results)) ≡ n
-      → Left n table (tableAfter n k table log results)
+      → RowsLeft n table (tableAfter n k table log results)
       (followed byteRow k (rowsOf n table) (entries (k .to .0) log) (outcomes (k .done .0) results))
   unfolding tableAfter
   table-after log results b l r e =

@@ -18,21 +18,21 @@ use Rattle.fees.specs.Results.{outcomes}
 use Rattle.frames.specs.declared.Message.{Message}
 use Rattle.frames.specs.declared.Checked.{Checked}
 use Rattle.frames.specs.declared.Checked.the-variants.{Passed, Refused}
-use Rattle.rows.specs.Rows.{followed}
-use Rattle.rows.specs.declared.Latest.{Latest}
-use Rattle.rows.specs.declared.Change.{Change}
-use Rattle.table.specs.Layout.{byteRow, encodeRow, rowsOf}
-use Rattle.table.specs.Steps.{foundIn, latestOf, oldAfter}
+use Rattle.client_table.specs.Rows.{followed}
+use Rattle.client_table.specs.declared.Latest.{Latest}
+use Rattle.client_table.specs.declared.Change.{Change}
+use Rattle.client_table_bytes.specs.Layout.{byteRow, encodeRow, rowsOf}
+use Rattle.client_table_bytes.specs.Steps.{foundIn, latestOf, oldAfter}
 use Rattle.state.specs.Answers.{refusal}
 use Rattle.state.specs.Lengths.{logLength, resultsLength, tableLength}
-use Rattle.state.specs.declared.Answer.{Answer}
+use Rattle.state.specs.declared.Returned.{Returned}
 use Rattle.state.specs.declared.Replica.{Replica}
 use Rattle.book.specs.Memory.{Memory}
 use Rattle.do_view_change.specs.Record.{Recorded}
 use Rattle.handlers.specs.Handlers.{messageStep, idleStep}
 use Rattle.outside.specs.Sound.{sound}
 use Rattle.outside.specs.Calls.{checkedOf, carriedBy, toldOf, changeBy}
-use Rattle.outside.specs.Creation.{Begun, memoryAfter, createStep, recoverStep}
+use Rattle.outside.specs.Creation.{Started, startedMemory, createStep, recoverStep}
 use Rattle.replica.specs.declared.call.Known.{Known}
 use Rattle.replica.specs.Lent.{Lent, Called, called, lengthsOf}
 
@@ -53,21 +53,21 @@ tableAfter n k table log results =
 
 -- answer and table runs after a call
 pub record Tabled : Type 0 where
-  pub answer : Answer
+  pub answer : Returned
   pub table : List ℕ
   pub old : List ℕ
 
-abbrev pub tabled : Answer → (table old : List ℕ) → Tabled
+abbrev pub tabled : Returned → (table old : List ℕ) → Tabled
 tabled a table old = record { answer = a; table = table; old = old }
 
 -- the table follows what the core did, s being the state before it; a refused call leaves it
-unfoldable pub followedBy : Replica → Answer → (log results table old : List ℕ) → Tabled
+unfoldable pub followedBy : Replica → Returned → (log results table old : List ℕ) → Tabled
 followedBy s a log results table old =
     if not (eqb (a .code) 0) then tabled a table old else
     tabled a (tableAfter (s .setup .room) (changeBy s a) table log results) (oldAfter (s .setup .room) (changeBy s a) table old)
 
 -- what its code needs: the state and the runs that the core left are sound
-pub record Following (s : Replica) (a : Answer) (log results table old : ℕ) : Type 0 where
+pub record Following (s : Replica) (a : Returned) (log results table old : ℕ) : Type 0 where
   pub sized : setupOk (s .setup) ≡ true
   pub op-le : a .state .op .0 ≤ s .setup .room
   pub commit-le : a .state .commit .0 ≤ a .state .op .0
@@ -101,11 +101,11 @@ idleCall s x =
     following s (x .table) (x .old) (idleStep s (x .core))
 
 -- after a creation the table is zeroed; a refused one leaves it
-unfoldable pub cleared : Setup → Lent → Begun → Called
+unfoldable pub cleared : Setup → Lent → Started → Called
 cleared u x d =
     called (d .answer)
     (record {
-      core = memoryAfter (x .core) d;
+      core = startedMemory (x .core) d;
       table = if eqb (d .answer .code) 0 then over (replicate (tableLength u) 0) (x .table) else x .table;
       old = x .old;
     })

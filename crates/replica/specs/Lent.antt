@@ -2,7 +2,7 @@
 use mathlib.Core.List.{List}
 use Prim.Native.Nat.{ℕ}
 use lib.ListN.{length}
-use Rattle.state.specs.declared.Answer.{Answer}
+use Rattle.state.specs.declared.Returned.{Returned}
 use Rattle.book.specs.Memory.{Memory, memory}
 use Rattle.outside.specs.Sound.{lengthsWith}
 use Rattle.outside.specs.declared.Lengths.{Lengths}
@@ -19,10 +19,10 @@ lent log results totals acks stored table old out reps =
 
 -- what a call leaves
 pub record Called : Type 0 where
-  pub answer : Answer
+  pub answer : Returned
   pub lent : Lent
 
-abbrev pub called : Answer → Lent → Called
+abbrev pub called : Returned → Lent → Called
 called a x = record { answer = a; lent = x }
 
 -- the lengths of the lent state buffers

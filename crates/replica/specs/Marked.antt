@@ -12,17 +12,17 @@ use Rattle.replica.specs.Lent.{Lent, Called, lengthsOf}
 use Rattle.replica.specs.Meaning.{Owned}
 use Rattle.replica.specs.Promise.{MessagePromise, IdlePromise, CreatePromise}
 use Rattle.replica.specs.Demands.{HandedBack}
-use Rattle.model.specs.Examples.{Event, Seen, Example}
+use Rattle.model.specs.Examples.{Event, SeenCall, Example}
 use Rattle.model.specs.Examples.Event.{idle, idleIn, gets}
 
 -- what a caller hears of a call
-pub record Heard : Type 0 where
+pub record HeardBack : Type 0 where
   pub number : ℕ
   pub messages : List ℕ
   pub replies : List ℕ
 
 -- the number, and the bytes that are counted in the two areas
-unfoldable pub heard : Called → Heard
+unfoldable pub heard : Called → HeardBack
 heard d =
     record {
       number = d .answer .code;
@@ -31,11 +31,11 @@ heard d =
     }
 
 -- of an example
-unfoldable pub heardIn : Seen → Heard
+unfoldable pub heardIn : SeenCall → HeardBack
 heardIn w = record { number = w .number; messages = w .messages; replies = w .replies }
 
 -- of each
-unfoldable pub each : {A : Type 0} → (A → Heard) → List A → List Heard
+unfoldable pub each : {A : Type 0} → (A → HeardBack) → List A → List HeardBack
 each f [] = []
 each f (a ∷ rest) = f a ∷ each f rest
 

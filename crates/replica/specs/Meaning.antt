@@ -8,7 +8,7 @@ use Rattle.numbers.specs.Numbers.{Bytes, over}
 use Rattle.entries.specs.Entries.{entriesOk}
 use Rattle.entries.specs.declared.Entry.{Entry}
 use Rattle.config.specs.declared.Setup.{Setup}
-use Rattle.table.specs.Layout.{byteRow, rowsOf}
+use Rattle.client_table_bytes.specs.Layout.{byteRow, rowsOf}
 use Rattle.state.specs.Statuses.{noReport}
 use Rattle.state.specs.Answers.{refusal}
 use Rattle.state.specs.Lengths.{storedPlace}
@@ -16,14 +16,14 @@ use Rattle.state.specs.declared.Replica.{Replica}
 use Rattle.model.specs.State.{State, Sent, Reply, Answer, after}
 use Rattle.model.specs.State.Answer.{refused, done}
 use Rattle.model.specs.Sending.{messagesOut, repliesOut}
-use Rattle.layout.specs.Layout.{Runs, tableOf, Ordered, modelOf}
+use Rattle.layout.specs.Layout.{LentRuns, tableOf, Ordered, modelOf}
 use Rattle.model.specs.Steps.{onFrame, onTick}
 use Rattle.safety.specs.Demand.{Call, run, Created}
 use Rattle.outside.specs.Sound.{sound}
 use Rattle.replica.specs.Lent.{Lent, Called, called, lengthsOf}
 
 -- the runs beside the client table
-abbrev pub runsOf : Lent → Runs
+abbrev pub runsOf : Lent → LentRuns
 runsOf x =
     record {
       log = x .core .runs .log;

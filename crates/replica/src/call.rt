@@ -5,8 +5,8 @@ ghost use lib.ListN.{length};
 ghost use Rattle.frames.specs.Refusals.{checkFrame};
 ghost use Rattle.frames.specs.declared.Checked.the-variants.{Passed};
 ghost use Prim.Native.Nat.{_*_, _≤_};
-ghost use Rattle.table.specs.Layout.{rowsOf};
-ghost use Rattle.table.specs.Steps.{foundIn, latestOf, AppendsFor};
+ghost use Rattle.client_table_bytes.specs.Layout.{rowsOf};
+ghost use Rattle.client_table_bytes.specs.Steps.{foundIn, latestOf, AppendsFor};
 ghost use Rattle.state.specs.Lengths.{tableLength};
 ghost use Rattle.do_view_change.specs.Record.{Gathering};
 ghost use Rattle.book.specs.Memory.{memory};
@@ -14,14 +14,14 @@ ghost use Rattle.outside.specs.Calls.{nobody, changeBy};
 ghost use Rattle.replica.specs.Calls.{KnownFor, Following, tabled, followedBy, checkedCall};
 ghost use Rattle.replica.specs.Lent.{lent, called};
 ghost use Rattle.replica.specs.Promise.{MessagePromise, IdlePromise};
+use client_table::Latest;
+use client_table_bytes::Found;
+use client_table_bytes::MarkedRow;
 use frames::Checked;
 use frames::Message;
 use outside::Lengths;
-use rows::Latest;
-use state::Answer;
 use state::Replica;
-use table::Found;
-use table::Row;
+use state::Returned;
 
 // What is known of the client whose entry a message carries: what was found of him, and that as the core is told it.
 pub struct Known {
@@ -34,7 +34,7 @@ pub struct Known {
 fn nothing() -> Known
     ensures { λ r. ⌜ (r .carries ≡ false) × (r .latest ≡ nobody) ⌝ }
 {
-    let row = Row {
+    let row = MarkedRow {
         client: 0,
         request: 0,
         mark: 0,
@@ -56,11 +56,11 @@ fn known_of(client: u64, n: u32, table: &[u8]) -> Known
     requires { ⌜ 25 * n ≤ length (now table) ⌝ }
     ensures { λ r. ⌜ (r .carries ≡ true) × ((r .found ≡ foundIn (rowsOf n (now (table .entry))) client) × (r .latest ≡ latestOf (foundIn (rowsOf n (now (table .entry))) client))) ⌝ }
 {
-    let f = table::find(table, n as usize, client);
+    let f = client_table_bytes::find(table, n as usize, client);
     Known {
         carries: true,
         found: f,
-        latest: table::latest(f),
+        latest: client_table_bytes::latest(f),
     }
 }
 
@@ -78,12 +78,12 @@ fn known_for(m: Message, n: u32, table: &[u8]) -> Known
 // The table follows what the core did, `s` being the state before it; a refused call leaves it.
 fn follow(
     s: Replica,
-    a: Answer,
+    a: Returned,
     log: &[u8],
     results: &[u8],
     table: &mut [u8],
     old: &mut [u8],
-) -> Answer
+) -> Returned
     requires { ⌜ Following s a (length (now log)) (length (now results)) (length (now table)) (length (now old)) ⌝ }
     ensures { λ r. ⌜ tabled r (now (table .exit)) (now (old .exit)) ≡ followedBy s a (now (log .entry)) (now (results .entry)) (now (table .entry)) (now (old .entry)) ⌝ }
 {
@@ -91,20 +91,20 @@ fn follow(
         return a;
     }
     let k = outside::call::change_by(s, a);
-    table::follow(table, s.setup.room as usize, old, log, results, k);
+    client_table_bytes::follow(table, s.setup.room as usize, old, log, results, k);
     a
 }
 
 // The same after a message that carries an entry; f is what was found of its client. A log is never installed then.
 fn follow_found(
     s: Replica,
-    a: Answer,
+    a: Returned,
     f: Found,
     log: &[u8],
     results: &[u8],
     table: &mut [u8],
     old: &[u8],
-) -> Answer
+) -> Returned
     requires { ⌜ Following s a (length (now log)) (length (now results)) (length (now table)) (length (now old)) × (a .code ≡ 0 → AppendsFor (s .setup .room) (changeBy s a) f (now table) (now log)) ⌝ }
     ensures { λ r. ⌜ tabled r (now (table .exit)) (now (old .entry)) ≡ followedBy s a (now (log .entry)) (now (results .entry)) (now (table .entry)) (now (old .entry)) ⌝ }
 {
@@ -112,7 +112,7 @@ fn follow_found(
         return a;
     }
     let k = outside::call::change_by(s, a);
-    table::follow_found(table, s.setup.room as usize, f, log, results, k);
+    client_table_bytes::follow_found(table, s.setup.room as usize, f, log, results, k);
     a
 }
 
@@ -130,7 +130,7 @@ fn take(
     old: &mut [u8],
     out: &mut [u8],
     reps: &mut [u8],
-) -> Answer
+) -> Returned
     requires { ⌜ Gathering s (memory (now log) (now results) (now totals) (now acks) (now stored) (now out) (now reps)) × ((checkFrame (s .setup) (now frame) ≡ Passed m) × ((length (now table) ≡ tableLength (s .setup)) × (length (now old) ≡ tableLength (s .setup)))) ⌝ }
     ensures { λ a. ⌜ called a (lent (now (log .exit)) (now (results .exit)) (now (totals .exit)) (now (acks .exit)) (now (stored .exit)) (now (table .exit)) (now (old .exit)) (now (out .exit)) (now (reps .exit))) ≡ checkedCall (Passed m) s (now (frame .entry)) (lent (now (log .entry)) (now (results .entry)) (now (totals .entry)) (now (acks .entry)) (now (stored .entry)) (now (table .entry)) (now (old .entry)) (now (out .entry)) (now (reps .entry))) ⌝ }
 {
@@ -168,7 +168,7 @@ pub fn on_message(
     old: &mut [u8],
     out: &mut [u8],
     reps: &mut [u8],
-) -> Answer
+) -> Returned
     ensures { λ a. ⌜ MessagePromise s (now (frame .entry)) (lent (now (log .entry)) (now (results .entry)) (now (totals .entry)) (now (acks .entry)) (now (stored .entry)) (now (table .entry)) (now (old .entry)) (now (out .entry)) (now (reps .entry))) (called a (lent (now (log .exit)) (now (results .exit)) (now (totals .exit)) (now (acks .exit)) (now (stored .exit)) (now (table .exit)) (now (old .exit)) (now (out .exit)) (now (reps .exit)))) ⌝ }
 {
     let l = Lengths {
@@ -211,7 +211,7 @@ pub fn on_idle(
     old: &mut [u8],
     out: &mut [u8],
     reps: &mut [u8],
-) -> Answer
+) -> Returned
     ensures { λ a. ⌜ IdlePromise s (lent (now (log .entry)) (now (results .entry)) (now (totals .entry)) (now (acks .entry)) (now (stored .entry)) (now (table .entry)) (now (old .entry)) (now (out .entry)) (now (reps .entry))) (called a (lent (now (log .exit)) (now (results .exit)) (now (totals .exit)) (now (acks .exit)) (now (stored .exit)) (now (table .exit)) (now (old .exit)) (now (out .exit)) (now (reps .exit)))) ⌝ }
 {
     let l = Lengths {

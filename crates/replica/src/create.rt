@@ -5,7 +5,7 @@ ghost use Rattle.replica.specs.Promise.{CreatePromise, RecoverPromise};
 use config::Setup;
 use numbers::View;
 use outside::Lengths;
-use state::Answer;
+use state::Returned;
 
 // new: in Normal, in view 0, with an empty log. Refusal 1.
 pub fn create(
@@ -17,7 +17,7 @@ pub fn create(
     stored: &[u8],
     table: &mut [u8],
     old: &[u8],
-) -> Answer
+) -> Returned
     ensures { λ a. ⌜ CreatePromise u (lent (now (log .entry)) (now (results .entry)) (now (totals .entry)) (now (acks .entry)) (now (stored .entry)) (now (table .entry)) (now (old .entry)) [] []) (called a (lent (now (log .entry)) (now (results .entry)) (now (totals .exit)) (now (acks .exit)) (now (stored .entry)) (now (table .exit)) (now (old .entry)) [] [])) ⌝ }
 {
     let l = Lengths {
@@ -50,7 +50,7 @@ pub fn recover(
     table: &mut [u8],
     old: &[u8],
     out: &mut [u8],
-) -> Answer
+) -> Returned
     ensures { λ a. ⌜ RecoverPromise u v nonce (lent (now (log .entry)) (now (results .entry)) (now (totals .entry)) (now (acks .entry)) (now (stored .entry)) (now (table .entry)) (now (old .entry)) (now (out .entry)) []) (called a (lent (now (log .entry)) (now (results .entry)) (now (totals .exit)) (now (acks .exit)) (now (stored .entry)) (now (table .exit)) (now (old .entry)) (now (out .exit)) [])) ⌝ }
 {
     let l = Lengths {

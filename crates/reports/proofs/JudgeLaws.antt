@@ -30,8 +30,8 @@ use Rattle.state.specs.Lengths.{storedPlace}
 use Rattle.state.specs.declared.Report.{Report}
 use Rattle.state.specs.declared.Reports.{Reports}
 use Rattle.state.proofs.LengthLaws.{stored-place-next}
-use Rattle.reports.specs.Rows.{filledIn, greatestIn, latestIn, chosenFrom}
-use Rattle.reports.specs.Judge.{logFrom, chosenLog, weighed, judged, primaryRow, answered, responded, Lies, Fits}
+use Rattle.reports.specs.Rows.{filledIn, greatestIn, latestViewIn, chosenFrom}
+use Rattle.reports.specs.Judge.{logFrom, chosenLog, weighed, judged, primaryRow, answeredByPrimary, responded, Lies, Fits}
 use Rattle.reports.specs.declared.Best.{Best}
 use Rattle.reports.specs.declared.Judged.{Judged}
 use Rattle.reports.specs.declared.Judged.the-variants.{Wait, Refuse, Begin}
@@ -192,22 +192,22 @@ module _ (b : Best) (v id room c : ℕ) (ours stored fresh : List ℕ) where
   abbrev rest : Judged
   rest = weighed b (b .report .commit) id room c ours stored fresh
 
-  pub absent : not (b .report .there) ≡ true → Wait ≡ answered b v id room c ours stored fresh
-  unfolding answered
+  pub absent : not (b .report .there) ≡ true → Wait ≡ answeredByPrimary b v id room c ours stored fresh
+  unfolding answeredByPrimary
   absent e = sym (if-true _ _ _ e)
 
-  pub silent : not (b .report .there) ≡ false → not (b .report .full) ≡ true → Wait ≡ answered b v id room c ours stored fresh
-  unfolding answered
+  pub silent : not (b .report .there) ≡ false → not (b .report .full) ≡ true → Wait ≡ answeredByPrimary b v id room c ours stored fresh
+  unfolding answeredByPrimary
   silent e f = sym (if-false _ _ _ e ∙ if-true _ _ _ f)
 
   pub older : not (b .report .there) ≡ false → not (b .report .full) ≡ false → (b .report .view .0 ≡ v → ⊥)
-      → Wait ≡ answered b v id room c ours stored fresh
-  unfolding answered
+      → Wait ≡ answeredByPrimary b v id room c ours stored fresh
+  unfolding answeredByPrimary
   older e f h = sym (if-false _ _ _ e ∙ if-false _ _ _ f ∙ if-false _ _ _ (ne-eqb (b .report .view .0) v h))
 
   pub tells : (r : Judged) → not (b .report .there) ≡ false → not (b .report .full) ≡ false → b .report .view .0 ≡ v → r ≡ rest
-      → r ≡ answered b v id room c ours stored fresh
-  unfolding answered
+      → r ≡ answeredByPrimary b v id room c ours stored fresh
+  unfolding answeredByPrimary
   tells r e f h p = p ∙ sym (if-false _ _ _ e ∙ if-false _ _ _ f ∙ if-true _ _ _ (eq-eqb (b .report .view .0) v h))
 
 -- ---- `responded`
@@ -218,12 +218,12 @@ module _ (t : Reports) (n id room view c : ℕ) (ours stored fresh : List ℕ) (
   unfolding responded
   too-few h = sym (if-true _ _ _ (rw (← ek, ← eq) (lt-ltb k q h)))
 
-  pub behind : (v : ℕ) → q ≤ k → v ≡ latestIn (take n (t .rows)) → v < view → Wait ≡ responded t n id room view c ours stored fresh
+  pub behind : (v : ℕ) → q ≤ k → v ≡ latestViewIn (take n (t .rows)) → v < view → Wait ≡ responded t n id room view c ours stored fresh
   unfolding responded
   behind v h e l = sym (if-false _ _ _ (rw (← ek, ← eq) (le-ltb k q h)) ∙ if-true _ _ _ (rw (← e) (lt-ltb v view l)))
 
-  pub asks-primary : (v : ℕ) (r : Judged) → q ≤ k → v ≡ latestIn (take n (t .rows)) → view ≤ v
-      → r ≡ answered (primaryRow t n v) v id room c ours stored fresh → r ≡ responded t n id room view c ours stored fresh
+  pub asks-primary : (v : ℕ) (r : Judged) → q ≤ k → v ≡ latestViewIn (take n (t .rows)) → view ≤ v
+      → r ≡ answeredByPrimary (primaryRow t n v) v id room c ours stored fresh → r ≡ responded t n id room view c ours stored fresh
   unfolding responded
   asks-primary v r h e l p =
       p ∙ sym (if-false _ _ _ (rw (← ek, ← eq) (le-ltb k q h)) ∙ if-false _ _ _ (rw (← e) (le-ltb v view l)) ∙ rw (← e))
@@ -232,10 +232,10 @@ module _ (t : Reports) (n id room view c : ℕ) (ours stored fresh : List ℕ) (
 module _ (t : Reports) (n id room view c : ℕ) (ours stored fresh : List ℕ) (b : Best) (g : Op)
     (begun : responded t n id room view c ours stored fresh ≡ Begin b g) where
   abbrev p : Best
-  p = primaryRow t n (latestIn (take n (t .rows)))
+  p = primaryRow t n (latestViewIn (take n (t .rows)))
 
   pub response-begins : (p .report .there ≡ true) × Begins p (p .report .commit) id room c ours stored fresh b g
-  unfolding responded answered
+  unfolding responded answeredByPrimary
   response-begins =
       split P _ _ _ (λ _ e. absurd (wait e)) (λ _.
       split P _ _ _ (λ _ e. absurd (wait e)) (λ _.
@@ -254,7 +254,7 @@ module _ (t : Reports) (n id room view c : ℕ) (ours stored fresh : List ℕ) (
   pub response-lies : Fits t n id room stored fresh → Lies b id room stored fresh
   response-lies f =
       subst (λ (x : Best). Lies x id room stored fresh) (sym (response-begins .1 .same-report))
-      (primary-lies t n id room stored fresh f (latestIn (take n (t .rows))) (response-begins .0))
+      (primary-lies t n id room stored fresh f (latestViewIn (take n (t .rows))) (response-begins .0))
 
   pub response-within : (c ≤ b .report .op .0) × (g .0 ≤ b .report .op .0)
   response-within = begins-within p (p .report .commit) id room c ours stored fresh b g (response-begins .1)

@@ -25,7 +25,7 @@ use Rattle.config.specs.declared.Setup.{Setup}
 use Rattle.state.specs.Statuses.{noReport}
 use Rattle.state.specs.Lengths.{storedPlace}
 use Rattle.state.specs.declared.Report.{Report}
-use Rattle.reports.specs.Rows.{countOne, greaterCommit, laterView, betterOf, filledIn, greatestIn, latestIn, chosenFrom}
+use Rattle.reports.specs.Rows.{countOne, greaterCommit, laterView, betterOf, filledIn, greatestIn, latestViewIn, chosenFrom}
 use Rattle.reports.specs.Judge.{logFrom, chosenLog, Lies}
 use Rattle.reports.specs.declared.Best.{Best}
 use Rattle.reports.proofs.RowLaws.{chosen-there}
@@ -114,10 +114,10 @@ greater-max c k =
 
 -- ---- reports
 
-module _ (g : ℕ → Report → M.Report) (view : (i : ℕ) (d : Report) → g i d .lastNormal ≡ d .view .0)
+module _ (g : ℕ → Report → M.Reported) (view : (i : ℕ) (d : Report) → g i d .lastNormal ≡ d .view .0)
     (long : (i : ℕ) (d : Report) → length (g i d .held .log) ≡ d .op .0)
     (commit : (i : ℕ) (d : Report) → g i d .held .commit ≡ d .commit .0) where
-  greatest-turn : (b : Bool) (x : M.Report) (xs : List (Option M.Report)) (c k : ℕ) → x .held .commit ≡ c → greatestCommit xs ≡ k
+  greatest-turn : (b : Bool) (x : M.Reported) (xs : List (Option M.Reported)) (c k : ℕ) → x .held .commit ≡ c → greatestCommit xs ≡ k
       → greatestCommit ((if b then some x else none) ∷ xs) ≡ (if not b then k else if ltb k c then c else k)
   unfolding greatestCommit if_then_else_
   greatest-turn true x xs c k p e = rw (p, e) (greater-max c k)
@@ -130,15 +130,15 @@ module _ (g : ℕ → Report → M.Report) (view : (i : ℕ) (d : Report) → g 
       greatest-turn (d .there) (g i d) (placed (ifThere g) (suc i) ds) (d .commit .0) (greatestIn ds) (commit i d) (greatest-is (suc i) ds)
 
   -- the report that a choice names
-  abbrev pub bestOf : Best → Option M.Report
+  abbrev pub bestOf : Best → Option M.Reported
   bestOf b = ifThere g (b .id) (b .report)
 
   -- the model's test of two reports, by the numbers of their rows
   module _ (i j : ℕ) (d e : Report) where
-    abbrev a : M.Report
+    abbrev a : M.Reported
     a = g i d
 
-    abbrev r : M.Report
+    abbrev r : M.Reported
     r = g j e
 
     later : e .view .0 < d .view .0 → better (g i d) (some (g j e)) ≡ g i d
@@ -165,27 +165,27 @@ module _ (g : ℕ → Report → M.Report) (view : (i : ℕ) (d : Report) → g 
         if-false _ _ _ (le-ltb (r .lastNormal) (a .lastNormal) (omega (arith, view i d, view j e)))
         ∙ if-false _ _ _ (and-false _ _ (le-ltb (length (r .held .log)) (length (a .held .log)) (omega (arith, long i d, long j e))))
 
-  module _ (d : Report) (i : ℕ) (b : Best) (xs : List (Option M.Report)) (best : chosen xs ≡ bestOf b) where
+  module _ (d : Report) (i : ℕ) (b : Best) (xs : List (Option M.Reported)) (best : chosen xs ≡ bestOf b) where
     abbrev Goal : Best → Type 0
     Goal x = chosen (ifThere g i d ∷ xs) ≡ bestOf x
 
     passed-over : d .there ≡ false → Goal b
     unfolding chosen
-    passed-over e = ap (λ (o : Option M.Report). chosen (o ∷ xs)) (if-false _ _ _ e) ∙ best
+    passed-over e = ap (λ (o : Option M.Reported). chosen (o ∷ xs)) (if-false _ _ _ e) ∙ best
 
     -- against what was chosen of the others
-    against : d .there ≡ true → (o : Option M.Report) → bestOf b ≡ o → chosen (ifThere g i d ∷ xs) ≡ some (better (g i d) o)
+    against : d .there ≡ true → (o : Option M.Reported) → bestOf b ≡ o → chosen (ifThere g i d ∷ xs) ≡ some (better (g i d) o)
     unfolding chosen
     against e o p =
-        ap (λ (z : Option M.Report). chosen (z ∷ xs)) (if-true _ _ _ e)
-        ∙ ap (λ (z : Option M.Report). some (better (g i d) z)) (best ∙ p)
+        ap (λ (z : Option M.Reported). chosen (z ∷ xs)) (if-true _ _ _ e)
+        ∙ ap (λ (z : Option M.Reported). some (better (g i d) z)) (best ∙ p)
 
     first : d .there ≡ true → b .report .there ≡ false → Goal (record { id = i; report = d })
     unfolding better
     first e f = against e none (if-false _ _ _ f) ∙ sym (if-true _ _ _ e)
 
     module _ (here : d .there ≡ true) (there : b .report .there ≡ true) where
-      two : (z : M.Report) → better (g i d) (some (g (b .id) (b .report))) ≡ z → chosen (ifThere g i d ∷ xs) ≡ some z
+      two : (z : M.Reported) → better (g i d) (some (g (b .id) (b .report))) ≡ z → chosen (ifThere g i d ∷ xs) ≡ some z
       two z q = against here (some (g (b .id) (b .report))) (if-true _ _ _ there) ∙ ap some q
 
       takes : better (g i d) (some (g (b .id) (b .report))) ≡ g i d → Goal (record { id = i; report = d })
@@ -227,11 +227,11 @@ module _ (g : ℕ → Report → M.Response) (view : (i : ℕ) (d : Report) → 
   latest-turn true x xs v k p e = rw (p, e) (greater-max v k)
   latest-turn false x xs v k p e = e
 
-  pub latest-is : (i : ℕ) (l : List Report) → latestView (placed (ifThere g) i l) ≡ latestIn l
-  unfolding latestView placed latestIn laterView
+  pub latest-is : (i : ℕ) (l : List Report) → latestView (placed (ifThere g) i l) ≡ latestViewIn l
+  unfolding latestView placed latestViewIn laterView
   latest-is i [] = refl
   latest-is i (d ∷ ds) =
-      latest-turn (d .there) (g i d) (placed (ifThere g) (suc i) ds) (d .view .0) (latestIn ds) (view i d) (latest-is (suc i) ds)
+      latest-turn (d .there) (g i d) (placed (ifThere g) (suc i) ds) (d .view .0) (latestViewIn ds) (view i d) (latest-is (suc i) ds)
 
 -- ---- logs, each read from the front of a run
 
@@ -239,7 +239,7 @@ module _ (run : ℕ → List ℕ) where
   abbrev pub heldIn : ℕ → Report → M.Held
   heldIn i d = record { commit = d .commit .0; log = entries (d .op .0) (run i) }
 
-  abbrev pub reportIn : ℕ → Report → M.Report
+  abbrev pub reportIn : ℕ → Report → M.Reported
   reportIn i d = record { lastNormal = d .view .0; held = heldIn i d }
 
   abbrev pub responseIn : ℕ → Report → M.Response
@@ -261,7 +261,7 @@ module _ (run : ℕ → List ℕ) where
   pub answers-filled : (l : List Report) → filled (placed (ifThere responseIn) 0 l) ≡ filledIn l
   answers-filled l = filled-is responseIn 0 l
 
-  pub answers-latest : (l : List Report) → latestView (placed (ifThere responseIn) 0 l) ≡ latestIn l
+  pub answers-latest : (l : List Report) → latestView (placed (ifThere responseIn) 0 l) ≡ latestViewIn l
   answers-latest l = latest-is responseIn (λ i d. refl) 0 l
 
 -- every log is stored
@@ -286,7 +286,7 @@ module _ (u : Setup) (stored : List ℕ) where
   unfolding responseAt heldAt
   stored-answers l = answers-filled here l
 
-  pub stored-latest : (l : List Report) → latestView (placed (responseAt u stored) 0 l) ≡ latestIn l
+  pub stored-latest : (l : List Report) → latestView (placed (responseAt u stored) 0 l) ≡ latestViewIn l
   unfolding responseAt heldAt
   stored-latest l = answers-latest here l
 

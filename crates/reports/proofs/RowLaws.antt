@@ -20,7 +20,7 @@ use Rattle.numbers.proofs.WordLaws.{if-true, if-false, split}
 use Rattle.numbers.proofs.NumberLaws.{le-or-lt}
 use Rattle.state.specs.Statuses.{noReport}
 use Rattle.state.specs.declared.Report.{Report}
-use Rattle.reports.specs.Rows.{countOne, greaterCommit, laterView, betterOf, filledIn, greatestIn, latestIn, chosenFrom}
+use Rattle.reports.specs.Rows.{countOne, greaterCommit, laterView, betterOf, filledIn, greatestIn, latestViewIn, chosenFrom}
 use Rattle.reports.specs.Sound.{reportOk, rowOk, reportsOk}
 use Rattle.reports.specs.declared.Best.{Best}
 
@@ -50,8 +50,8 @@ module _ (l : List Report) (n i : ℕ) (d : Report) (pos : 0 < i) (le : i ≤ n)
   unfolding greatestIn
   greatest-turn k r p q = q ∙ rw (rows-down, p)
 
-  pub latest-turn : (k r : ℕ) → k ≡ latestIn (drop i (take n l)) → r ≡ laterView d k → r ≡ latestIn (drop (i - 1) (take n l))
-  unfolding latestIn
+  pub latest-turn : (k r : ℕ) → k ≡ latestViewIn (drop i (take n l)) → r ≡ laterView d k → r ≡ latestViewIn (drop (i - 1) (take n l))
+  unfolding latestViewIn
   latest-turn k r p q = q ∙ rw (rows-down, p)
 
   pub chosen-turn : (k r : Best) → k ≡ chosenFrom i (drop i (take n l)) → r ≡ betterOf d (i - 1) k

@@ -24,8 +24,8 @@ use Rattle.reports.specs.Store.{keptLog}
 use Rattle.reports.proofs.PlaceLaws.{other-entries, own-place}
 use Rattle.reports.proofs.WholeLaws.{runOf}
 use Rattle.model.specs.State as M
-use Rattle.model.specs.ViewChange.{filled, chosen, greatestCommit, recorded}
-use Rattle.layout.specs.Layout.{Runs, heldAt, reportAt, placed, storeOf, modelOf}
+use Rattle.model.specs.ViewChange.{filled, chosen, greatestCommit, reportNoted}
+use Rattle.layout.specs.Layout.{LentRuns, heldAt, reportAt, placed, storeOf, modelOf}
 use Rattle.reports.proofs.ReportLift.{placed-set, ifThere, reportIn, with-new, reports-filled, reports-greatest, reports-chosen}
 use lib.ListN.{drop}
 use Rattle.numbers.specs.Numbers.{Bytes}
@@ -81,7 +81,7 @@ module _ (u : Setup) (r : ℕ) (d : Report) (fresh stored : List ℕ) (l : List 
   other-report : (j : ℕ) → j < u .n → (j ≡ r → ⊥) → reportAt u after j (getD l j noReport) ≡ reportAt u stored j (getD l j noReport)
   unfolding reportAt heldAt
   other-report j h q =
-      split₂ (λ (a b : Option M.Report). a ≡ b) _ _ _ _ _ _ refl
+      split₂ (λ (a b : Option M.Reported). a ≡ b) _ _ _ _ _ _ refl
       (λ t. rw (other-entries (u .room) (u .n) r (d .op) fresh stored below fits long held j (getD l j noReport .op .0) h (rows j h t) q))
       (λ _. refl)
 
@@ -95,12 +95,12 @@ module _ (u : Setup) (r : ℕ) (d : Report) (fresh stored : List ℕ) (l : List 
 
 -- ---- do_view_change_from.insert, outside Recovering
 
-module _ (t : Replica) (x : Runs) (table : List M.Row) (applied : List Entry) (looks : isRecovering (t .status) ≡ false) (r : ℕ) (d : Report)
+module _ (t : Replica) (x : LentRuns) (table : List M.ClientEntry) (applied : List Entry) (looks : isRecovering (t .status) ≡ false) (r : ℕ) (d : Report)
     (fresh : List ℕ) (below : r < t .setup .n) (few : t .setup .n ≤ length (t .reports .rows)) (there : d .there ≡ true) where
   abbrev m : M.State
   m = modelOf t x table applied
 
-  abbrev new : M.Report
+  abbrev new : M.Reported
   new = reportIn (λ _. fresh) r d
 
   abbrev rows : List Report
@@ -113,23 +113,23 @@ module _ (t : Replica) (x : Runs) (table : List M.Row) (applied : List Entry) (l
   unfolding modelOf storeOf
   reports-are = if-false _ _ _ looks
 
-  recorded-are : recorded m r new .store .reports ≡ placed (ifThere (reportIn run)) 0 rows
-  unfolding recorded M.withStore
+  recorded-are : reportNoted m r new .store .reports ≡ placed (ifThere (reportIn run)) 0 rows
+  unfolding reportNoted M.setStore
   recorded-are =
-      ap (λ (y : List (Option M.Report)). set y r (some new)) reports-are
+      ap (λ (y : List (Option M.Reported)). set y r (some new)) reports-are
       ∙ with-new (t .setup) (x .stored) r fresh (t .reports .rows) (t .setup .n) d below few there
 
-  pub recorded-filled : filled (recorded (modelOf t x table applied) r (reportIn (λ _. fresh) r d) .store .reports)
+  pub recorded-filled : filled (reportNoted (modelOf t x table applied) r (reportIn (λ _. fresh) r d) .store .reports)
       ≡ filledIn (take (t .setup .n) (set (t .reports .rows) r d))
   recorded-filled = ap filled recorded-are ∙ reports-filled run rows
 
-  pub recorded-greatest : greatestCommit (recorded (modelOf t x table applied) r (reportIn (λ _. fresh) r d) .store .reports)
+  pub recorded-greatest : greatestCommit (reportNoted (modelOf t x table applied) r (reportIn (λ _. fresh) r d) .store .reports)
       ≡ greatestIn (take (t .setup .n) (set (t .reports .rows) r d))
   recorded-greatest = ap greatestCommit recorded-are ∙ reports-greatest run rows
 
   -- of a quorum there is one
   pub recorded-chosen : 0 < filledIn (take (t .setup .n) (set (t .reports .rows) r d))
-      → chosen (recorded (modelOf t x table applied) r (reportIn (λ _. fresh) r d) .store .reports)
+      → chosen (reportNoted (modelOf t x table applied) r (reportIn (λ _. fresh) r d) .store .reports)
       ≡ some (reportIn (runOf (t .setup) (x .stored) r fresh) (chosenFrom 0 (take (t .setup .n) (set (t .reports .rows) r d)) .id)
       (chosenFrom 0 (take (t .setup .n) (set (t .reports .rows) r d)) .report))
   recorded-chosen h = ap chosen recorded-are ∙ reports-chosen run rows h
@@ -141,12 +141,12 @@ module _ (t : Replica) (x : Runs) (table : List M.Row) (applied : List Entry) (l
     abbrev now : List ℕ
     now = keptLog (t .setup .room) r (d .op) fresh (x .stored)
 
-    recorded-store : storeOf (withReports t (withReport (t .reports) r d)) now ≡ recorded m r new .store
-    unfolding storeOf modelOf recorded M.withStore
+    recorded-store : storeOf (withReports t (withReport (t .reports) r d)) now ≡ reportNoted m r new .store
+    unfolding storeOf modelOf reportNoted M.setStore
     recorded-store =
         let e : placed (reportAt (t .setup) now) 0 rows ≡ set (m .store .reports) r (some new) =
         kept-reports (t .setup) r d fresh (x .stored) (t .reports .rows) below few there fits long held old
-        ∙ ap (λ (y : List (Option M.Report)). set y r (some new)) (sym reports-are) in
+        ∙ ap (λ (y : List (Option M.Reported)). set y r (some new)) (sym reports-are) in
         let q = if-false _ _ _ looks ∙ e in
         let none-yet = if-false _ _ _ looks ∙ sym (if-false _ _ _ looks) in
         λ i. record { reports = q i; responses = none-yet i; nonce = t .nonce }
@@ -160,9 +160,9 @@ module _ (t : Replica) (x : Runs) (table : List M.Row) (applied : List Entry) (l
           acks = x .acks;
           stored = keptLog (t .setup .room) r (d .op) fresh (x .stored);
         }) table applied
-        ≡ recorded (modelOf t x table applied) r (reportIn (λ _. fresh) r d)
-    unfolding modelOf recorded M.withStore
-    recorded-reads = λ i. M.withStore m (recorded-store i)
+        ≡ reportNoted (modelOf t x table applied) r (reportIn (λ _. fresh) r d)
+    unfolding modelOf reportNoted M.setStore
+    recorded-reads = λ i. M.setStore m (recorded-store i)
 
 -- every log that is stored for one of n replicas keeps the rules of the entries
 pub record StoredOk (t : Replica) (stored : List ℕ) : Type 0 where

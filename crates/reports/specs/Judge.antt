@@ -14,7 +14,7 @@ use Rattle.book.specs.Log.{keepsFirst}
 use Rattle.state.specs.Statuses.{noReport}
 use Rattle.state.specs.Lengths.{storedPlace}
 use Rattle.state.specs.declared.Reports.{Reports}
-use Rattle.reports.specs.Rows.{filledIn, greatestIn, latestIn, chosenFrom}
+use Rattle.reports.specs.Rows.{filledIn, greatestIn, latestViewIn, chosenFrom}
 use Rattle.reports.specs.declared.Best.{Best}
 use Rattle.reports.specs.declared.Judged.{Judged}
 use Rattle.reports.specs.declared.Judged.the-variants.{Wait, Refuse, Begin}
@@ -45,9 +45,9 @@ abbrev pub primaryRow : Reports → (n v : ℕ) → Best
 primaryRow t n v =
     record { id = primaryOf n (record { 0 = v }); report = getD (t .rows) (primaryOf n (record { 0 = v })) noReport }
 
--- on_recovery_response, with the row of the primary of the latest view v: its state is taken where it answered in that view
-unfoldable pub answered : Best → (v id room c : ℕ) (ours stored fresh : List ℕ) → Judged
-answered b v id room c ours stored fresh =
+-- on_recovery_response, with the row of the primary of the latest view v: its state is taken where it answeredByPrimary in that view
+unfoldable pub answeredByPrimary : Best → (v id room c : ℕ) (ours stored fresh : List ℕ) → Judged
+answeredByPrimary b v id room c ours stored fresh =
     if not (b .report .there) then Wait else
     if not (b .report .full) then Wait else
     if eqb (b .report .view .0) v then weighed b (b .report .commit) id room c ours stored fresh else
@@ -57,8 +57,8 @@ answered b v id room c ours stored fresh =
 unfoldable pub responded : Reports → (n id room view c : ℕ) (ours stored fresh : List ℕ) → Judged
 responded t n id room view c ours stored fresh =
     if ltb (filledIn (take n (t .rows))) (quorumOf n) then Wait else
-    if ltb (latestIn (take n (t .rows))) view then Wait else
-    answered (primaryRow t n (latestIn (take n (t .rows)))) (latestIn (take n (t .rows))) id room c ours stored fresh
+    if ltb (latestViewIn (take n (t .rows))) view then Wait else
+    answeredByPrimary (primaryRow t n (latestViewIn (take n (t .rows)))) (latestViewIn (take n (t .rows))) id room c ours stored fresh
 
 -- the log of a report lies inside what is lent
 pub record Lies (b : Best) (id room : ℕ) (stored fresh : List ℕ) : Type 0 where

@@ -59,9 +59,9 @@ greatestIn [] = 0
 greatestIn (d ∷ ds) = greaterCommit d (greatestIn ds)
 
 -- the latest view
-unfoldable pub latestIn : List Report → ℕ
-latestIn [] = 0
-latestIn (d ∷ ds) = laterView d (latestIn ds)
+unfoldable pub latestViewIn : List Report → ℕ
+latestViewIn [] = 0
+latestViewIn (d ∷ ds) = laterView d (latestViewIn ds)
 
 -- the chosen report, the first row being that of id i
 unfoldable pub chosenFrom : (id : ℕ) → List Report → Best

@@ -5,7 +5,7 @@ ghost use mathlib.Core.Bool.{true, false};
 ghost use Prim.Native.Nat.{_+_, _*_, _≤_};
 ghost use lib.ListN.{length};
 ghost use Rattle.state.specs.Lengths.{storedPlace};
-ghost use Rattle.reports.specs.Judge.{logFrom, chosenLog, weighed, judged, answered, responded, Lies, Fits};
+ghost use Rattle.reports.specs.Judge.{logFrom, chosenLog, weighed, judged, answeredByPrimary, responded, Lies, Fits};
 use crate::Best;
 use crate::Judged;
 use crate::rows;
@@ -106,7 +106,7 @@ fn judge_primary<'a>(
     fresh: &'a [u8],
 ) -> Judged
     requires { ⌜ (b .report .there ≡ true → Lies b id room (now stored) (now fresh)) × (32 * c .0 ≤ length (now ours)) ⌝ }
-    ensures { λ r. ⌜ r ≡ answered b (v .0) id room (c .0) (now (ours .entry)) (now (stored .entry)) (now (fresh .entry)) ⌝ }
+    ensures { λ r. ⌜ r ≡ answeredByPrimary b (v .0) id room (c .0) (now (ours .entry)) (now (stored .entry)) (now (fresh .entry)) ⌝ }
 {
     if !b.report.there {
         return Judged::Wait;

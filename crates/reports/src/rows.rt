@@ -3,7 +3,7 @@ ghost use mathlib.Core.Path.{_≡_};
 ghost use Prim.Native.Nat.{_≤_, _<_};
 ghost use lib.ListN.{length, getD, take};
 ghost use Rattle.state.specs.Statuses.{noReport};
-ghost use Rattle.reports.specs.Rows.{withReport, countOne, greaterCommit, laterView, betterOf, filledIn, greatestIn, latestIn, chosenFrom};
+ghost use Rattle.reports.specs.Rows.{withReport, countOne, greaterCommit, laterView, betterOf, filledIn, greatestIn, latestViewIn, chosenFrom};
 ghost use Rattle.reports.specs.Sound.{reportOk, rowOk, reportsOk};
 use crate::Best;
 use numbers::Op;
@@ -115,7 +115,7 @@ pub fn greatest_commit(t: Reports, n: u8) -> Op
 // The latest view of the first n.
 pub fn latest_view(t: Reports, n: u8) -> View
     requires { ⌜ n ≤ 7 ⌝ }
-    ensures { λ r. ⌜ r .0 ≡ latestIn (take n (t .rows)) ⌝ }
+    ensures { λ r. ⌜ r .0 ≡ latestViewIn (take n (t .rows)) ⌝ }
 {
     let mut i = n;
     let mut v = View(0);

@@ -12,11 +12,11 @@ use Rattle.entries.specs.Rising.{rising}
 use Rattle.entries.specs.declared.Entry.{Entry}
 use Rattle.config.specs.declared.Setup.{Setup}
 use Rattle.fees.specs.declared.Outcome.{Outcome}
-use Rattle.model.specs.State.{Row, Book}
-use Rattle.model.specs.Book.{through, answersOf, put, rowOf, append, appendAll, commitOne, commitAll, commitUpTo, due, install, agree, Rises}
+use Rattle.model.specs.State.{ClientEntry, Book}
+use Rattle.model.specs.Book.{through, resultsOf, put, entryRow, append, appendAll, commitOne, commitAll, commitUpTo, dueEntries, install, agree, Rises}
 use Rattle.model.proofs.BookLaws.{through-append, answers-append, commitAll-log, commitAll-commit, commitAll-applied, commitAll-totals, commitAll-results}
 use Rattle.model.proofs.BookLaws.{agree-take, agree-le, length-due, appendAll-log, appendAll-length, Rest, appendAll-rest}
-use Rattle.safety.specs.Demand.{bare, rowsOf, zeros}
+use Rattle.safety.specs.Demand.{bare, rowsLeftBy, zeros}
 use Rattle.model.proofs.TableLaws.{put-rises, keep-rises, rebuilt-rises}
 use Rattle.safety.proofs.Tables.{keep-bare, append-bare, rows-append, rebuilt-bare}
 
@@ -27,9 +27,9 @@ pub record BookInv (u : Setup) (b : Book) : Type 0 where
   pub log-fits : length (b .log) ≤ u .room
   pub log-rises : rising (b .log) ≡ true
   pub table-rises : Rises (b .table)
-  pub table-is : bare (b .table) ≡ rowsOf [] (b .log)
+  pub table-is : bare (b .table) ≡ rowsLeftBy [] (b .log)
   pub totals-are : b .totals ≡ through (zeros u) (b .applied)
-  pub results-are : b .results ≡ answersOf (zeros u) (b .applied)
+  pub results-are : b .results ≡ resultsOf (zeros u) (b .applied)
 
 -- what a book that followed has besides
 pub record Grown (u : Setup) (b b′ : Book) : Type 0 where
@@ -54,10 +54,10 @@ module _ (u : Setup) (b : Book) where
   pub same-ok : Ok u b b
   same-ok i = record { inv = i; commit-up = le-refl _; more = []; grows = sym (append-nil (b .applied)) }
 
-  append-table : (e : Entry) → bare (b .table) ≡ rowsOf [] (b .log) → bare (put (b .table) (rowOf e none)) ≡ rowsOf [] (b .log ++ (e ∷ []))
-  unfolding rowsOf
+  append-table : (e : Entry) → bare (b .table) ≡ rowsLeftBy [] (b .log) → bare (put (b .table) (entryRow e none)) ≡ rowsLeftBy [] (b .log ++ (e ∷ []))
+  unfolding rowsLeftBy
   append-table e p =
-      append-bare (b .table) e ∙ ap (λ (t : List Row). put t (rowOf e none)) p ∙ sym (rows-append [] (b .log) (e ∷ []))
+      append-bare (b .table) e ∙ ap (λ (t : List ClientEntry). put t (entryRow e none)) p ∙ sym (rows-append [] (b .log) (e ∷ []))
 
   pub append-ok : (e : Entry) → length (b .log) < u .room → rising (b .log ++ (e ∷ [])) ≡ true → Ok u b (append b e)
   unfolding append
@@ -80,7 +80,7 @@ module _ (u : Setup) (b : Book) where
       }
 
   pub commit-ok : (k : ℕ) → k ≤ length (b .log) → Ok u b (commitUpTo b k)
-  unfolding commitUpTo due
+  unfolding commitUpTo dueEntries
   commit-ok k h i =
       record {
         inv =
@@ -89,19 +89,19 @@ module _ (u : Setup) (b : Book) where
               commit-le = simp (commitAll-commit, commitAll-log, length-take, length-drop) (omega arith);
               log-fits = rw commitAll-log (i .log-fits);
               log-rises = rw commitAll-log (i .log-rises);
-              table-rises = commitAll-table b (due b k) (i .table-rises) .0;
-              table-is = rw commitAll-log (commitAll-table b (due b k) (i .table-rises) .1 ∙ i .table-is);
-              totals-are = simp (commitAll-applied, commitAll-totals, through-append) (ap (λ (t : List ℕ). through t (due b k)) (i .totals-are));
+              table-rises = commitAll-table b (dueEntries b k) (i .table-rises) .0;
+              table-is = rw commitAll-log (commitAll-table b (dueEntries b k) (i .table-rises) .1 ∙ i .table-is);
+              totals-are = simp (commitAll-applied, commitAll-totals, through-append) (ap (λ (t : List ℕ). through t (dueEntries b k)) (i .totals-are));
               results-are =
-                  commitAll-results b (due b k)
-                  ∙ ap (λ (l : List Outcome). l ++ answersOf (b .totals) (due b k)) (i .results-are)
-                  ∙ ap (λ (t : List ℕ). answersOf (zeros u) (b .applied) ++ answersOf t (due b k)) (i .totals-are)
-                  ∙ sym (answers-append (zeros u) (b .applied) (due b k))
-                  ∙ ap (answersOf (zeros u)) (sym (commitAll-applied b (due b k)));
+                  commitAll-results b (dueEntries b k)
+                  ∙ ap (λ (l : List Outcome). l ++ resultsOf (b .totals) (dueEntries b k)) (i .results-are)
+                  ∙ ap (λ (t : List ℕ). resultsOf (zeros u) (b .applied) ++ resultsOf t (dueEntries b k)) (i .totals-are)
+                  ∙ sym (answers-append (zeros u) (b .applied) (dueEntries b k))
+                  ∙ ap (resultsOf (zeros u)) (sym (commitAll-applied b (dueEntries b k)));
             };
         commit-up = simp commitAll-commit (omega arith);
-        more = due b k;
-        grows = commitAll-applied b (due b k);
+        more = dueEntries b k;
+        grows = commitAll-applied b (dueEntries b k);
       }
 
   pub install-ok : (log : List Entry) → length log ≤ u .room → rising log ≡ true → b .commit ≤ length log → take (b .commit) log ≡ take (b .commit) (b .log)
@@ -129,8 +129,8 @@ module _ (u : Setup) (b : Book) where
   agreed-ok log h r a = install-ok log h r (agree-le _ _ _ a) (agree-take _ _ _ a)
 
 -- an append of entries
-appendAll-table : (u : Setup) (b : Book) (es : List Entry) → Rises (b .table) → bare (b .table) ≡ rowsOf [] (b .log)
-    → Rises (appendAll b es .table) × (bare (appendAll b es .table) ≡ rowsOf [] (appendAll b es .log))
+appendAll-table : (u : Setup) (b : Book) (es : List Entry) → Rises (b .table) → bare (b .table) ≡ rowsLeftBy [] (b .log)
+    → Rises (appendAll b es .table) × (bare (appendAll b es .table) ≡ rowsLeftBy [] (appendAll b es .log))
 unfolding appendAll append
 appendAll-table u b [] p q = (p, q)
 appendAll-table u b (e ∷ es) p q = appendAll-table u (append b e) es (put-rises (b .table) _ p) (append-table u b e q)

@@ -21,18 +21,18 @@ use Rattle.clock.specs.declared.Ticked.{Ticked}
 use Rattle.clock.specs.declared.Duty.{Duty}
 use Rattle.clock.specs.declared.Duty.the-variants.{Lead, Follow, Change}
 use Rattle.frames.specs.declared.Status.{Status}
-use Rattle.model.specs.State.{Place, Book, Votes, Report, Response, Store, State}
+use Rattle.model.specs.State.{Place, Book, Votes, Reported, Response, Store, State}
 use Rattle.state.specs.Statuses.{isChanging}
-use Rattle.model.specs.State.{withPlace, withBook, withVotes, withStore, withClock, withStatus, withAcks, opOf}
-use Rattle.model.specs.Book.{outcome, totalsAfter, through, append, appendAll, due, commitUpTo, install, emptyBook}
-use Rattle.model.specs.Normal.{heardBy, committed, ackRow, acked, blanked, accepted}
-use Rattle.model.specs.ViewChange.{heldBy, ownReport, clearedVotes, markSent, votedFor, recorded, noReports, noAcks, ownVote, clearedStore}
+use Rattle.model.specs.State.{setPlace, setBook, setVotes, setStore, setClock, setStatus, setAcks, opOf}
+use Rattle.model.specs.Book.{outcome, totalsAfter, through, append, appendAll, dueEntries, commitUpTo, install, emptyBook}
+use Rattle.model.specs.Normal.{heardFromPrimary, committed, ackRow, acked, blanked, accepted}
+use Rattle.model.specs.ViewChange.{heldBy, ourReport, clearedVotes, markSent, votedFor, reportNoted, noReports, noAcks, ownVote, clearedStore}
 use Rattle.model.specs.ViewChange.{enterNormal, catchingUpWith, acksFrom, changingTo}
 use Rattle.model.specs.Recovery.{noted, noResponses, forgotten}
 use Rattle.model.specs.Steps.{newAt}
 use Rattle.model.proofs.BookLaws.{commitAll-log, commitAll-totals}
 use Rattle.safety.specs.Demand.{Every}
-use Rattle.safety.specs.Ranges.{All, Below, Small, ReportFits, ResponseFits, Ranges}
+use Rattle.safety.specs.Ranges.{All, Below, Small, ReportedFits, ResponseFits, Ranges}
 use Rattle.safety.proofs.Handlers.{every-none, every-set}
 
 -- each of a list
@@ -86,7 +86,7 @@ pub record VotesIn (u : Setup) (v : Votes) : Type 0 where
 pub record StoreIn (u : Setup) (t : Store) : Type 0 where
   pub nonce : t .nonce < 18446744073709551616
   pub reports-count : length (t .reports) ≡ u .n
-  pub reports : Every ReportFits (t .reports)
+  pub reports : Every ReportedFits (t .reports)
   pub responses-count : length (t .responses) ≡ u .n
   pub responses : Every ResponseFits (t .responses)
 
@@ -150,7 +150,7 @@ appendAll-in b (e ∷ es) f i = appendAll-in (append b e) es (f .1) (append-in b
 
 pub commit-in : (b : Book) (k : ℕ) → BookIn b → BookIn (commitUpTo b k)
 unfolding commitUpTo
-commit-in b k i = record { log = rw commitAll-log (i .log); totals = rw commitAll-totals (through-small (b .totals) (due b k) (i .totals)) }
+commit-in b k i = record { log = rw commitAll-log (i .log); totals = rw commitAll-totals (through-small (b .totals) (dueEntries b k) (i .totals)) }
 
 pub install-in : (b : Book) (log : List Entry) → All EntryFits log → BookIn b → BookIn (install b log)
 unfolding install
@@ -230,24 +230,24 @@ module _ (u : Setup) where
 
   -- ---- the state, one part anew
 
-  pub clock-in : (m : State) (c : Clock) → (ClockIn u (m .clock) → ClockIn u c) → In u m → In u (withClock m c)
-  unfolding withClock
+  pub clock-in : (m : State) (c : Clock) → (ClockIn u (m .clock) → ClockIn u c) → In u m → In u (setClock m c)
+  unfolding setClock
   clock-in m c f i = record { place = i .place; book = i .book; votes = i .votes; store = i .store; clock = f (i .clock) }
 
-  pub book-in : (m : State) (b : Book) → (BookIn (m .book) → BookIn b) → In u m → In u (withBook m b)
-  unfolding withBook
+  pub book-in : (m : State) (b : Book) → (BookIn (m .book) → BookIn b) → In u m → In u (setBook m b)
+  unfolding setBook
   book-in m b f i = record { place = i .place; book = f (i .book); votes = i .votes; store = i .store; clock = i .clock }
 
-  votes-in : (m : State) (v : Votes) → (VotesIn u (m .votes) → VotesIn u v) → In u m → In u (withVotes m v)
-  unfolding withVotes
+  votes-in : (m : State) (v : Votes) → (VotesIn u (m .votes) → VotesIn u v) → In u m → In u (setVotes m v)
+  unfolding setVotes
   votes-in m v f i = record { place = i .place; book = i .book; votes = f (i .votes); store = i .store; clock = i .clock }
 
-  store-in : (m : State) (t : Store) → (StoreIn u (m .store) → StoreIn u t) → In u m → In u (withStore m t)
-  unfolding withStore
+  store-in : (m : State) (t : Store) → (StoreIn u (m .store) → StoreIn u t) → In u m → In u (setStore m t)
+  unfolding setStore
   store-in m t f i = record { place = i .place; book = i .book; votes = i .votes; store = f (i .store); clock = i .clock }
 
-  pub status-in : (m : State) (s : Status) → In u m → In u (withStatus m s)
-  unfolding withStatus withPlace
+  pub status-in : (m : State) (s : Status) → In u m → In u (setStatus m s)
+  unfolding setStatus setPlace
   status-in m s i =
       record {
         place = record { view = i .place .view; last = i .place .last };
@@ -257,12 +257,12 @@ module _ (u : Setup) where
         clock = i .clock;
       }
 
-  pub acks-in : (m : State) (a : List ℕ) → (AcksIn u (m .votes .acks) → AcksIn u a) → In u m → In u (withAcks m a)
-  unfolding withAcks
+  pub acks-in : (m : State) (a : List ℕ) → (AcksIn u (m .votes .acks) → AcksIn u a) → In u m → In u (setAcks m a)
+  unfolding setAcks
   acks-in m a f = votes-in m _ (λ v. record { acks = f (v .acks); starts = v .starts })
 
-  pub heard-in : (m : State) → In u m → In u (heardBy m)
-  unfolding heardBy
+  pub heard-in : (m : State) → In u m → In u (heardFromPrimary m)
+  unfolding heardFromPrimary
   heard-in m = clock-in m _ (λ c. record { waiting = c .waiting; stable = c .stable; attempts = c .attempts })
 
   pub committed-in : (m : State) (k : ℕ) → In u m → In u (committed m k)
@@ -270,9 +270,9 @@ module _ (u : Setup) where
   committed-in m k = book-in m _ (commit-in (m .book) k)
 
   pub accepted-in : (m : State) (e : Entry) → u .id < u .n → EntryFits e → In u m → In u (accepted u m e)
-  unfolding accepted withBook
+  unfolding accepted setBook
   accepted-in m e own f i =
-      acks-in (withBook m (append (m .book) e)) _ (set-acks (m .votes .acks) (opOf m) (ownVote u) (own-below own))
+      acks-in (setBook m (append (m .book) e)) _ (set-acks (m .votes .acks) (opOf m) (ownVote u) (own-below own))
       (book-in m _ (append-in (m .book) e f) i)
 
   pub acked-in : (m : State) (o r : ℕ) → r < u .n → In u m → In u (acked m o r)
@@ -290,14 +290,14 @@ module _ (u : Setup) where
   unfolding votedFor
   vote-in m r h = votes-in m _ (λ v. record { acks = v .acks; starts = with-lt (u .n) _ r (v .starts) h })
 
-  pub recorded-in : (m : State) (r : ℕ) (d : Report) → ReportFits d → In u m → In u (recorded m r d)
-  unfolding recorded
+  pub recorded-in : (m : State) (r : ℕ) (d : Reported) → ReportedFits d → In u m → In u (reportNoted m r d)
+  unfolding reportNoted
   recorded-in m r d f =
       store-in m _
       (λ t. record {
         nonce = t .nonce;
         reports-count = length-set (m .store .reports) r (some d) ∙ t .reports-count;
-        reports = every-set ReportFits (m .store .reports) r d (t .reports) f;
+        reports = every-set ReportedFits (m .store .reports) r d (t .reports) f;
         responses-count = t .responses-count;
         responses = t .responses;
       })
@@ -326,8 +326,8 @@ module _ (u : Setup) where
         responses = every-none ResponseFits (u .n);
       })
 
-  pub own-fits : (m : State) → In u m → ReportFits (ownReport m)
-  unfolding ownReport heldBy
+  pub own-fits : (m : State) → In u m → ReportedFits (ourReport m)
+  unfolding ourReport heldBy
   own-fits m i = record { last-normal = omega (arith, i .place .view, i .place .last); entries-fit = i .book .log }
 
   -- ---- another view
@@ -342,7 +342,7 @@ module _ (u : Setup) where
       record {
         nonce = i .store .nonce;
         reports-count = length-replicate (u .n) none;
-        reports = every-none ReportFits (u .n);
+        reports = every-none ReportedFits (u .n);
         responses-count = i .store .responses-count;
         responses = i .store .responses;
       }
@@ -393,7 +393,7 @@ module _ (u : Setup) where
             record {
               nonce = once;
               reports-count = length-replicate (u .n) none;
-              reports = every-none ReportFits (u .n);
+              reports = every-none ReportedFits (u .n);
               responses-count = length-replicate (u .n) none;
               responses = every-none ResponseFits (u .n);
             };

@@ -17,19 +17,19 @@ use Rattle.config.specs.declared.Setup.{Setup}
 use Rattle.fees.specs.declared.Outcome.{Outcome}
 use Rattle.clock.specs.declared.Clock.{Clock}
 use Rattle.clock.specs.declared.Ticked.{Ticked}
-use Rattle.model.specs.State.{Book, Votes, Held, Report, Response, Store, State, Sent, Reply, Answer}
+use Rattle.model.specs.State.{Book, Votes, Held, Reported, Response, Store, State, Sent, Reply, Answer}
 use Rattle.model.specs.State.Answer.{refused, done}
-use Rattle.model.specs.State.{after, ignored, withPlace, withBook, withVotes, withStore, withClock, withStatus, withAcks, opOf}
+use Rattle.model.specs.State.{after, ignored, setPlace, setBook, setVotes, setStore, setClock, setStatus, setAcks, opOf}
 use Rattle.model.specs.Book.{commitUpTo, install, agree}
 use Rattle.model.specs.Sending.{primary}
-use Rattle.model.specs.Normal.{heardBy, committed, resend, acked, filledGap, committedThen, accepted, onRequest, acceptFromPrimary}
+use Rattle.model.specs.Normal.{heardFromPrimary, committed, resend, acked, filledGap, committedThen, accepted, onRequest, acceptFromPrimary}
 use Rattle.model.specs.Normal.{stateTransfer, prepared, takePrepare, onPrepare, takeCommit, onCommit, onPrepareOk, onGetState, fillGap, caughtUp, catchUp, onNewState}
-use Rattle.model.specs.ViewChange.{better, chosen, heldBy, ownReport, markSent, votedFor, recorded, noReports, clearedStore, enterNormal}
+use Rattle.model.specs.ViewChange.{better, chosen, heldBy, ourReport, markSent, votedFor, reportNoted, noReports, clearedStore, enterNormal}
 use Rattle.model.specs.ViewChange.{catchingUpWith, catchUpWithView, startedWith, startView, startChosen, recordDoViewChange, sendDoViewChange}
 use Rattle.model.specs.ViewChange.{maybeSendDoViewChange, changingTo, startViewChange, onStartViewChange, onDoViewChange, joined, onStartView}
 use Rattle.model.specs.Recovery.{noted, noResponses, forgotten, onRecovery, recovered, recoverWith, recoverFrom, recoverLatest, onRecoveryResponse}
 use Rattle.model.specs.Steps.{primaryTick, nextView, followTick, changeTick, onIdle}
-use Rattle.safety.specs.Demand.{At, Every, Sound, SoundReport, SoundResponse}
+use Rattle.safety.specs.Demand.{At, Every, StoredSound, SoundReport, SoundResponse}
 use Rattle.safety.proofs.Books.{BookInv, Grown, Ok, same-ok, append-ok, commit-ok, agreed-ok, gap-ok, join-ok, then-ok}
 
 -- places, each that is filled
@@ -49,13 +49,13 @@ module _ {A : Type 0} (P : A → Type 0) where
   every-get (x ∷ xs) (suc i) h = every-get xs i (h .1)
 
 -- what holds of each report holds of the chosen one
-module _ (P : Report → Type 0) where
-  better-has : (a : Report) (b : Option Report) → P a → At P b → P (better a b)
+module _ (P : Reported → Type 0) where
+  better-has : (a : Reported) (b : Option Reported) → P a → At P b → P (better a b)
   unfolding better
   better-has a none p q = p
   better-has a (some b) p q = split P _ _ _ (λ _. p) λ _. split P _ _ _ (λ _. p) (λ _. q)
 
-  pub chosen-has : (xs : List (Option Report)) → Every P xs → At P (chosen xs)
+  pub chosen-has : (xs : List (Option Reported)) → Every P xs → At P (chosen xs)
   unfolding chosen
   chosen-has [] h = tt
   chosen-has (none ∷ xs) h = chosen-has xs (h .1)
@@ -117,27 +117,27 @@ module _ (u : Setup) where
   unfolding ignored
   ignored-good = moved [] [] (still (le-refl _) refl refl)
 
-  clock-next : (m : State) (c : Clock) → Next u m (withClock m c)
-  unfolding withClock
+  clock-next : (m : State) (c : Clock) → Next u m (setClock m c)
+  unfolding setClock
   clock-next m c = still (le-refl _) refl refl
 
-  heard-next : (m : State) → Next u m (heardBy m)
-  unfolding heardBy
+  heard-next : (m : State) → Next u m (heardFromPrimary m)
+  unfolding heardFromPrimary
   heard-next m = clock-next m _
 
-  heard-good : {m : State} → Good u m (ignored (heardBy m))
+  heard-good : {m : State} → Good u m (ignored (heardFromPrimary m))
   heard-good {m} = since (heard-next m) ignored-good
 
-  votes-next : (m : State) (v : Votes) → Next u m (withVotes m v)
-  unfolding withVotes
+  votes-next : (m : State) (v : Votes) → Next u m (setVotes m v)
+  unfolding setVotes
   votes-next m v = still (le-refl _) refl refl
 
-  acks-next : (m : State) (a : List ℕ) → Next u m (withAcks m a)
-  unfolding withAcks
+  acks-next : (m : State) (a : List ℕ) → Next u m (setAcks m a)
+  unfolding setAcks
   acks-next m a = votes-next m _
 
-  book-next : (m : State) (b : Book) → Ok u (m .book) b → Next u m (withBook m b)
-  unfolding withBook
+  book-next : (m : State) (b : Book) → Ok u (m .book) b → Next u m (setBook m b)
+  unfolding setBook
   book-next m b g = booked (le-refl _) g refl
 
   -- Request
@@ -164,7 +164,7 @@ module _ (u : Setup) where
       (λ _. moved _ _ (record { view-up = h; book-ok = λ i. same-ok u _ (i .book); store-ok = cleared m }))
 
   from-primary : (m : State) (v : ℕ) (rest : Answer) → Good u m rest → Good u m (acceptFromPrimary u m v rest)
-  unfolding acceptFromPrimary heardBy withClock
+  unfolding acceptFromPrimary heardFromPrimary setClock
   from-primary m v rest g =
       cases _ _ _ (λ _. ignored-good) λ h.
       cases _ _ _ (λ _. catching-good m v (ltb-false _ _ h)) λ _.
@@ -173,7 +173,7 @@ module _ (u : Setup) where
       heard-good
 
   transfer-good : (m : State) → Good u m (stateTransfer u m)
-  unfolding stateTransfer withStatus withPlace
+  unfolding stateTransfer setStatus setPlace
   transfer-good m = moved _ _ (still (le-refl _) refl refl)
 
   committed-next : (m : State) (k : ℕ) → k ≤ length (m .book .log) → Next u m (committed m k)
@@ -185,7 +185,7 @@ module _ (u : Setup) where
   prepared-good m c = moved _ _ (committed-next m (min c (length (m .book .log))) (omega arith))
 
   take-prepare : (m : State) (o c : ℕ) (e : Entry) → Good u m (takePrepare u m o c e)
-  unfolding takePrepare opOf heardBy withClock
+  unfolding takePrepare opOf heardFromPrimary setClock
   take-prepare m o c e =
       cases _ _ _ (λ _. since (heard-next m) (transfer-good _)) λ _.
       cases _ _ _ (λ _. since (heard-next m) (prepared-good _ c)) λ _.
@@ -199,7 +199,7 @@ module _ (u : Setup) where
   prepare-good m v o c e = from-primary m v _ (take-prepare m o c e)
 
   take-commit : (m : State) (c : ℕ) → Good u m (takeCommit u m c)
-  unfolding takeCommit opOf heardBy withClock
+  unfolding takeCommit opOf heardFromPrimary setClock
   take-commit m c =
       cases _ _ _ (λ _. since (heard-next m) (transfer-good _)) λ h.
       moved _ _ (next-next (heard-next m) (committed-next _ c (ltb-false _ _ h)))
@@ -233,7 +233,7 @@ module _ (u : Setup) where
   module _ (m : State) (a z c : ℕ) (es : List Entry) (all : a + length es ≡ z) (room : z ≤ u .room) (c-le : c ≤ z) where
     gap-next : (ltb (opOf m) a or leb z (opOf m)) ≡ false → not (rising (m .book .log ++ drop (opOf m - a) es)) ≡ false
         → Next u m (filledGap m c (drop (opOf m - a) es))
-    unfolding opOf filledGap withStatus withPlace withBook heardBy withClock
+    unfolding opOf filledGap setStatus setPlace setBook heardFromPrimary setClock
     gap-next fit rises =
         let starts : a ≤ length (m .book .log) = ltb-false _ _ (or-left _ _ fit) in
         let ends : length (m .book .log) < z = leb-false _ _ (or-right _ _ fit) in
@@ -269,8 +269,8 @@ module _ (u : Setup) where
         heard-good
 
   -- reports: DoViewChange, and our own
-  recorded-next : (m : State) (r : ℕ) (d : Report) → (Inv u m → SoundReport u d) → Next u m (recorded m r d)
-  unfolding recorded withStore
+  recorded-next : (m : State) (r : ℕ) (d : Reported) → (Inv u m → SoundReport u d) → Next u m (reportNoted m r d)
+  unfolding reportNoted setStore
   recorded-next m r d p =
       record {
         view-up = le-refl _;
@@ -284,7 +284,7 @@ module _ (u : Setup) where
   unfolding install
   installed m log c h r a k = then-ok u _ _ _ (agreed-ok u (m .book) log h r a) (commit-ok u _ c k)
 
-  startView-good : (m : State) (best : Held) (c : ℕ) (out : List Sent) → (Inv u m → Sound u best) → Good u m (startView u m (best .log) c out)
+  startView-good : (m : State) (best : Held) (c : ℕ) (out : List Sent) → (Inv u m → StoredSound u best) → Good u m (startView u m (best .log) c out)
   unfolding startView startedWith
   startView-good m best c out p =
       cases _ _ _ (λ _. refusal 7) λ ok.
@@ -293,19 +293,19 @@ module _ (u : Setup) where
       (entered-next m _ _ _ (le-refl _)
       (λ i. installed m _ c (p i .fits) (p i .rises) (not-false _ ok) (ltb-false _ _ fit) (i .book)))
 
-  chosen-good : (m : State) (o : Option Report) (out : List Sent) → (Inv u m → At (SoundReport u) o) → Good u m (startChosen u m o out)
+  chosen-good : (m : State) (o : Option Reported) (out : List Sent) → (Inv u m → At (SoundReport u) o) → Good u m (startChosen u m o out)
   unfolding startChosen
   chosen-good m none out p = moved _ _ (still (le-refl _) refl refl)
   chosen-good m (some best) out p = startView-good m (best .held) _ out p
 
-  record-good : (m : State) (r : ℕ) (d : Report) (out : List Sent) → (Inv u m → SoundReport u d) → Good u m (recordDoViewChange u m r d out)
+  record-good : (m : State) (r : ℕ) (d : Reported) (out : List Sent) → (Inv u m → SoundReport u d) → Good u m (recordDoViewChange u m r d out)
   unfolding recordDoViewChange
   record-good m r d out p =
       cases _ _ _ (λ _. moved _ _ (recorded-next m r d p)) λ _.
       since (recorded-next m r d p) (chosen-good _ _ out (λ i. chosen-has (SoundReport u) _ (i .store .reports)))
 
-  own-sound : (m : State) → Inv u m → SoundReport u (ownReport m)
-  unfolding ownReport heldBy
+  own-sound : (m : State) → Inv u m → SoundReport u (ourReport m)
+  unfolding ourReport heldBy
   own-sound m i = record { fits = i .book .log-fits; rises = i .book .log-rises; commit-le = i .book .commit-le }
 
   send-good : (m : State) (out : List Sent) → Good u m (sendDoViewChange u m out)
@@ -340,7 +340,7 @@ module _ (u : Setup) where
       cases _ _ _ (λ _. moved _ _ (still (le-refl _) refl refl)) (λ _. ignored-good)
 
   -- DoViewChange
-  pub doViewChange-good : (m : State) (v r : ℕ) (d : Report) → SoundReport u d → Good u m (onDoViewChange u m v r d)
+  pub doViewChange-good : (m : State) (v r : ℕ) (d : Reported) → SoundReport u d → Good u m (onDoViewChange u m v r d)
   unfolding onDoViewChange
   doViewChange-good m v r d p =
       cases _ _ _ (λ _. ignored-good) λ h.
@@ -349,7 +349,7 @@ module _ (u : Setup) where
       record-good m r d _ (λ _. p)
 
   -- StartView
-  pub onStartView-good : (m : State) (v : ℕ) (h : Held) → Sound u h → Good u m (onStartView u m v h)
+  pub onStartView-good : (m : State) (v : ℕ) (h : Held) → StoredSound u h → Good u m (onStartView u m v h)
   unfolding onStartView joined
   onStartView-good m v h p =
       cases _ _ _ (λ _. ignored-good) λ view.
@@ -367,7 +367,7 @@ module _ (u : Setup) where
       cases _ _ _ (λ _. ignored-good) (λ _. moved _ _ (still (le-refl _) refl refl))
 
   noted-next : (m : State) (r : ℕ) (d : Response) → SoundResponse u d → Next u m (noted m r d)
-  unfolding noted withStore
+  unfolding noted setStore
   noted-next m r d p =
       record {
         view-up = le-refl _;
@@ -376,9 +376,9 @@ module _ (u : Setup) where
             λ i. record { reports = i .store .reports; responses = every-set (SoundResponse u) (m .store .responses) r d (i .store .responses) p };
       }
 
-  recovered-next : (m : State) (v : ℕ) (h : Held) → m .place .view ≤ v → (Inv u m → Sound u h) → agree (m .book .commit) (h .log) (m .book .log) ≡ true
+  recovered-next : (m : State) (v : ℕ) (h : Held) → m .place .view ≤ v → (Inv u m → StoredSound u h) → agree (m .book .commit) (h .log) (m .book .log) ≡ true
       → Next u m (recovered u m v h)
-  unfolding recovered forgotten enterNormal withStore clearedStore noReports noResponses
+  unfolding recovered forgotten enterNormal setStore clearedStore noReports noResponses
   recovered-next m v h up p a =
       record {
         view-up = up;
@@ -386,7 +386,7 @@ module _ (u : Setup) where
         store-ok = λ i. record { reports = every-none (SoundReport u) (u .n); responses = every-none (SoundResponse u) (u .n) };
       }
 
-  recoverWith-good : (m : State) (v w : ℕ) (h : Option Held) → (Inv u m → At (Sound u) h) → Good u m (recoverWith u m v w h)
+  recoverWith-good : (m : State) (v w : ℕ) (h : Option Held) → (Inv u m → At (StoredSound u) h) → Good u m (recoverWith u m v w h)
   unfolding recoverWith
   recoverWith-good m v w none p = ignored-good
   recoverWith-good m v w (some h) p =
@@ -407,7 +407,7 @@ module _ (u : Setup) where
       cases _ _ _ (λ _. ignored-good) λ _.
       recoverFrom-good m v _ (λ i. every-get (SoundResponse u) (m .store .responses) (primary u v) (i .store .responses))
 
-  pub response-good : (m : State) (v x r : ℕ) (h : Option Held) → At (Sound u) h → Good u m (onRecoveryResponse u m v x r h)
+  pub response-good : (m : State) (v x r : ℕ) (h : Option Held) → At (StoredSound u) h → Good u m (onRecoveryResponse u m v x r h)
   unfolding onRecoveryResponse
   response-good m v x r h p =
       cases _ _ _ (λ _. ignored-good) (λ _. since (noted-next m r _ p) (recoverLatest-good _ _))

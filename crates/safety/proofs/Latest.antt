@@ -14,29 +14,29 @@ use Rattle.numbers.proofs.WordLaws.{split₂, and-true}
 use Rattle.entries.specs.Rising.{follows, rising}
 use Rattle.entries.specs.declared.Entry.{Entry}
 use Rattle.config.specs.declared.Setup.{Setup}
-use Rattle.model.specs.State.{Row, State}
-use Rattle.model.specs.Book.{Seen, find, put, rowOf}
+use Rattle.model.specs.State.{ClientEntry, State}
+use Rattle.model.specs.Book.{Seen, find, put, entryRow}
 use Rattle.model.proofs.LogLift.{rising-front}
 use Rattle.model.proofs.LatestLaws.{Latest, latest-none, latest-same, latest-more, unbroken, latest-lift}
-use Rattle.safety.specs.Demand.{bare, rowsOf, Safe}
+use Rattle.safety.specs.Demand.{bare, rowsLeftBy, Safe}
 use Rattle.safety.proofs.Tables.{bare-there}
 
 -- ---- what entries leave
 
-bare-request : (t : List Row) (c : ℕ) → find t c .request ≡ find (bare t) c .request
+bare-request : (t : List ClientEntry) (c : ℕ) → find t c .request ≡ find (bare t) c .request
 unfolding bare find
 bare-request [] c = refl
 bare-request (r ∷ rs) c = split₂ (λ (a b : Seen). a .request ≡ b .request) _ _ _ _ _ _ refl (λ _. refl) (λ _. bare-request rs c)
 
-rows-latest : (t : List Row) (es fs : List Entry) → Latest t es → rising (es ++ fs) ≡ true → Latest (rowsOf t fs) (es ++ fs)
-unfolding rowsOf
+rows-latest : (t : List ClientEntry) (es fs : List Entry) → Latest t es → rising (es ++ fs) ≡ true → Latest (rowsLeftBy t fs) (es ++ fs)
+unfolding rowsLeftBy
 rows-latest t es [] l h = rw (append-nil es) l
 rows-latest t es (f ∷ fs) l h =
     let p : es ++ (f ∷ []) ++ fs ≡ es ++ f ∷ fs = append-snoc es f fs in
     let g : rising (es ++ (f ∷ []) ++ fs) ≡ true = ap rising p ∙ h in
-    rw (← p) (rows-latest (put t (rowOf f none)) (es ++ (f ∷ [])) fs (latest-more f t none es l (rising-front (es ++ (f ∷ [])) fs g)) g)
+    rw (← p) (rows-latest (put t (entryRow f none)) (es ++ (f ∷ [])) fs (latest-more f t none es l (rising-front (es ++ (f ∷ [])) fs g)) g)
 
-table-latest : (t : List Row) (es : List Entry) → bare t ≡ rowsOf [] es → rising es ≡ true → Latest t es
+table-latest : (t : List ClientEntry) (es : List Entry) → bare t ≡ rowsLeftBy [] es → rising es ≡ true → Latest t es
 table-latest t es p h =
     latest-same (bare t) t es (λ c. sym (bare-there t c)) (λ c. sym (bare-request t c)) (rw p (rows-latest [] [] es latest-none h))
 

@@ -30,22 +30,22 @@ use Rattle.frames.specs.declared.Message.the-variants.{Request, Prepare, Prepar
 use Rattle.frames.specs.declared.Checked.{Checked}
 use Rattle.frames.specs.declared.Checked.the-variants.{Passed, Refused}
 use Rattle.frames.proofs.RefusalLaws.{Fit, passed}
-use Rattle.model.specs.State.{Book, Held, Report, Response, State, Sent, Reply, Answer}
+use Rattle.model.specs.State.{Book, Held, Reported, Response, State, Sent, Reply, Answer}
 use Rattle.model.specs.State.Answer.{refused, done}
-use Rattle.model.specs.State.{after, ignored, withBook, withStore, withVotes, withClock, withAcks, opOf}
+use Rattle.model.specs.State.{after, ignored, setBook, setStore, setVotes, setClock, setAcks, opOf}
 use Rattle.model.specs.Book.{appendAll, commitUpTo, install}
 use Rattle.model.specs.Sending.{primary}
-use Rattle.model.specs.Normal.{heardBy, committed, resend, blanked, filledGap, committedThen, onRequest, acceptFromPrimary}
+use Rattle.model.specs.Normal.{heardFromPrimary, committed, resend, blanked, filledGap, committedThen, onRequest, acceptFromPrimary}
 use Rattle.model.specs.Normal.{stateTransfer, prepared, takePrepare, onPrepare, takeCommit, onCommit, onPrepareOk, onGetState, fillGap, caughtUp, catchUp, onNewState}
 use Rattle.model.specs.ViewChange.{enterNormal, catchUpWithView, startedWith, startView, startChosen, recordDoViewChange, sendDoViewChange}
 use Rattle.model.specs.ViewChange.{maybeSendDoViewChange, startViewChange, onStartViewChange, onDoViewChange, joined, onStartView}
 use Rattle.model.specs.Recovery.{latestView, forgotten, onRecovery, recovered, recoverWith, recoverFrom, recoverLatest, onRecoveryResponse}
-use Rattle.model.specs.Steps.{fitted, carriedLog, heldIn, stateOk, onMessage, onChecked, primaryTick, nextView, followTick, changeTick, onIdle, onFrame, onTick, newAt}
+use Rattle.model.specs.Steps.{fitted, carriedLog, heldIn, numbersOk, onMessage, onChecked, primaryTick, nextView, followTick, changeTick, onIdle, onFrame, onTick, newAt}
 use Rattle.model.proofs.BookLaws.{commitAll-log}
 use Rattle.book.proofs.EntryRules.{num-fits, entry-fits}
 use Rattle.safety.specs.Demand.{Call, answer, run, Created, At, Every, Safe}
 use Rattle.safety.specs.Demand.Call.{frame, tick}
-use Rattle.safety.specs.Ranges.{All, BytesOf, BytesIn, HeldFits, ReportFits, ResponseFits, Ranges}
+use Rattle.safety.specs.Ranges.{All, BytesOf, BytesIn, HeldFits, ReportedFits, ResponseFits, Ranges}
 use Rattle.safety.proofs.Handlers.{every-get, chosen-has}
 use Rattle.safety.proofs.Runs.{created, demand3}
 use Rattle.safety.proofs.Changes.{all-append, all-take, all-drop, In, BookIn, ClockIn, ranges-of}
@@ -79,7 +79,7 @@ module _ (u : Setup) (own : u .id < u .n) where
   unfolding ignored
   ignored-fine = same [] []
 
-  heard-fine : {m : State} → Fine u m (ignored (heardBy m))
+  heard-fine : {m : State} → Fine u m (ignored (heardFromPrimary m))
   heard-fine {m} = since (heard-in u m) ignored-fine
 
   -- Request
@@ -104,7 +104,7 @@ module _ (u : Setup) (own : u .id < u .n) where
   catching-fine m v fits up = cases _ _ _ (λ _. ignored-fine) (λ _. went _ _ (catching-in u m v fits up))
 
   from-primary : (m : State) (v : ℕ) (rest : Answer) → v < 4294967296 → Fine u m rest → Fine u m (acceptFromPrimary u m v rest)
-  unfolding acceptFromPrimary heardBy withClock
+  unfolding acceptFromPrimary heardFromPrimary setClock
   from-primary m v rest fits g =
       cases _ _ _ (λ _. ignored-fine) λ h.
       cases _ _ _ (λ _. catching-fine m v fits (ltb-false _ _ h)) λ _.
@@ -121,13 +121,13 @@ module _ (u : Setup) (own : u .id < u .n) where
   prepared-fine m c = went _ _ (committed-in u m _)
 
   take-prepare : (m : State) (o c : ℕ) (e : Entry) → EntryFits e → Fine u m (takePrepare u m o c e)
-  unfolding takePrepare heardBy withClock
+  unfolding takePrepare heardFromPrimary setClock
   take-prepare m o c e f =
       cases _ _ _ (λ _. since (heard-in u m) (transfer-fine _)) λ _.
       cases _ _ _ (λ _. since (heard-in u m) (prepared-fine _ c)) λ _.
       cases _ _ _ (λ _. refusal 4) λ _.
       cases _ _ _ (λ _. refusal 6) λ _.
-      since (λ i. book-in u (heardBy m) _ (append-in (m .book) e f) (heard-in u m i)) (prepared-fine _ c)
+      since (λ i. book-in u (heardFromPrimary m) _ (append-in (m .book) e f) (heard-in u m i)) (prepared-fine _ c)
 
   prepare-fine : (m : State) (v o c : ℕ) (e : Entry) → v < 4294967296 → EntryFits e → Fine u m (onPrepare u m v o c e)
   unfolding onPrepare
@@ -144,9 +144,9 @@ module _ (u : Setup) (own : u .id < u .n) where
   commit-fine m v c fits = from-primary m v _ fits (take-commit m c)
 
   -- PrepareOk: the rows that go are of ops in the log, which has room
-  blanked-in : (m : State) (o : ℕ) → o ≤ opOf m → Safe u (withAcks (committed m o) (blanked o (m .votes .acks))) → In u m
-      → In u (withAcks (committed m o) (blanked o (m .votes .acks)))
-  unfolding withAcks withVotes committed withBook commitUpTo opOf
+  blanked-in : (m : State) (o : ℕ) → o ≤ opOf m → Safe u (setAcks (committed m o) (blanked o (m .votes .acks))) → In u m
+      → In u (setAcks (committed m o) (blanked o (m .votes .acks)))
+  unfolding setAcks setVotes committed setBook commitUpTo opOf
   blanked-in m o h s i =
       let room : length (m .book .log) ≤ u .room = rw commitAll-log at (s .log-fits) in
       acks-in u (committed m o) _ (blanked-acks u (m .votes .acks) o (omega arith)) (committed-in u m o i)
@@ -167,10 +167,10 @@ module _ (u : Setup) (own : u .id < u .n) where
   getState-fine m r v o = cases _ _ _ (λ _. ignored-fine) (λ _. same _ _)
 
   filled-in : (m : State) (c : ℕ) (es : List Entry) → All EntryFits es → In u m → In u (filledGap m c es)
-  unfolding filledGap heardBy withClock
+  unfolding filledGap heardFromPrimary setClock
   filled-in m c es f i =
       status-in u _ _
-      (book-in u (heardBy m) _ (λ b. commit-in (appendAll (m .book) es) c (appendAll-in (m .book) es f b)) (heard-in u m i))
+      (book-in u (heardFromPrimary m) _ (λ b. commit-in (appendAll (m .book) es) c (appendAll-in (m .book) es f b)) (heard-in u m i))
 
   gap-fine : (m : State) (a z c : ℕ) (es : List Entry) → All EntryFits es → Fine u m (fillGap u m a z c es)
   unfolding fillGap
@@ -218,16 +218,16 @@ module _ (u : Setup) (own : u .id < u .n) where
       cases _ _ _ (λ _. refusal 7) λ _.
       moved _ _ (started-in m _ (λ i. installed-in m log c (f i) i))
 
-  chosen-fine : (m : State) (o : Option Report) (out : List Sent) → (In u m → At ReportFits o) → Fine u m (startChosen u m o out)
+  chosen-fine : (m : State) (o : Option Reported) (out : List Sent) → (In u m → At ReportedFits o) → Fine u m (startChosen u m o out)
   unfolding startChosen
   chosen-fine m none out f = same _ _
   chosen-fine m (some best) out f = startView-fine m (best .held .log) _ out (λ i. f i .entries-fit)
 
-  record-fine : (m : State) (r : ℕ) (d : Report) (out : List Sent) → (In u m → ReportFits d) → Fine u m (recordDoViewChange u m r d out)
+  record-fine : (m : State) (r : ℕ) (d : Reported) (out : List Sent) → (In u m → ReportedFits d) → Fine u m (recordDoViewChange u m r d out)
   unfolding recordDoViewChange
   record-fine m r d out f =
       cases _ _ _ (λ _. went _ _ (λ i. recorded-in u m r d (f i) i)) λ _.
-      since (λ i. recorded-in u m r d (f i) i) (chosen-fine _ _ out (λ i. chosen-has ReportFits _ (i .store .reports)))
+      since (λ i. recorded-in u m r d (f i) i) (chosen-fine _ _ out (λ i. chosen-has ReportedFits _ (i .store .reports)))
 
   send-fine : (m : State) (out : List Sent) → Fine u m (sendDoViewChange u m out)
   unfolding sendDoViewChange
@@ -251,7 +251,7 @@ module _ (u : Setup) (own : u .id < u .n) where
       cases _ _ _ (λ _. same _ _) (λ _. ignored-fine)
 
   -- DoViewChange
-  doViewChange-fine : (m : State) (v r : ℕ) (d : Report) → v < 4294967296 → ReportFits d → Fine u m (onDoViewChange u m v r d)
+  doViewChange-fine : (m : State) (v r : ℕ) (d : Reported) → v < 4294967296 → ReportedFits d → Fine u m (onDoViewChange u m v r d)
   unfolding onDoViewChange
   doViewChange-fine m v r d fits f =
       cases _ _ _ (λ _. ignored-fine) λ up.
@@ -286,7 +286,7 @@ module _ (u : Setup) (own : u .id < u .n) where
   latest-fits (some a ∷ xs) f = omega (arith, f .0 .view-fits, latest-fits xs (f .1))
 
   recovered-in : (m : State) (v : ℕ) (h : Held) → v < 4294967296 → HeldFits h → In u m → In u (recovered u m v h)
-  unfolding recovered forgotten withStore
+  unfolding recovered forgotten setStore
   recovered-in m v h fits f i =
       entered-in u (forgotten u m) v _ _ fits (installed-in m (h .log) (h .commit) f i) (i .votes .acks) (forgotten-in u m i)
 
@@ -448,7 +448,7 @@ run-in u m own safe i (c ∷ cs) b =
 -- in their ranges.
 pub ranges : (u : Setup) (m : State) → Created u m → m .place .view < 4294967296 → m .store .nonce < 18446744073709551616
     → (cs : List Call) → BytesIn cs → Ranges u (run u m cs)
-unfolding newAt stateOk run
+unfolding newAt numbersOk run
 ranges u m from view nonce cs bytes =
     let safe : (ds : List Call) → Safe u (run u m ds) = λ ds. demand3 u m from ds [] .safe in
     let sizes : setupOk u ≡ true = and-left _ _ (safe [] .never-1) in

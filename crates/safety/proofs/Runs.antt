@@ -16,13 +16,13 @@ use Rattle.entries.specs.declared.Entry.{Entry}
 use Rattle.config.specs.Setup.{setupOk}
 use Rattle.config.specs.declared.Setup.{Setup}
 use Rattle.frames.specs.declared.Status.{Status}
-use Rattle.model.specs.State.{Held, Report, Response, State, Sent, Reply, Answer, opOf}
+use Rattle.model.specs.State.{Held, Reported, Response, State, Sent, Reply, Answer, opOf}
 use Rattle.model.specs.State.Answer.{refused, done}
-use Rattle.model.specs.Book.{through, answersOf, emptyBook}
+use Rattle.model.specs.Book.{through, resultsOf, emptyBook}
 use Rattle.model.specs.ViewChange.{noReports}
 use Rattle.model.specs.Recovery.{noResponses}
-use Rattle.model.specs.Steps.{fitted, heldOk, heldOkIn, reportsOk, responsesOk, stateOk, newAt, create, recover}
-use Rattle.safety.specs.Demand.{Call, run, Created, bare, rowsOf, At, Every, Sound, SoundReport, SoundResponse, zeros, Safe, Later, Demand3}
+use Rattle.model.specs.Steps.{fitted, heldOk, heldOkIn, reportedOk, responsesOk, numbersOk, newAt, create, recover}
+use Rattle.safety.specs.Demand.{Call, run, Created, bare, rowsLeftBy, At, Every, StoredSound, SoundReport, SoundResponse, zeros, Safe, Later, Demand3}
 use Rattle.safety.specs.Demand.Created.{new, back}
 use Rattle.model.proofs.BookLaws.{through-length, answers-length}
 use Rattle.safety.proofs.Money.{member-total, all-totals}
@@ -54,17 +54,17 @@ rising-at (x ∷ l) d (suc i) (suc j) p h k e = rising-at l d i j (and-right _ _
 -- ---- refusal 1 on a state's numbers
 
 module _ (u : Setup) where
-  held-ok : (h : Held) → Sound u h → heldOk (u .room) h ≡ true
+  held-ok : (h : Held) → StoredSound u h → heldOk (u .room) h ≡ true
   unfolding heldOk
   held-ok h p = and-true _ _ (le-leb _ _ (p .commit-le)) (le-leb _ _ (p .fits))
 
-  reports-ok : (xs : List (Option Report)) → Every (SoundReport u) xs → reportsOk (u .room) xs ≡ true
-  unfolding reportsOk
+  reports-ok : (xs : List (Option Reported)) → Every (SoundReport u) xs → reportedOk (u .room) xs ≡ true
+  unfolding reportedOk
   reports-ok [] p = refl
   reports-ok (none ∷ xs) p = reports-ok xs (p .1)
   reports-ok (some d ∷ xs) p = and-true _ _ (held-ok (d .held) (p .0)) (reports-ok xs (p .1))
 
-  held-in-ok : (h : Option Held) → At (Sound u) h → heldOkIn (u .room) h ≡ true
+  held-in-ok : (h : Option Held) → At (StoredSound u) h → heldOkIn (u .room) h ≡ true
   unfolding heldOkIn
   held-in-ok none p = refl
   held-in-ok (some h) p = held-ok h p
@@ -75,8 +75,8 @@ module _ (u : Setup) where
   responses-ok (none ∷ xs) p = responses-ok xs (p .1)
   responses-ok (some d ∷ xs) p = and-true _ _ (held-in-ok (d .held) (p .0)) (responses-ok xs (p .1))
 
-  state-ok : (m : State) → setupOk u ≡ true → Inv u m → stateOk u m ≡ true
-  unfolding stateOk opOf
+  state-ok : (m : State) → setupOk u ≡ true → Inv u m → numbersOk u m ≡ true
+  unfolding numbersOk opOf
   state-ok m s i =
       and-true _ _ s
       (and-true _ _ (le-leb _ _ (i .book .commit-le))
@@ -86,7 +86,7 @@ module _ (u : Setup) where
   -- ---- creation
 
   new-inv : (t : Status) (v x : ℕ) → Inv u (newAt u t v x)
-  unfolding newAt emptyBook rising through answersOf bare rowsOf noReports noResponses
+  unfolding newAt emptyBook rising through resultsOf bare rowsLeftBy noReports noResponses
   new-inv t v x =
       record {
         book =

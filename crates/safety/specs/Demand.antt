@@ -9,10 +9,10 @@ use lib.ListN.{length, take, getD, replicate}
 use Rattle.entries.specs.Rising.{rising}
 use Rattle.entries.specs.declared.Entry.{Entry}
 use Rattle.config.specs.declared.Setup.{Setup}
-use Rattle.model.specs.State.{Row, Held, Report, Response, State, Sent, Reply, Answer, after}
+use Rattle.model.specs.State.{ClientEntry, Held, Reported, Response, State, Sent, Reply, Answer, after}
 use Rattle.model.specs.State.Answer.{done}
-use Rattle.model.specs.Book.{answersOf, find, put, rowOf, Rises}
-use Rattle.model.specs.Steps.{onFrame, onTick, create, recover, stateOk}
+use Rattle.model.specs.Book.{resultsOf, find, put, entryRow, Rises}
+use Rattle.model.specs.Steps.{onFrame, onTick, create, recover, numbersOk}
 use Rattle.safety.specs.Money.{feesOf, refundsOf, allFees, allRefunds, sum}
 
 -- an outside call, with the sizes of the areas for messages and for replies
@@ -36,14 +36,14 @@ pub data Created (u : Setup) (m : State) : Type 0 where
   back : (v x a : ℕ) (out : List Sent) (rs : List Reply) → recover u v x a ≡ done m out rs → Created u m
 
 -- the rows without their replies
-unfoldable pub bare : List Row → List Row
+unfoldable pub bare : List ClientEntry → List ClientEntry
 bare [] = []
 bare (r ∷ rs) = record { client = r .client; request = r .request; kept = none } ∷ bare rs
 
 -- the rows that entries leave, each put in its turn, none with a reply
-unfoldable pub rowsOf : List Row → List Entry → List Row
-rowsOf t [] = t
-rowsOf t (e ∷ es) = rowsOf (put t (rowOf e none)) es
+unfoldable pub rowsLeftBy : List ClientEntry → List Entry → List ClientEntry
+rowsLeftBy t [] = t
+rowsLeftBy t (e ∷ es) = rowsLeftBy (put t (entryRow e none)) es
 
 -- a place, if it is filled
 abbrev pub At : {A : Type 0} → (A → Type 0) → Option A → Type 0
@@ -56,18 +56,18 @@ Every P [] = Unit
 Every P (x ∷ xs) = At P x × Every P xs
 
 -- a stored log: within the room, rising, its commit number not past it
-pub record Sound (u : Setup) (h : Held) : Type 0 where
+pub record StoredSound (u : Setup) (h : Held) : Type 0 where
   pub fits : length (h .log) ≤ u .room
   pub rises : rising (h .log) ≡ true
   pub commit-le : h .commit ≤ length (h .log)
 
 -- a stored DoViewChange
-abbrev pub SoundReport : Setup → Report → Type 0
-SoundReport u d = Sound u (d .held)
+abbrev pub SoundReport : Setup → Reported → Type 0
+SoundReport u d = StoredSound u (d .held)
 
 -- a stored RecoveryResponse, if it has a state
 abbrev pub SoundResponse : Setup → Response → Type 0
-SoundResponse u d = At (Sound u) (d .held)
+SoundResponse u d = At (StoredSound u) (d .held)
 
 -- M totals of 0
 abbrev pub zeros : Setup → List ℕ
@@ -85,7 +85,7 @@ pub record Safe (u : Setup) (m : State) : Type 0 where
       → getD (m .book .log) i d .client ≡ getD (m .book .log) j d .client
       → getD (m .book .log) i d .request < getD (m .book .log) j d .request
   -- results are the fee rules' answers over the applied entries, from zero
-  pub results-are : m .book .results ≡ answersOf (zeros u) (m .book .applied)
+  pub results-are : m .book .results ≡ resultsOf (zeros u) (m .book .applied)
   pub results-count : length (m .book .results) ≡ m .book .commit
   -- total = fees taken less refunds paid, stated as total + refunds = fees
   pub member-totals :
@@ -95,13 +95,13 @@ pub record Safe (u : Setup) (m : State) : Type 0 where
   -- the table: client ids rise, a row for each client of the log, and but for the replies it is what the log's entries leave
   pub table-rises : Rises (m .book .table)
   pub table-has : (d : Entry) (i : ℕ) → i < length (m .book .log) → find (m .book .table) (getD (m .book .log) i d .client) .there ≡ true
-  pub table-is : bare (m .book .table) ≡ rowsOf [] (m .book .log)
+  pub table-is : bare (m .book .table) ≡ rowsLeftBy [] (m .book .log)
   pub table-fits : length (m .book .table) ≤ length (m .book .log)
   -- stored logs
   pub reports-sound : Every (SoundReport u) (m .store .reports)
   pub responses-sound : Every (SoundResponse u) (m .store .responses)
   -- refusal 1 is never given after a creation
-  pub never-1 : stateOk u m ≡ true
+  pub never-1 : numbersOk u m ≡ true
 
 -- what holds between a state and one that further calls lead to
 pub record Later (m m′ : State) : Type 0 where

@@ -6,7 +6,7 @@ use lib.ListN.{length}
 use Rattle.numbers.specs.Numbers.{Bytes}
 use Rattle.entries.specs.Entries.{EntryFits}
 use Rattle.config.specs.declared.Setup.{Setup}
-use Rattle.model.specs.State.{Held, Report, Response, State}
+use Rattle.model.specs.State.{Held, Reported, Response, State}
 use Rattle.safety.specs.Demand.{Call, At, Every}
 use Rattle.safety.specs.Demand.Call.{frame, tick}
 
@@ -37,7 +37,7 @@ abbrev pub HeldFits : Held → Type 0
 HeldFits h = All EntryFits (h .log)
 
 -- a stored DoViewChange
-pub record ReportFits (d : Report) : Type 0 where
+pub record ReportedFits (d : Reported) : Type 0 where
   pub last-normal : d .lastNormal < 4294967296
   pub entries-fit : HeldFits (d .held)
 
@@ -60,7 +60,7 @@ pub record Ranges (u : Setup) (m : State) : Type 0 where
   pub starts-below : Below (u .n) (m .votes .starts)
   -- a place for each replica id
   pub reports-count : length (m .store .reports) ≡ u .n
-  pub reports-fit : Every ReportFits (m .store .reports)
+  pub reports-fit : Every ReportedFits (m .store .reports)
   pub responses-count : length (m .store .responses) ≡ u .n
   pub responses-fit : Every ResponseFits (m .store .responses)
   -- the clock's counters, to where each is counted

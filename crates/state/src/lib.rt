@@ -44,7 +44,7 @@ pub struct Replica {
 
 // What a call answers: a refusal's number or 0, the state after it, how many bytes of messages and of replies it wrote, and whether it
 // installed a log.
-pub struct Answer {
+pub struct Returned {
     pub code: u8,
     pub state: Replica,
     pub messages: usize,
@@ -276,10 +276,10 @@ pub fn new(setup: Setup, status: Status, view: View, nonce: u64) -> Replica
 }
 
 // A refusal: its number, and the state as it was.
-pub fn refused(code: u8, s: Replica) -> Answer
+pub fn refused(code: u8, s: Replica) -> Returned
     ensures { λ r. ⌜ r ≡ refusal code s ⌝ }
 {
-    Answer {
+    Returned {
         code,
         state: s,
         messages: 0,
@@ -289,10 +289,10 @@ pub fn refused(code: u8, s: Replica) -> Answer
 }
 
 // Done: the new state, and the bytes written.
-pub fn done(s: Replica, messages: usize, replies: usize, installed: bool) -> Answer
+pub fn done(s: Replica, messages: usize, replies: usize, installed: bool) -> Returned
     ensures { λ r. ⌜ r ≡ completed s messages replies installed ⌝ }
 {
-    Answer {
+    Returned {
         code: 0,
         state: s,
         messages,

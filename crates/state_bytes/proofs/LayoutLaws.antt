@@ -30,8 +30,8 @@ use Rattle.state.specs.declared.Report.{Report}
 use Rattle.state.specs.declared.Reports.{Reports}
 use Rattle.frames.specs.Looks.{statusNumber}
 use Rattle.state_bytes.specs.Layout.{flagOk, flagOf, flagNumber, statusOf, setupOf, encodeSetup, clockOf, encodeClock}
-use Rattle.state_bytes.specs.Layout.{reportOf, encodeReport, ReportFits, reportsOf, encodeReports, allReportsOk}
-use Rattle.state_bytes.specs.Layout.{stateOf, encodePlace, encodeVotes, encodeState, StateFits, stateOk, Holds}
+use Rattle.state_bytes.specs.Layout.{reportIn, encodeReport, ReportFits, reportsOf, encodeReports, allReportsOk}
+use Rattle.state_bytes.specs.Layout.{stateOf, encodePlace, encodeVotes, encodeState, StateFits, stateOk, HoldsState}
 
 -- ---- a report as a cell
 
@@ -39,8 +39,8 @@ length-report : (d : Report) → length (encodeReport d) ≡ 14
 unfolding encodeReport big
 length-report d = refl
 
-report-front : (x y : List ℕ) → 14 ≤ length x → reportOf (x ++ y) ≡ reportOf x
-unfolding reportOf
+report-front : (x y : List ℕ) → 14 ≤ length x → reportIn (x ++ y) ≡ reportIn x
+unfolding reportIn
 report-front x y h =
     rw (
       num-front 1 0 x y (omega arith),
@@ -62,8 +62,8 @@ unfolding flagOf flagNumber num big
 flag-back true = refl
 flag-back false = refl
 
-report-back : (d : Report) (rest : List ℕ) → ReportFits d → reportOf (encodeReport d ++ rest) ≡ d
-unfolding reportOf encodeReport big num
+report-back : (d : Report) (rest : List ℕ) → ReportFits d → reportIn (encodeReport d ++ rest) ≡ d
+unfolding reportIn encodeReport big num
 report-back d rest f =
     λ i. record {
       there = flag-back (d .there) i;
@@ -73,7 +73,7 @@ report-back d rest f =
       commit = record { 0 = be-big 4 (d .commit .0) (f .commit) i };
     }
 
-pub report-codec : Codec 14 reportOf encodeReport ReportFits
+pub report-codec : Codec 14 reportIn encodeReport ReportFits
 report-codec = record { width = length-report; front = report-front; back = report-back }
 
 -- ---- the reports, written one behind the other
@@ -81,7 +81,7 @@ report-codec = record { width = length-report; front = report-front; back = repo
 module _ (t : Reports) (a : List ℕ) (seven : length (t .rows) ≡ 7) where
   first-length : (i : ℕ) → i ≤ 7 → length (packed encodeReport (take i (t .rows))) ≡ 14 * i
   first-length i h =
-      packed-length 14 reportOf encodeReport ReportFits report-codec (take i (t .rows))
+      packed-length 14 reportIn encodeReport ReportFits report-codec (take i (t .rows))
       ∙ ap (λ (k : ℕ). 14 * k) (length-take-le i (t .rows) (omega arith))
 
   -- one more
@@ -112,13 +112,13 @@ module _ (t : Reports) (a : List ℕ) (seven : length (t .rows) ≡ 7) where
 -- ---- what was written passes and is read back
 
 rows-back : (k : ℕ) (l : List Report) → length l ≡ k → ((i : ℕ) → i < k → ReportFits (getD l i noReport))
-    → cells 14 reportOf k (packed encodeReport l) ≡ l
+    → cells 14 reportIn k (packed encodeReport l) ≡ l
 unfolding packed cells
 rows-back zero [] e f = refl
 rows-back zero (d ∷ l) e f = absurd (omega arith)
 rows-back (suc k) [] e f = absurd (omega arith)
 rows-back (suc k) (d ∷ l) e f =
-    cells-one 14 reportOf encodeReport ReportFits report-codec k d (packed encodeReport l) (f 0 (omega arith))
+    cells-one 14 reportIn encodeReport ReportFits report-codec k d (packed encodeReport l) (f 0 (omega arith))
     ∙ ap (λ (x : List Report). d ∷ x) (rows-back k l (omega arith) (λ i h. f (suc i) (omega arith)))
 
 flag-passes : (b : Bool) → flagOk (num 1 0 (big 1 (flagNumber b))) ≡ true
@@ -162,7 +162,7 @@ module _ (s : Replica) (f : StateFits s) where
   reports-length : length (encodeReports (s .reports)) ≡ 98
   unfolding encodeReports
   reports-length =
-      packed-length 14 reportOf encodeReport ReportFits report-codec (s .reports .rows) ∙ ap (λ (k : ℕ). 14 * k) (f .reports .seven)
+      packed-length 14 reportIn encodeReport ReportFits report-codec (s .reports .rows) ∙ ap (λ (k : ℕ). 14 * k) (f .reports .seven)
 
   state-length : length (encodeState s) ≡ 146
   unfolding encodeState encodeSetup encodePlace encodeClock encodeVotes big
@@ -206,10 +206,10 @@ module _ (s : Replica) (f : StateFits s) where
         reports = record { rows = rows-back 7 (s .reports .rows) (f .reports .seven) (f .reports .each) i };
       }
 
-  pub bytes-held : {run : List ℕ} → run ≡ encodeState s → Holds s run
+  pub bytes-held : {run : List ℕ} → run ≡ encodeState s → HoldsState s run
   bytes-held e = record { bytes = e; ok = rw e state-passes; back = rw e state-back }
 
-  pub state-held : {run : List ℕ} (before : List ℕ) → length before ≡ 146 → run ≡ over (encodeState s) before → Holds s run
+  pub state-held : {run : List ℕ} (before : List ℕ) → length before ≡ 146 → run ≡ over (encodeState s) before → HoldsState s run
   unfolding over
   state-held before l p =
       bytes-held (p ∙ rw (drop-of-length-le before {i = length (encodeState s)} (omega (arith, state-length)), append-nil (encodeState s)))

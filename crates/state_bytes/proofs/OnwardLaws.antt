@@ -17,24 +17,24 @@ use Rattle.frames.specs.declared.Status.{Status}
 use Rattle.state.specs.State.{withClock}
 use Rattle.state.specs.Statuses.{noReport}
 use Rattle.state.specs.declared.Replica.{Replica}
-use Rattle.state_bytes.specs.Layout.{flagNumber, setupOf, encodeSetup, clockOf, encodeClock, reportOf, ReportFits, reportsOf, ReportsFit}
-use Rattle.state_bytes.specs.Layout.{stateOf, encodePlace, encodeVotes, encodeState, StateFits, onward, Onward, Clocked, stateOk, Holds}
+use Rattle.state_bytes.specs.Layout.{flagNumber, setupOf, encodeSetup, clockOf, encodeClock, reportIn, ReportFits, reportsOf, ReportsFit}
+use Rattle.state_bytes.specs.Layout.{stateOf, encodePlace, encodeVotes, encodeState, StateFits, onward, Onward, Clocked, stateOk, HoldsState}
 use Rattle.state_bytes.proofs.LayoutLaws.{bytes-held}
 use Rattle.state_bytes.proofs.ReadLaws.{state-long}
 use Rattle.state_bytes.proofs.WholeLaws.{state-whole}
 
 -- ---- what is read from bytes fits
 
-report-fits : (s : List ℕ) → Bytes s → 14 ≤ length s → ReportFits (reportOf s)
-unfolding reportOf
+report-fits : (s : List ℕ) → Bytes s → 14 ≤ length s → ReportFits (reportIn s)
+unfolding reportIn
 report-fits s b h = record { view = num-lt 4 2 s b (omega arith); op = num-lt 4 6 s b (omega arith); commit = num-lt 4 10 s b (omega arith) }
 
 reports-fit : (s : List ℕ) → Bytes s → length s ≡ 98 → ReportsFit (reportsOf s)
 unfolding reportsOf
 reports-fit s b h =
     record {
-      seven = cells-length 14 reportOf 7 s;
-      each = λ i l. subst ReportFits (sym (cells-get 14 reportOf 7 s i noReport l))
+      seven = cells-length 14 reportIn 7 s;
+      each = λ i l. subst ReportFits (sym (cells-get 14 reportIn 7 s i noReport l))
           (report-fits (drop (14 * i) s) (drop-bytes (14 * i) s b) (rw length-drop (omega arith)));
     }
 
@@ -89,7 +89,7 @@ module _ (run : List ℕ) (b : Bytes run) (ok : stateOk run ≡ true) where
   place-front = sym (over-whole (encodeSetup (stateOf run .setup) ++ encodePlace (stateOf run)) (state-whole run b ok))
 
   pub onward-held : {t : Replica} → Onward (stateOf run) t → t .op .0 < 2 ^ 32 → t .commit .0 < 2 ^ 32 → {after : List ℕ}
-      → after ≡ over ((encodeSetup (stateOf run .setup) ++ encodePlace t) ++ big 1 (flagNumber (t .clock .heard))) run → Holds t after
+      → after ≡ over ((encodeSetup (stateOf run .setup) ++ encodePlace t) ++ big 1 (flagNumber (t .clock .heard))) run → HoldsState t after
   unfolding stateOf clockOf
   onward-held {t} w p q {after} e =
       let flag = big 1 (flagNumber (t .clock .heard)) in
@@ -100,14 +100,14 @@ module _ (run : List ℕ) (b : Bytes run) (ok : stateOk run ≡ true) where
       let fits = state-fits run b l (t .status) (t .op) (t .commit) true (onward (stateOf run) (t .status) (t .op) (t .commit) (t .clock .heard) .clock) p q
       (num-lt 4 1 r c (omega arith)) (num-lt 2 5 r c (omega arith)) (num-lt 1 7 r c (omega arith)) in
       let same = ap (λ (x : Replica). over ((encodeSetup (stateOf run .setup) ++ encodePlace x) ++ flag) run) w in
-      subst (λ (x : Replica). Holds x after) (sym w) (bytes-held _ fits (e ∙ same ∙ over-whole _ (onward-bytes (stateOf run) _ _ _ _)))
+      subst (λ (x : Replica). HoldsState x after) (sym w) (bytes-held _ fits (e ∙ same ∙ over-whole _ (onward-bytes (stateOf run) _ _ _ _)))
 
   pub clocked-held : {t : Replica} → Clocked (stateOf run) t → t .clock .waiting < 2 ^ 32 → t .clock .stable < 2 ^ 16 → t .clock .attempts < 2 ^ 8
       → {after : List ℕ} → after ≡ over ((encodeSetup (stateOf run .setup) ++ encodePlace (stateOf run)) ++ encodeClock (t .clock)) run
-      → Holds t after
+      → HoldsState t after
   unfolding stateOf
   clocked-held {t} w p q r {after} e =
       let s = stateOf run in
       let l = state-long run ok in
       let fits = state-fits run b l (s .status) (s .op) (s .commit) true (t .clock) (num-lt 4 22 run b (omega arith)) (num-lt 4 26 run b (omega arith)) p q r in
-      subst (λ (x : Replica). Holds x after) (sym w) (bytes-held _ fits (e ∙ over-whole _ (clocked-bytes s (t .clock))))
+      subst (λ (x : Replica). HoldsState x after) (sym w) (bytes-held _ fits (e ∙ over-whole _ (clocked-bytes s (t .clock))))

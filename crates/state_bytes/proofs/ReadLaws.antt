@@ -25,7 +25,7 @@ use Rattle.state.specs.declared.Replica.{Replica}
 use Rattle.state.specs.declared.Report.{Report}
 use Rattle.state.specs.declared.Reports.{Reports}
 use Rattle.state_bytes.specs.Layout.{flagOk, flagOf, statusOf, setupOf, clockOf}
-use Rattle.state_bytes.specs.Layout.{reportOf, reportsOf, allReportsOk}
+use Rattle.state_bytes.specs.Layout.{reportIn, reportsOf, allReportsOk}
 use Rattle.state_bytes.specs.Layout.{stateOf, stateOk}
 
 -- ---- reading by places
@@ -66,8 +66,8 @@ module _ (s : List ℕ) (at : ℕ) where
 
   pub reportOf-at : {there full : Bool} {view : View} {op commit : Op} → there ≡ flagOf (num 1 at s) → full ≡ flagOf (num 1 (at + 1) s)
       → view ≡ viewAt (at + 2) s → op ≡ opAt (at + 6) s → commit ≡ opAt (at + 10) s
-      → _≡_ {A = Report} (record { there = there; full = full; view = view; op = op; commit = commit }) (reportOf (drop at s))
-  unfolding reportOf
+      → _≡_ {A = Report} (record { there = there; full = full; view = view; op = op; commit = commit }) (reportIn (drop at s))
+  unfolding reportIn
   reportOf-at p q r t u =
       λ i. record {
         there = (p ∙ ap flagOf (num-at 1)) i;
@@ -77,9 +77,9 @@ module _ (s : List ℕ) (at : ℕ) where
         commit = (u ∙ ap (λ (k : ℕ). record { 0 = k }) (num-behind 4 10)) i;
       }
 
-  pub reportsOf-at : {d0 d1 d2 d3 d4 d5 d6 : Report} → d0 ≡ reportOf (drop at s) → d1 ≡ reportOf (drop (at + 14) s)
-      → d2 ≡ reportOf (drop (at + 28) s) → d3 ≡ reportOf (drop (at + 42) s) → d4 ≡ reportOf (drop (at + 56) s)
-      → d5 ≡ reportOf (drop (at + 70) s) → d6 ≡ reportOf (drop (at + 84) s)
+  pub reportsOf-at : {d0 d1 d2 d3 d4 d5 d6 : Report} → d0 ≡ reportIn (drop at s) → d1 ≡ reportIn (drop (at + 14) s)
+      → d2 ≡ reportIn (drop (at + 28) s) → d3 ≡ reportIn (drop (at + 42) s) → d4 ≡ reportIn (drop (at + 56) s)
+      → d5 ≡ reportIn (drop (at + 70) s) → d6 ≡ reportIn (drop (at + 84) s)
       → _≡_ {A = Reports} (record { rows = d0 ∷ d1 ∷ d2 ∷ d3 ∷ d4 ∷ d5 ∷ d6 ∷ [] }) (reportsOf (drop at s))
   unfolding reportsOf cells
   reportsOf-at p0 p1 p2 p3 p4 p5 p6 =

@@ -17,7 +17,7 @@ use Rattle.numbers.proofs.WordLaws.{if-false, and-both}
 use Rattle.numbers.proofs.NumberLaws.{big-num, num-drop, drop-bytes}
 use Rattle.frames.specs.Looks.{statusNumber}
 use Rattle.state_bytes.specs.Layout.{flagOk, flagOf, flagNumber, statusOf, setupOf, encodeSetup, clockOf, encodeClock}
-use Rattle.state_bytes.specs.Layout.{reportOf, encodeReport, reportsOf, encodeReports, allReportsOk}
+use Rattle.state_bytes.specs.Layout.{reportIn, encodeReport, reportsOf, encodeReports, allReportsOk}
 use Rattle.state_bytes.specs.Layout.{stateOf, encodePlace, encodeVotes, encodeState, stateOk}
 use Rattle.state_bytes.proofs.ReadLaws.{state-long}
 
@@ -67,8 +67,8 @@ clock-whole s b h f =
     )
 
 report-whole : (s : List ℕ) → Bytes s → 14 ≤ length s → flagOk (num 1 0 s) ≡ true → flagOk (num 1 1 s) ≡ true
-    → encodeReport (reportOf s) ≡ take 14 s
-unfolding encodeReport reportOf
+    → encodeReport (reportIn s) ≡ take 14 s
+unfolding encodeReport reportIn
 report-whole s b h f g =
     rw (
       flag-kept (num 1 0 s) f,
@@ -85,7 +85,7 @@ report-whole s b h f g =
     )
 
 rows-whole : (k : ℕ) (s : List ℕ) → Bytes s → 14 * k ≤ length s → allReportsOk k s ≡ true
-    → packed encodeReport (cells 14 reportOf k s) ≡ take (14 * k) s
+    → packed encodeReport (cells 14 reportIn k s) ≡ take (14 * k) s
 unfolding packed cells allReportsOk
 rows-whole zero s b h f = refl
 rows-whole (suc k) s b h f =
@@ -163,7 +163,7 @@ passed s h =
 -- five parts are the run
 parts : (s : List ℕ) → encodeSetup (setupOf s) ≡ take 12 s → encodePlace (stateOf s) ≡ take 18 (drop 12 s)
     → encodeClock (clockOf (drop 30 s)) ≡ take 8 (drop 30 s) → encodeVotes (stateOf s) ≡ take 10 (drop 38 s)
-    → packed encodeReport (cells 14 reportOf 7 (drop 48 s)) ≡ take 98 (drop 48 s) → length s ≡ 146 → encodeState (stateOf s) ≡ s
+    → packed encodeReport (cells 14 reportIn 7 (drop 48 s)) ≡ take 98 (drop 48 s) → length s ≡ 146 → encodeState (stateOf s) ≡ s
 unfolding encodeState stateOf encodeReports reportsOf
 parts s p q r t u l =
     rw (p, q, r, t, u, ← take-add 12 18 s, ← take-add 30 8 s, ← take-add 38 10 s, ← take-add 48 98 s) (take-all 146 s (omega arith))

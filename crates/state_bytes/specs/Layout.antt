@@ -57,8 +57,8 @@ unfoldable pub encodeClock : Clock → List ℕ
 encodeClock c = big 1 (flagNumber (c .heard)) ++ big 4 (c .waiting) ++ big 2 (c .stable) ++ big 1 (c .attempts)
 
 -- a report
-unfoldable pub reportOf : List ℕ → Report
-reportOf s =
+unfoldable pub reportIn : List ℕ → Report
+reportIn s =
     record { there = flagOf (num 1 0 s); full = flagOf (num 1 1 s); view = viewAt 2 s; op = opAt 6 s; commit = opAt 10 s }
 
 unfoldable pub encodeReport : Report → List ℕ
@@ -73,7 +73,7 @@ pub record ReportFits (d : Report) : Type 0 where
 
 -- one for each replica id
 unfoldable pub reportsOf : List ℕ → Reports
-reportsOf s = record { rows = cells 14 reportOf 7 s }
+reportsOf s = record { rows = cells 14 reportIn 7 s }
 
 unfoldable pub encodeReports : Reports → List ℕ
 encodeReports t = packed encodeReport (t .rows)
@@ -170,7 +170,7 @@ stateOk s =
     leb (num 1 12 s) 3 and flagOk (num 1 21 s) and flagOk (num 1 30 s) and flagOk (num 1 39 s) and allReportsOk 7 (drop 48 s)
 
 -- A writer's promise: the run is the state's bytes, it passes, and the state is read back from it.
-pub record Holds (s : Replica) (run : List ℕ) : Type 0 where
+pub record HoldsState (s : Replica) (run : List ℕ) : Type 0 where
   pub bytes : run ≡ encodeState s
   pub ok : stateOk run ≡ true
   pub back : stateOf run ≡ s

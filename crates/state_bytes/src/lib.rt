@@ -4,7 +4,7 @@ ghost use mathlib.Core.Bool.{true};
 ghost use Prim.Native.Nat.{_≤_};
 ghost use lib.ListN.{length};
 ghost use Rattle.numbers.specs.Numbers.{over};
-ghost use Rattle.state_bytes.specs.Layout.{stateOf, encodePlace, encodeVotes, Onward, Clocked, stateOk, Holds};
+ghost use Rattle.state_bytes.specs.Layout.{stateOf, encodePlace, encodeVotes, Onward, Clocked, stateOk, HoldsState};
 use state::Replica;
 
 mod part; // setup, clock, reports
@@ -58,7 +58,7 @@ fn write_votes(area: &mut [u8], s: Replica)
 // The run holds the state.
 pub fn write_state(run: &mut [u8], s: Replica)
     requires { ⌜ length (now run) ≡ 146 ⌝ }
-    ensures { λ r. ⌜ Holds s (now (run .exit)) ⌝ }
+    ensures { λ r. ⌜ HoldsState s (now (run .exit)) ⌝ }
 {
     let setup = s.setup;
     part::write_setup(run, setup);
@@ -73,7 +73,7 @@ pub fn write_state(run: &mut [u8], s: Replica)
 // The run goes from the state that it holds to one that is further on in the same view: 19 bytes.
 pub fn write_onward(run: &mut [u8], s: Replica)
     requires { ⌜ (stateOk (now run) ≡ true) × Onward (stateOf (now run)) s ⌝ }
-    ensures { λ r. ⌜ Holds s (now (run .exit)) ⌝ }
+    ensures { λ r. ⌜ HoldsState s (now (run .exit)) ⌝ }
 {
     write_place(&mut run[12..], s);
     let clock = s.clock;
@@ -83,7 +83,7 @@ pub fn write_onward(run: &mut [u8], s: Replica)
 // The same where only the clock is another: 8 bytes.
 pub fn write_clocked(run: &mut [u8], s: Replica)
     requires { ⌜ (stateOk (now run) ≡ true) × Clocked (stateOf (now run)) s ⌝ }
-    ensures { λ r. ⌜ Holds s (now (run .exit)) ⌝ }
+    ensures { λ r. ⌜ HoldsState s (now (run .exit)) ⌝ }
 {
     let clock = s.clock;
     part::write_clock(&mut run[30..], clock);

@@ -3,7 +3,7 @@ ghost use mathlib.Core.Path.{_≡_};
 ghost use Prim.Native.Nat.{_+_, _≤_};
 ghost use lib.ListN.{length, drop};
 ghost use Rattle.numbers.specs.Numbers.{over};
-ghost use Rattle.state_bytes.specs.Layout.{setupOf, encodeSetup, clockOf, encodeClock, reportOf, encodeReport, ReportFits, reportsOf, encodeReports, ReportsFit, allReportsOk};
+ghost use Rattle.state_bytes.specs.Layout.{setupOf, encodeSetup, clockOf, encodeClock, reportIn, encodeReport, ReportFits, reportsOf, encodeReports, ReportsFit, allReportsOk};
 use crate::flag;
 use clock::Clock;
 use config::Setup;
@@ -61,7 +61,7 @@ pub fn write_clock(area: &mut [u8], c: Clock)
 // A report, 14 bytes.
 fn report_at(run: &[u8], at: usize) -> Report
     requires { ⌜ at + 14 ≤ length (now run) ⌝ }
-    ensures { λ r. ⌜ r ≡ reportOf (drop at (now (run .entry))) ⌝ }
+    ensures { λ r. ⌜ r ≡ reportIn (drop at (now (run .entry))) ⌝ }
 {
     Report {
         there: flag::flag_at(run, at),

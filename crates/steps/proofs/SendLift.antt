@@ -29,10 +29,10 @@ use Rattle.writers.specs.Writers.{encode}
 use Rattle.state.specs.Answers.{completed, quiet}
 use Rattle.state.specs.declared.Replica.{Replica}
 use Rattle.steps.specs.Steps.{spoke}
-use Rattle.model.specs.State.{Row, Book, State, Sent, Reply, Answer, ignored}
+use Rattle.model.specs.State.{ClientEntry, Book, State, Sent, Reply, Answer, ignored}
 use Rattle.model.specs.State.Answer.{refused, done}
 use Rattle.model.specs.Sending.{sentBytes, messagesOut, repliesOut, send, toOthersBelow, toOthers}
-use Rattle.layout.specs.Layout.{Runs, bookOf, modelOf}
+use Rattle.layout.specs.Layout.{LentRuns, bookOf, modelOf}
 use Rattle.model.specs.Steps.{fitted}
 use Rattle.layout.specs.Shown.{Given, Step, Grew, Did, Shown}
 use Rattle.steps.proofs.StepLift.{ofSpoke, quiet-shown, no-growth}
@@ -59,10 +59,10 @@ module _ (u : Setup) (x : Message) where
   bare-bytes = others-bytes []
 
 -- what a step leaves that wrote the messages w and the replies y
-abbrev pub told : Given → Replica → Runs → Bool → (w y : List ℕ) (k j : ℕ) → Step
+abbrev pub told : Given → Replica → LentRuns → Bool → (w y : List ℕ) (k j : ℕ) → Step
 told c t x installed w y k j = record { answer = completed t k j installed; runs = x; out = over w (c .out); reps = over y (c .reps) }
 
-pub told-did : (c : Given) (t : Replica) (x : Runs) (installed : Bool) (b : Book) (m′ : State) → t .setup ≡ c .state .setup
+pub told-did : (c : Given) (t : Replica) (x : LentRuns) (installed : Bool) (b : Book) (m′ : State) → t .setup ≡ c .state .setup
     → modelOf t x (m′ .book .table) (m′ .book .applied) ≡ m′ → Grew b installed (m′ .book)
     → (ms : List Sent) (rs : List Reply) (w y : List ℕ) (k j : ℕ) → messagesOut ms ≡ w → length w ≡ k → repliesOut rs ≡ y → length y ≡ j
     → Did c (told c t x installed w y k j) b m′ ms rs
@@ -94,7 +94,7 @@ pub silent : (a b : ℕ) (m : State) → fitted a b (done m [] []) ≡ done m []
 unfolding repliesOut packed
 silent a b m = replies-only a b m [] ∙ if-false _ (refused 10) (done m [] []) (le-ltb b 0 (omega arith))
 
-module _ (c : Given) (table : List Row) (applied : List Entry) where
+module _ (c : Given) (table : List ClientEntry) (applied : List Entry) where
   abbrev now : State
   now = modelOf (c .state) (c .runs) table applied
 

@@ -17,16 +17,16 @@ use Rattle.config.specs.Setup.{primaryOf}
 use Rattle.config.proofs.SetupLaws.{sized}
 use Rattle.frames.specs.declared.Message.the-variants.{PrepareOk, GetState}
 use Rattle.writers.specs.Writers.{header, encode}
-use Rattle.book.specs.Runs.{committed}
+use Rattle.book.specs.Runs.{moneyCommitted}
 use Rattle.book.specs.Memory.{Money, money, Runs, runs}
 use Rattle.state.specs.State.{leads, withLog}
 use Rattle.state.specs.Statuses.{isNormal, isChanging}
 use Rattle.state.specs.Answers.{refusal, completed}
-use Rattle.state.specs.declared.Answer.{Answer}
+use Rattle.state.specs.declared.Returned.{Returned}
 use Rattle.state.specs.declared.Replica.{Replica}
 use Rattle.steps.specs.declared.Accept.{Accept}
 use Rattle.steps.specs.declared.Accept.the-variants.{Ignore, Hear, Join, Rejoin, Take}
-use Rattle.steps.specs.Steps.{Sound, spoke, left, acceptChanging, acceptOf, committedTo, settled, asked, prepareOkOf, acked}
+use Rattle.steps.specs.Steps.{Sound, spoke, left, acceptChanging, acceptOf, committedTo, settled, askedForState, prepareOkOf, committedAndAcked}
 
 -- accept_from_primary
 module _ (s : Replica) (v : View) where
@@ -59,7 +59,7 @@ module _ (s : Replica) (v : View) where
 module _ (s : Replica) (k : Op) (log results totals : List ℕ) where
   pub commits-nothing : k .0 ≤ s .commit .0
       → (s ≡ committedTo s k) × (runs log results totals ≡ settled s k (runs log results totals))
-  unfolding settled committed
+  unfolding settled moneyCommitted
   commits-nothing h =
       let m : max (s .commit .0) (k .0) ≡ s .commit .0 = omega arith in
       let z : k .0 - s .commit .0 ≡ 0 = omega arith in
@@ -83,7 +83,7 @@ module _ (s : Replica) (k : Op) (log results totals : List ℕ) where
       )
 
   pub commits : (t : Replica) (rs ts : List ℕ) → s .commit .0 < k .0 → t ≡ withLog s (s .op) k
-      → money rs ts ≡ committed (s .setup .members) log (s .commit .0) (k .0 - s .commit .0) (money results totals)
+      → money rs ts ≡ moneyCommitted (s .setup .members) log (s .commit .0) (k .0 - s .commit .0) (money results totals)
       → (t ≡ committedTo s k) × (runs log rs ts ≡ settled s k (runs log results totals))
   unfolding settled
   commits t rs ts h p q =
@@ -92,17 +92,17 @@ module _ (s : Replica) (k : Op) (log results totals : List ℕ) where
 
 -- send_get_state
 module _ (s t : Replica) (at : Op) (out : List ℕ) where
-  pub asks-short : (a : Answer) → length out < 16 → a ≡ refusal 9 s → spoke a out ≡ asked s t at out
-  unfolding asked if_then_else_
+  pub asks-short : (a : Returned) → length out < 16 → a ≡ refusal 9 s → spoke a out ≡ askedForState s t at out
+  unfolding askedForState if_then_else_
   asks-short a h p = rw (lt-ltb (length out) 16 h, p)
 
   get-state-length : (to : ℕ) → length (encode to (GetState (t .setup .id) (t .view) at) []) ≡ 16
   unfolding encode header big
   get-state-length to = refl
 
-  pub asks : (a : Answer) (to w : ℕ) (o : List ℕ) → 16 ≤ length out → to ≡ primaryOf (t .setup .n) (t .view)
-      → Wrote (encode to (GetState (t .setup .id) (t .view) at) []) out o w → a ≡ completed t w 0 false → spoke a o ≡ asked s t at out
-  unfolding asked if_then_else_
+  pub asks : (a : Returned) (to w : ℕ) (o : List ℕ) → 16 ≤ length out → to ≡ primaryOf (t .setup .n) (t .view)
+      → Wrote (encode to (GetState (t .setup .id) (t .view) at) []) out o w → a ≡ completed t w 0 false → spoke a o ≡ askedForState s t at out
+  unfolding askedForState if_then_else_
   asks a to w o h p q e = rw (le-ltb (length out) 16 h, e, q .bytes, q .count, get-state-length to, p)
 
 -- send_prepare_ok
@@ -114,11 +114,11 @@ module _ (s : Replica) (out : List ℕ) where
 
 -- acknowledge
 module _ (s t : Replica) (k : Op) (installed : Bool) (x : Runs) (out : List ℕ) where
-  pub acks-short : (a : Answer) → length out < 16 → a ≡ refusal 9 s → left a x out ≡ acked s t k installed x out
-  unfolding acked if_then_else_
+  pub acks-short : (a : Returned) → length out < 16 → a ≡ refusal 9 s → left a x out ≡ committedAndAcked s t k installed x out
+  unfolding committedAndAcked if_then_else_
   acks-short a h p = rw (lt-ltb (length out) 16 h, p)
 
-  pub acks : (a : Answer) (u : Replica) (y : Runs) (w : ℕ) (o : List ℕ) → 16 ≤ length out → u ≡ committedTo t k → y ≡ settled t k x
-      → w ≡ 16 → o ≡ over (prepareOkOf u) out → a ≡ completed u w 0 installed → left a y o ≡ acked s t k installed x out
-  unfolding acked if_then_else_
+  pub acks : (a : Returned) (u : Replica) (y : Runs) (w : ℕ) (o : List ℕ) → 16 ≤ length out → u ≡ committedTo t k → y ≡ settled t k x
+      → w ≡ 16 → o ≡ over (prepareOkOf u) out → a ≡ completed u w 0 installed → left a y o ≡ committedAndAcked s t k installed x out
+  unfolding committedAndAcked if_then_else_
   acks a u y w o h p q e b c = rw (le-ltb (length out) 16 h, c, q, e, b, p)

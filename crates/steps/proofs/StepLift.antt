@@ -38,18 +38,18 @@ use Rattle.state.specs.declared.Report.{Report}
 use Rattle.state.specs.Answers.{refusal, completed, quiet}
 use Rattle.state.specs.declared.Replica.{Replica}
 use Rattle.book.specs.Memory as Memory
-use Rattle.steps.specs.Steps.{Spoke, Left, spoke, acceptChanging, acceptOf, isTake, asked, deferred, alone}
+use Rattle.steps.specs.Steps.{Spoke, Left, spoke, acceptChanging, acceptOf, isTake, askedForState, deferred, alone}
 use Rattle.book.specs.Memory.{runs}
 use Rattle.steps.proofs.StepLaws.{older, newer, changing, absent, leading, follows}
 use Rattle.steps.specs.declared.Accept.{Accept}
 use Rattle.steps.specs.declared.Accept.the-variants.{Ignore, Hear, Join, Rejoin, Take}
-use Rattle.model.specs.State.{viewOf, Row, Book, State, Sent, Reply, Answer, ignored, withClock}
+use Rattle.model.specs.State.{viewOf, ClientEntry, Book, State, Sent, Reply, Answer, ignored, setClock}
 use Rattle.model.specs.State.Answer.{refused, done}
 use Rattle.model.specs.Sending.{sentBytes, messagesOut, repliesOut, send, primary, isPrimary, toPrimary, sendGetState}
-use Rattle.model.specs.Book.{appendAll, commitAll, due, commitUpTo}
-use Rattle.model.specs.Normal.{heardBy, acceptFromPrimary}
+use Rattle.model.specs.Book.{appendAll, commitAll, dueEntries, commitUpTo}
+use Rattle.model.specs.Normal.{heardFromPrimary, acceptFromPrimary}
 use Rattle.model.specs.ViewChange.{noReports, clearedVotes, clearedStore, catchingUpWith, catchUpWithView}
-use Rattle.layout.specs.Layout.{Runs, reportAt, responseAt, placed, storeOf, bookOf, modelOf}
+use Rattle.layout.specs.Layout.{LentRuns, reportAt, responseAt, placed, storeOf, bookOf, modelOf}
 use Rattle.model.specs.Steps.{fitted}
 use Rattle.layout.specs.Shown.{Given, Step, Grew, Did, Shown}
 use Rattle.layout.specs.Shown.Grew.{more}
@@ -122,9 +122,9 @@ module _ (c : Given) (t : Replica) (b : Book) (at : Op) (m′ : State) (same : t
   unfolding sizeOf lengthOf
   get-state-long = encode-length _ (GetState (t .setup .id) (t .view) at) [] refl
 
-  pub ask-shown : Shown c (ofSpoke c (asked (c .state) t at (c .out))) b
+  pub ask-shown : Shown c (ofSpoke c (askedForState (c .state) t at (c .out))) b
       (fitted (length (c .out)) (length (c .reps)) (done m′ (sendGetState (c .state .setup) m′ (at .0)) []))
-  unfolding asked
+  unfolding askedForState
   ask-shown = spoke-shown c t b m′ same reads grew _ _ 16 get-state-bytes get-state-long
 
 -- ---- accept_from_primary
@@ -155,12 +155,12 @@ ofLeft c d =
     }
 
 -- log, results and totals among the lent runs
-abbrev pub bookRuns : Runs → Memory.Runs
+abbrev pub bookRuns : LentRuns → Memory.Runs
 bookRuns x = runs (x .log) (x .results) (x .totals)
 
 -- a book that a call leaves alone
 pub no-growth : (b : Book) → Grew b false b
-unfolding commitUpTo due commitAll appendAll
+unfolding commitUpTo dueEntries commitAll appendAll
 no-growth b = more [] 0 refl (rw (zero-sub (b .commit)))
 
 transport-grew : {b q q′ : Book} → q ≡ q′ → Grew b false q → Grew b false q′
@@ -186,12 +186,12 @@ pub responses-cleared : (u : Setup) (stored : List ℕ) → u .n ≤ 7
 unfolding responseAt if_then_else_
 responses-cleared u stored h = rw (take-same (u .n) 7 noReport h) (none-placed (responseAt u stored) (λ i. refl) 0 (u .n))
 
-module _ (s : Replica) (x : Runs) (table : List Row) (applied : List Entry) where
+module _ (s : Replica) (x : LentRuns) (table : List ClientEntry) (applied : List Entry) where
   abbrev m : State
   m = modelOf s x table applied
 
-  pub heard-reads : modelOf (S.heardBy s) x table applied ≡ heardBy (modelOf s x table applied)
-  unfolding modelOf storeOf heardBy withClock
+  pub heard-reads : modelOf (S.heardBy s) x table applied ≡ heardFromPrimary (modelOf s x table applied)
+  unfolding modelOf storeOf heardFromPrimary setClock
   heard-reads = refl
 
   -- catch_up_with_view; whoever looks at a primary's message isn't Recovering
@@ -200,7 +200,7 @@ module _ (s : Replica) (x : Runs) (table : List Row) (applied : List Entry) wher
   unfolding modelOf storeOf catchingUpWith clearedVotes clearedStore noReports isRecovering if_then_else_
   catching-reads v h r = rw (reports-cleared (s .setup) (x .stored) h, r)
 
-module _ (c : Given) (table : List Row) (applied : List Entry) (v : View) (few : c .state .setup .n ≤ 7)
+module _ (c : Given) (table : List ClientEntry) (applied : List Entry) (v : View) (few : c .state .setup .n ≤ 7)
     (looks : isRecovering (c .state .status) ≡ false) where
   abbrev now : State
   now = modelOf (c .state) (c .runs) table applied
@@ -226,13 +226,13 @@ module _ (c : Given) (table : List Row) (applied : List Entry) (v : View) (few :
   ignore-shown = quiet-shown c (c .state) (now .book) now refl (kept-reads (c .state) now refl refl) (no-growth (now .book))
 
   abbrev heard : State
-  heard = heardBy now
+  heard = heardFromPrimary now
 
-  heard-book : heardBy now .book ≡ now .book
-  unfolding heardBy withClock
+  heard-book : heardFromPrimary now .book ≡ now .book
+  unfolding heardFromPrimary setClock
   heard-book = refl
 
-  pub hear-shown : Shown c (late Hear) (now .book) (fit (ignored (heardBy now)))
+  pub hear-shown : Shown c (late Hear) (now .book) (fit (ignored (heardFromPrimary now)))
   unfolding deferred ignored
   hear-shown =
       let r = heard-reads (c .state) (c .runs) table applied in
@@ -250,7 +250,7 @@ module _ (c : Given) (table : List Row) (applied : List Entry) (v : View) (few :
 
   ask-catching : (t : Replica) (m₁ : State) → t .setup ≡ c .state .setup → isRecovering (t .status) ≡ false
       → m₁ .book ≡ now .book → modelOf t (c .runs) table applied ≡ m₁
-      → Shown c (ofSpoke c (asked (c .state) (catchingUpIn t v) (c .state .commit) (c .out))) (now .book)
+      → Shown c (ofSpoke c (askedForState (c .state) (catchingUpIn t v) (c .state .commit) (c .out))) (now .book)
       (fit (done (catchingUpWith (c .state .setup) m₁ (v .0)) (sendGetState (c .state .setup) (catchingUpWith (c .state .setup) m₁ (v .0)) (m₁ .book .commit)) []))
   ask-catching t m₁ same status book reads =
       let m′ = catchingUpWith (c .state .setup) m₁ (v .0) in
@@ -260,7 +260,7 @@ module _ (c : Given) (table : List Row) (applied : List Entry) (v : View) (few :
       let k : m₁ .book .commit ≡ c .state .commit .0 = ap (λ (q : Book). q .commit) book ∙ now-commit in
       let f : m′ .book ≡ now .book = caught-book (c .state .setup) m₁ (v .0) ∙ book in
       subst
-      (λ (o : ℕ). Shown c (ofSpoke c (asked (c .state) t′ (c .state .commit) (c .out))) (now .book) (fit (done m′ (sendGetState (c .state .setup) m′ o) [])))
+      (λ (o : ℕ). Shown c (ofSpoke c (askedForState (c .state) t′ (c .state .commit) (c .out))) (now .book) (fit (done m′ (sendGetState (c .state .setup) m′ o) [])))
       (sym k)
       (ask-shown c t′ (now .book) (c .state .commit) m′ same (kept-reads t′ m′ f e) (kept-grew t′ m′ f e))
 
@@ -272,15 +272,15 @@ module _ (c : Given) (table : List Row) (applied : List Entry) (v : View) (few :
       (ask-catching (c .state) now refl looks refl refl)
 
   rejoin-shown : c .state .view .0 ≡ v .0 → c .state .catching ≡ false
-      → Shown c (late Rejoin) (now .book) (fit (catchUpWithView (c .state .setup) (heardBy now) (v .0)))
-  unfolding deferred catchUpWithView heardBy withClock modelOf
+      → Shown c (late Rejoin) (now .book) (fit (catchUpWithView (c .state .setup) (heardFromPrimary now) (v .0)))
+  unfolding deferred catchUpWithView heardFromPrimary setClock modelOf
   rejoin-shown e n =
       subst (λ (a : Answer). Shown c (late Rejoin) (now .book) (fit a)) (sym (if-false _ _ _ (and-false _ _ n)))
-      (ask-catching (S.heardBy (c .state)) (heardBy now) refl looks heard-book (heard-reads (c .state) (c .runs) table applied))
+      (ask-catching (S.heardBy (c .state)) (heardFromPrimary now) refl looks heard-book (heard-reads (c .state) (c .runs) table applied))
 
   rehear-shown : c .state .view .0 ≡ v .0 → c .state .catching ≡ true
-      → Shown c (late Hear) (now .book) (fit (catchUpWithView (c .state .setup) (heardBy now) (v .0)))
-  unfolding catchUpWithView heardBy withClock modelOf
+      → Shown c (late Hear) (now .book) (fit (catchUpWithView (c .state .setup) (heardFromPrimary now) (v .0)))
+  unfolding catchUpWithView heardFromPrimary setClock modelOf
   rehear-shown e n =
       subst (λ (a : Answer). Shown c (late Hear) (now .book) (fit a))
       (sym (if-true _ _ _ (and-true _ _ (eq-eqb (c .state .view .0) (v .0) e) n))) hear-shown
@@ -318,11 +318,11 @@ module _ (c : Given) (table : List Row) (applied : List Entry) (v : View) (few :
 
     -- a message of our view, while we change to it
     changing-goal : c .state .view .0 ≡ v .0 → (z : Accept) → z ≡ acceptChanging (c .state)
-        → Goal z (catchUpWithView (c .state .setup) (heardBy now) (v .0))
+        → Goal z (catchUpWithView (c .state .setup) (heardFromPrimary now) (v .0))
     unfolding acceptChanging
     changing-goal e z p =
-        subst (λ (y : Accept). Goal y (catchUpWithView (c .state .setup) (heardBy now) (v .0))) (sym p)
-        (split (λ (y : Accept). Goal y (catchUpWithView (c .state .setup) (heardBy now) (v .0))) (c .state .catching) Hear Rejoin
+        subst (λ (y : Accept). Goal y (catchUpWithView (c .state .setup) (heardFromPrimary now) (v .0))) (sym p)
+        (split (λ (y : Accept). Goal y (catchUpWithView (c .state .setup) (heardFromPrimary now) (v .0))) (c .state .catching) Hear Rejoin
         (λ t. goal-hear _ (rehear-shown e t)) (λ f. goal-rejoin _ (rejoin-shown e f)))
 
     pub accept-shown : Goal (acceptOf (c .state) v) (acceptFromPrimary (c .state .setup) now (v .0) rest)
@@ -339,7 +339,7 @@ module _ (c : Given) (table : List Row) (applied : List Entry) (v : View) (few :
         let q = and-both _ _ t in
         let a : Take ≡ acceptOf s v = follows s v g l n (ap not (q .0)) (not-true _ (q .1)) in
         subst (λ (z : Accept). Goal z rest) a (goal-take _ (taken (sym a))))
-        (λ t. subst (λ (z : Accept). Goal z (ignored (heardBy now))) (neither _ _ t (absent s v g l n) (leading s v g l n)) (goal-hear _ hear-shown))
+        (λ t. subst (λ (z : Accept). Goal z (ignored (heardFromPrimary now))) (neither _ _ t (absent s v g l n) (leading s v g l n)) (goal-hear _ hear-shown))
       where
         s : Replica
         s = c .state

@@ -14,13 +14,13 @@ use Rattle.config.specs.Setup.{setupOk, primaryOf}
 use Rattle.frames.specs.declared.Message.the-variants.{PrepareOk, GetState}
 use Rattle.frames.specs.declared.Status.the-variants.{StateTransfer}
 use Rattle.writers.specs.Writers.{encode}
-use Rattle.book.specs.Runs.{committed}
+use Rattle.book.specs.Runs.{moneyCommitted}
 use Rattle.book.specs.Memory.{money, Runs, runs}
 use Rattle.state.specs.State.{leads, heardBy, withStatus, withLog, catchingUpIn}
 use Rattle.state.specs.Statuses.{isNormal, isChanging}
 use Rattle.state.specs.Answers.{refusal, completed, quiet}
 use Rattle.state.specs.Lengths.{logLength, resultsLength, totalsLength}
-use Rattle.state.specs.declared.Answer.{Answer}
+use Rattle.state.specs.declared.Returned.{Returned}
 use Rattle.state.specs.declared.Replica.{Replica}
 use Rattle.steps.specs.declared.Accept.{Accept}
 use Rattle.steps.specs.declared.Accept.the-variants.{Ignore, Hear, Join, Rejoin, Take}
@@ -36,19 +36,19 @@ pub record Sound (s : Replica) (x : Runs) : Type 0 where
 
 -- what a call leaves that only sends: its answer, and the area for messages
 pub record Spoke : Type 0 where
-  pub answer : Answer
+  pub answer : Returned
   pub out : List ℕ
 
-abbrev pub spoke : Answer → List ℕ → Spoke
+abbrev pub spoke : Returned → List ℕ → Spoke
 spoke a out = record { answer = a; out = out }
 
 -- what a call leaves that also changes log, results and totals
 pub record Left : Type 0 where
-  pub answer : Answer
+  pub answer : Returned
   pub runs : Runs
   pub out : List ℕ
 
-abbrev pub left : Answer → Runs → List ℕ → Left
+abbrev pub left : Returned → Runs → List ℕ → Left
 left a x out = record { answer = a; runs = x; out = out }
 
 -- a call that only sends, beside the runs that it leaves alone
@@ -77,34 +77,34 @@ isTake Rejoin = false
 isTake Take = true
 
 -- the later of two op numbers
-abbrev pub laterOf : Op → Op → Op
-laterOf a b = record { 0 = max (a .0) (b .0) }
+abbrev pub laterOp : Op → Op → Op
+laterOp a b = record { 0 = max (a .0) (b .0) }
 
 -- commit_up_to k, its state: the commit number never falls
 abbrev pub committedTo : Replica → Op → Replica
-committedTo s k = withLog s (s .op) (laterOf (s .commit) k)
+committedTo s k = withLog s (s .op) (laterOp (s .commit) k)
 
 -- and its runs: the entries after the commit number go through the fee rules, in order
 unfoldable pub settled : Replica → Op → Runs → Runs
 settled s k x =
-    record { log = x .log; money = committed (s .setup .members) (x .log) (s .commit .0) (k .0 - s .commit .0) (x .money) }
+    record { log = x .log; money = moneyCommitted (s .setup .members) (x .log) (s .commit .0) (k .0 - s .commit .0) (x .money) }
 
 -- send_get_state from op `at` on, to the primary of the view of t, the state after it; s is the state as it was
-unfoldable pub asked : (s t : Replica) (at : Op) → List ℕ → Spoke
-asked s t at out =
+unfoldable pub askedForState : (s t : Replica) (at : Op) → List ℕ → Spoke
+askedForState s t at out =
     if ltb (length out) 16 then spoke (refusal 9 s) out else
     spoke (completed t 16 0 false) (over (encode (primaryOf (t .setup .n) (t .view)) (GetState (t .setup .id) (t .view) at) []) out)
 
 -- state_transfer, by one who has heard
 unfoldable pub transferred : Replica → List ℕ → Spoke
-transferred s out = asked s (withStatus (heardBy s) StateTransfer) (s .op) out
+transferred s out = askedForState s (withStatus (heardBy s) StateTransfer) (s .op) out
 
 -- a message from the primary that isn't taken: catch_up_with_view asks from the commit number on
 unfoldable pub deferred : Accept → Replica → View → List ℕ → Spoke
 deferred Ignore s v out = spoke (quiet s) out
 deferred Hear s v out = spoke (quiet (heardBy s)) out
-deferred Join s v out = asked s (catchingUpIn s v) (s .commit) out
-deferred Rejoin s v out = asked s (catchingUpIn (heardBy s) v) (s .commit) out
+deferred Join s v out = askedForState s (catchingUpIn s v) (s .commit) out
+deferred Rejoin s v out = askedForState s (catchingUpIn (heardBy s) v) (s .commit) out
 deferred Take s v out = spoke (quiet s) out
 
 -- send_prepare_ok, with our own op number
@@ -112,7 +112,7 @@ unfoldable pub prepareOkOf : Replica → List ℕ
 prepareOkOf s = encode (primaryOf (s .setup .n) (s .view)) (PrepareOk (s .view) (s .op) (s .setup .id)) []
 
 -- the state t commits up to k and acknowledges its op number; s is the state as it was
-unfoldable pub acked : (s t : Replica) (k : Op) (installed : Bool) → Runs → List ℕ → Left
-acked s t k installed x out =
+unfoldable pub committedAndAcked : (s t : Replica) (k : Op) (installed : Bool) → Runs → List ℕ → Left
+committedAndAcked s t k installed x out =
     if ltb (length out) 16 then left (refusal 9 s) x out else
     left (completed (committedTo t k) 16 0 installed) (settled t k x) (over (prepareOkOf (committedTo t k)) out)

@@ -3,13 +3,13 @@ ghost use mathlib.Core.Path.{_≡_};
 ghost use Prim.Native.Nat.{_≤_, _<_};
 ghost use lib.ListN.{length};
 ghost use Rattle.numbers.specs.Numbers.{over};
-ghost use Rattle.steps.specs.Steps.{Sound, spoke, left, acceptChanging, acceptOf, isTake, committedTo, settled, asked, deferred, transferred, prepareOkOf, acked};
+ghost use Rattle.steps.specs.Steps.{Sound, spoke, left, acceptChanging, acceptOf, isTake, committedTo, settled, askedForState, deferred, transferred, prepareOkOf, committedAndAcked};
 ghost use Rattle.book.specs.Memory.{runs};
 use frames::Status;
 use numbers::Op;
 use numbers::View;
-use state::Answer;
 use state::Replica;
+use state::Returned;
 
 // What accept_from_primary says of a message of view v: it is of an older view; it is heard and no more; it is of a newer view, to be caught up
 // with; it is of ours, which we were changing to, and now catch up with; or it is taken, by a backup in Normal.
@@ -90,9 +90,9 @@ pub fn commit_up_to(s: Replica, k: Op, log: &[u8], results: &mut [u8], totals: &
 }
 
 // send_get_state from op `at` on, to the primary of the view of `t`, which is the state after it; `s` is the state as it was, for refusal 9.
-pub fn ask_state(s: Replica, t: Replica, at: Op, out: &mut [u8]) -> Answer
+pub fn ask_state(s: Replica, t: Replica, at: Op, out: &mut [u8]) -> Returned
     requires { ⌜ 0 < t .setup .n ⌝ }
-    ensures { λ r. ⌜ spoke r (now (out .exit)) ≡ asked s t at (now (out .entry)) ⌝ }
+    ensures { λ r. ⌜ spoke r (now (out .exit)) ≡ askedForState s t at (now (out .entry)) ⌝ }
 {
     if out.len() < 16 {
         return state::refused(9, s);
@@ -104,7 +104,7 @@ pub fn ask_state(s: Replica, t: Replica, at: Op, out: &mut [u8]) -> Answer
 }
 
 // state_transfer
-pub fn state_transfer(s: Replica, out: &mut [u8]) -> Answer
+pub fn state_transfer(s: Replica, out: &mut [u8]) -> Returned
     requires { ⌜ 0 < s .setup .n ⌝ }
     ensures { λ r. ⌜ spoke r (now (out .exit)) ≡ transferred s (now (out .entry)) ⌝ }
 {
@@ -118,7 +118,7 @@ pub fn state_transfer(s: Replica, out: &mut [u8]) -> Answer
 }
 
 // What is done with a message from the primary that isn't taken: catch_up_with_view, or nothing but to hear it.
-pub fn defer(a: Accept, s: Replica, v: View, out: &mut [u8]) -> Answer
+pub fn defer(a: Accept, s: Replica, v: View, out: &mut [u8]) -> Returned
     requires { ⌜ 0 < s .setup .n ⌝ }
     ensures { λ r. ⌜ spoke r (now (out .exit)) ≡ deferred a s v (now (out .entry)) ⌝ }
 {
@@ -153,9 +153,9 @@ pub fn acknowledge(
     results: &mut [u8],
     totals: &mut [u8],
     out: &mut [u8],
-) -> Answer
+) -> Returned
     requires { ⌜ Sound t (runs (now log) (now results) (now totals)) × (k .0 ≤ t .op .0) ⌝ }
-    ensures { λ r. ⌜ left r (runs (now (log .entry)) (now (results .exit)) (now (totals .exit))) (now (out .exit)) ≡ acked s t k installed (runs (now (log .entry)) (now (results .entry)) (now (totals .entry))) (now (out .entry)) ⌝ }
+    ensures { λ r. ⌜ left r (runs (now (log .entry)) (now (results .exit)) (now (totals .exit))) (now (out .exit)) ≡ committedAndAcked s t k installed (runs (now (log .entry)) (now (results .entry)) (now (totals .entry))) (now (out .entry)) ⌝ }
 {
     if out.len() < 16 {
         return state::refused(9, s);

@@ -22,7 +22,7 @@ use Rattle.writers.specs.Writers.{encode, sizeOf, lengthOf}
 use Rattle.writers.proofs.WriterLaws.{encode-length}
 use Rattle.state.specs.Statuses.{isNormal}
 use Rattle.state.specs.Answers.{refusal, completed, quiet}
-use Rattle.state.specs.declared.Answer.{Answer}
+use Rattle.state.specs.declared.Returned.{Returned}
 use Rattle.state.specs.declared.Replica.{Replica}
 use Rattle.steps.specs.Steps.{spoke}
 use Rattle.transfer.specs.GetState.{Reading, answers, newStateLength, getStateStep}
@@ -94,16 +94,16 @@ module _ (s : Replica) (o : Op) (log : List ℕ) (h : Reading s (length log)) (g
 
 -- on_get_state
 module _ (s : Replica) (from : ℕ) (v : View) (o : Op) (log out : List ℕ) where
-  pub unanswered : (a : Answer) → not (answers s v o) ≡ true → a ≡ quiet s → spoke a out ≡ getStateStep s from v o log out
+  pub unanswered : (a : Returned) → not (answers s v o) ≡ true → a ≡ quiet s → spoke a out ≡ getStateStep s from v o log out
   unfolding getStateStep if_then_else_
   unanswered a h p = rw (h, p)
 
-  pub short : (a : Answer) → not (answers s v o) ≡ false → length out < newStateLength s o → a ≡ refusal 9 s
+  pub short : (a : Returned) → not (answers s v o) ≡ false → length out < newStateLength s o → a ≡ refusal 9 s
       → spoke a out ≡ getStateStep s from v o log out
   unfolding getStateStep if_then_else_
   short a h g p = rw (h, lt-ltb (length out) (newStateLength s o) g, p)
 
-  pub answered : (a : Answer) (p w : ℕ) (x : List ℕ) → Reading s (length log) → not (answers s v o) ≡ false → newStateLength s o ≤ length out
+  pub answered : (a : Returned) (p w : ℕ) (x : List ℕ) → Reading s (length log) → not (answers s v o) ≡ false → newStateLength s o ≤ length out
       → p ≡ entryPlace (o .0)
       → Wrote (encode from (NewState v o (s .op) (s .commit)) (take (32 * (s .op .0 - o .0)) (take (length log - p) (drop p log)))) out x w
       → a ≡ completed s w 0 false → spoke a x ≡ getStateStep s from v o log out

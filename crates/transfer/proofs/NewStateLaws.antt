@@ -22,14 +22,14 @@ use Rattle.book.proofs.LogLaws.{with-length}
 use Rattle.state.specs.State.{heardBy, withStatus, withLog, normalIn}
 use Rattle.state.specs.Statuses.{isTransfer, isChanging}
 use Rattle.state.specs.Answers.{refusal, quiet}
-use Rattle.state.specs.declared.Answer.{Answer}
+use Rattle.state.specs.declared.Returned.{Returned}
 use Rattle.state.specs.declared.Replica.{Replica}
-use Rattle.steps.specs.Steps.{Left, Sound, left, acked}
+use Rattle.steps.specs.Steps.{Left, Sound, left, committedAndAcked}
 use Rattle.book.specs.Memory.{Runs}
 use Rattle.transfer.specs.declared.Part.{Part}
 use Rattle.transfer.specs.declared.Use.{Use}
 use Rattle.transfer.specs.declared.Use.the-variants.{Ignore, Hear, Fill, Install}
-use Rattle.transfer.specs.NewState.{Carried, transferUse, changeUse, useOf, extended, filled, installed, byUse, newStateStep}
+use Rattle.transfer.specs.NewState.{PartPassed, transferUse, changeUse, useOf, extended, gapFilled, installed, byUse, newStateStep}
 
 -- ---- what it is used for
 
@@ -144,25 +144,25 @@ module _ (s : Replica) (x : Runs) (n k : ℕ) (part : List ℕ) (h : Sound s x) 
       })
 
 module _ (s t : Replica) (n k : ℕ) (p : Part) (whole : Bool) (part : List ℕ) (x : Runs) (out : List ℕ) where
-  pub breaks : (a : Answer) → not (risesAfter (entries n (x .log)) (entries k part)) ≡ true → a ≡ refusal 6 s
+  pub breaks : (a : Returned) → not (risesAfter (entries n (x .log)) (entries k part)) ≡ true → a ≡ refusal 6 s
       → left a x out ≡ extended s t n k p whole part x out
   unfolding extended if_then_else_
   breaks a h q = rw (h, q)
 
-  pub short : (a : Answer) → not (risesAfter (entries n (x .log)) (entries k part)) ≡ false → length out < 16 → a ≡ refusal 9 s
+  pub short : (a : Returned) → not (risesAfter (entries n (x .log)) (entries k part)) ≡ false → length out < 16 → a ≡ refusal 9 s
       → left a x out ≡ extended s t n k p whole part x out
   unfolding extended if_then_else_
   short a h g q = rw (h, lt-ltb (length out) 16 g, q)
 
   pub extends : (d : Left) (u : Replica) (log : List ℕ) → not (risesAfter (entries n (x .log)) (entries k part)) ≡ false → 16 ≤ length out
       → log ≡ withEntries n (take (32 * k) part) (x .log) → u ≡ t
-      → d ≡ acked s u (p .commit) whole (record { log = log; money = x .money }) out → d ≡ extended s t n k p whole part x out
+      → d ≡ committedAndAcked s u (p .commit) whole (record { log = log; money = x .money }) out → d ≡ extended s t n k p whole part x out
   unfolding extended if_then_else_
   extends d u log h g e q c = rw (h, le-ltb (length out) 16 g) (c ∙ rw (e, q))
 
 -- ---- the two uses that change the log
 
-module _ (s : Replica) (p : Part) (part : List ℕ) (x : Runs) (h : Sound s x) (c : Carried s p) where
+module _ (s : Replica) (p : Part) (part : List ℕ) (x : Runs) (h : Sound s x) (c : PartPassed s p) where
   -- what `fill` gives to steps::acknowledge
   pub fill-fits : (log : List ℕ) → s .op .0 < p .end .0 → 32 * (p .end .0 - s .op .0) ≤ length part
       → log ≡ withEntries (s .op .0) (take (32 * (p .end .0 - s .op .0)) part) (x .log)
@@ -228,15 +228,15 @@ module _ (s : Replica) (v : View) (p : Part) (part : List ℕ) (h : useOf s v p 
       rw (part-rest (32 * (s .op .0 - p .start .0)) part, length-drop) (omega (arith, g .0, g .1, l))
 
 module _ (s : Replica) (v : View) (p : Part) (part : List ℕ) (x : Runs) (out : List ℕ) where
-  pub ignored : (a : Answer) → useOf s v p ≡ Ignore → a ≡ quiet s → left a x out ≡ newStateStep s v p part x out
+  pub ignored : (a : Returned) → useOf s v p ≡ Ignore → a ≡ quiet s → left a x out ≡ newStateStep s v p part x out
   unfolding newStateStep byUse
   ignored a h q = rw (h, q)
 
-  pub heard : (a : Answer) (t : Replica) → useOf s v p ≡ Hear → t ≡ heardBy s → a ≡ quiet t → left a x out ≡ newStateStep s v p part x out
+  pub heard : (a : Returned) (t : Replica) → useOf s v p ≡ Hear → t ≡ heardBy s → a ≡ quiet t → left a x out ≡ newStateStep s v p part x out
   unfolding newStateStep byUse
   heard a t h e q = rw (h, q, e)
 
-  pub filled-by : (d : Left) (rest : List ℕ) → useOf s v p ≡ Fill → rest ≡ drop (32 * (s .op .0 - p .start .0)) part → d ≡ filled s p rest x out
+  pub filled-by : (d : Left) (rest : List ℕ) → useOf s v p ≡ Fill → rest ≡ drop (32 * (s .op .0 - p .start .0)) part → d ≡ gapFilled s p rest x out
       → d ≡ newStateStep s v p part x out
   unfolding newStateStep byUse
   filled-by d rest h e q = rw h (q ∙ rw e)

@@ -37,22 +37,22 @@ use Rattle.state.specs.Statuses.{isNormal, isChanging, isRecovering}
 use Rattle.state.specs.Answers.{refusal, quiet}
 use Rattle.state.specs.declared.Replica.{Replica}
 use Rattle.book.specs.Memory as Memory
-use Rattle.steps.specs.Steps.{Sound, Spoke, Left, left, deferred, acked, spoke}
+use Rattle.steps.specs.Steps.{Sound, Spoke, Left, left, deferred, committedAndAcked, spoke}
 use Rattle.transfer.specs.declared.Part.{Part}
 use Rattle.transfer.specs.declared.Use.{Use}
 use Rattle.transfer.specs.declared.Use.the-variants.{Ignore, Hear, Fill, Install}
 use Rattle.transfer.specs.GetState.{Reading, answers, newStateLength, getStateStep}
-use Rattle.transfer.specs.NewState.{Carried, transferUse, changeUse, useOf, withPart, extended, filled, installed, byUse, newStateStep}
+use Rattle.transfer.specs.NewState.{PartPassed, transferUse, changeUse, useOf, withPart, extended, gapFilled, installed, byUse, newStateStep}
 use Rattle.transfer.specs.Tick.{transferTick}
 use Rattle.transfer.proofs.GetStateLaws.{has}
 use Rattle.transfer.proofs.NewStateLaws.{fill-fits, install-fits}
-use Rattle.model.specs.State.{Row, Book, State, Sent, Answer, ignored, withPlace, withBook, withClock, withStatus, opOf}
+use Rattle.model.specs.State.{ClientEntry, Book, State, Sent, Answer, ignored, setPlace, setBook, setClock, setStatus, opOf}
 use Rattle.model.specs.State.Answer.{refused, done}
 use Rattle.model.specs.Book.{appendAll, commitUpTo, install}
 use Rattle.model.specs.Sending.{messagesOut, toPrimary, sendPrepareOk, sendGetState, sendNewState}
-use Rattle.model.specs.Normal.{heardBy, committed, filledGap, committedThen, onGetState, fillGap, caughtUp, catchUp, onNewState}
+use Rattle.model.specs.Normal.{heardFromPrimary, committed, filledGap, committedThen, onGetState, fillGap, caughtUp, catchUp, onNewState}
 use Rattle.model.specs.ViewChange.{noReports, clearedStore, enterNormal}
-use Rattle.layout.specs.Layout.{Runs, storeOf, bookOf, modelOf}
+use Rattle.layout.specs.Layout.{LentRuns, storeOf, bookOf, modelOf}
 use Rattle.model.specs.Steps.{fitted, followTick}
 use Rattle.layout.specs.Shown.{Given, Grew, Shown}
 use Rattle.layout.specs.Shown.Grew.{more, anew}
@@ -79,13 +79,13 @@ by-and false b x y = refl
 -- what refusals 1 to 5 leave; of memory that calls produced, the log rises; and a Recovering replica doesn't look at a NewState
 pub record Taken (c : Given) (p : Part) (part : List ℕ) : Type 0 where
   pub sound : Sound (c .state) (bookRuns (c .runs))
-  pub numbers : Carried (c .state) p
+  pub numbers : PartPassed (c .state) p
   pub long : 32 * (p .end .0 - p .start .0) ≤ length part
   pub totals : Bytes (c .runs .totals)
   pub rises : rising (entries (c .state .op .0) (c .runs .log)) ≡ true
   pub looks : isRecovering (c .state .status) ≡ false
 
-module _ (c : Given) (table : List Row) (applied : List Entry) where
+module _ (c : Given) (table : List ClientEntry) (applied : List Entry) where
   abbrev now : State
   now = modelOf (c .state) (c .runs) table applied
 
@@ -150,19 +150,19 @@ module _ (c : Given) (table : List Row) (applied : List Entry) where
 
   module _ (t : Ticked) (k : Clock) where
     abbrev ticked-on : State
-    ticked-on = withClock now (t .clock)
+    ticked-on = setClock now (t .clock)
 
     ticked-reads : modelOf (S.withClock (c .state) (t .clock)) (c .runs) (ticked-on .book .table) (ticked-on .book .applied) ≡ ticked-on
-    unfolding modelOf bookOf storeOf withClock
+    unfolding modelOf bookOf storeOf setClock
     ticked-reads = refl
 
     ticked-book : ticked-on .book ≡ now .book
-    unfolding withClock
+    unfolding setClock
     ticked-book = refl
 
     -- the GetState names the view alone
     same-ask : sendGetState (c .state .setup) ticked-on (c .state .op .0) ≡ sendGetState (c .state .setup) now (opOf now)
-    unfolding sendGetState toPrimary withClock
+    unfolding sendGetState toPrimary setClock
     same-ask = ap (sendGetState (c .state .setup) now) (sym op-is)
 
     pub transfer-tick-shown : t .up ≡ false → k ≡ t .clock → Shown c (ofSpoke c (transferTick (c .state) k (c .out))) (now .book)
@@ -203,7 +203,7 @@ module _ (c : Given) (table : List Row) (applied : List Entry) where
     -- a state t commits over the runs y and acknowledges; refusal 9 leaves all as it was
     abbrev extending : Replica → Memory.Runs → Bool → Left
     extending t y b =
-        if ltb (length (c .out)) 16 then left (refusal 9 (c .state)) x (c .out) else acked (c .state) t (p .commit) b y (c .out)
+        if ltb (length (c .out)) 16 then left (refusal 9 (c .state)) x (c .out) else committedAndAcked (c .state) t (p .commit) b y (c .out)
 
     few : c .state .setup .n ≤ 7
     few = sized (c .state .setup) (h .sound .sized) .seven
@@ -212,7 +212,7 @@ module _ (c : Given) (table : List Row) (applied : List Entry) where
     unfolding byUse deferred
     goal-ignore = ignore-shown c table applied v few (h .looks)
 
-    goal-hear : Goal Hear (ignored (heardBy now))
+    goal-hear : Goal Hear (ignored (heardFromPrimary now))
     unfolding byUse deferred
     goal-hear = hear-shown c table applied v few (h .looks)
 
@@ -266,8 +266,8 @@ module _ (c : Given) (table : List Row) (applied : List Entry) where
       unfolding storeOf isRecovering if_then_else_
       fill-store = rw (h .looks)
 
-      fill-reads : modelOf t (withRuns (c .runs) y) (more-book .table) applied ≡ withStatus (withBook (heardBy now) more-book) Normal
-      unfolding modelOf withStatus withPlace withBook heardBy withClock
+      fill-reads : modelOf t (withRuns (c .runs) y) (more-book .table) applied ≡ setStatus (setBook (heardFromPrimary now) more-book) Normal
+      unfolding modelOf setStatus setPlace setBook heardFromPrimary setClock
       fill-reads =
           λ i. record {
             place = record { status = Normal; view = t .view .0; lastNormal = t .normal .0; catchingUp = t .catching };
@@ -283,8 +283,8 @@ module _ (c : Given) (table : List Row) (applied : List Entry) where
 
       fill-next : committed (modelOf t (withRuns (c .runs) y) (more-book .table) applied) (p .commit .0)
           ≡ filledGap now (p .commit .0) (entries k rest)
-      unfolding committed filledGap withStatus withPlace withBook heardBy withClock
-      fill-next = ap (λ (m : State). withBook m (commitUpTo (m .book) (p .commit .0))) fill-reads
+      unfolding committed filledGap setStatus setPlace setBook heardFromPrimary setClock
+      fill-next = ap (λ (m : State). setBook m (commitUpTo (m .book) (p .commit .0))) fill-reads
 
       fill-rises : risesAfter (entries (c .state .op .0) (c .runs .log)) (entries k rest) ≡ rising (now .book .log ++ entries k rest)
       unfolding modelOf bookOf
@@ -294,7 +294,7 @@ module _ (c : Given) (table : List Row) (applied : List Entry) where
           ∙ ap (λ (fs : List Entry). rising (fs ++ entries k rest)) (cells-take 32 entryOf n (c .runs .log) n (omega arith))
 
       goal-fill : Goal Fill (filling (drop (c .state .op .0 - p .start .0) es))
-      unfolding byUse filled extended fitted
+      unfolding byUse gapFilled extended fitted
       goal-fill =
           let fits = fill-fits (c .state) p rest x (h .sound) (h .numbers) (y .log) l rest-long refl in
           subst (λ (fs : List Entry). Goal Fill (filling fs)) (sym excess)
@@ -353,8 +353,8 @@ module _ (c : Given) (table : List Row) (applied : List Entry) where
 
       install-next : committed (modelOf r (withRuns (c .runs) z) (new-book .table) applied) (p .commit .0)
           ≡ caughtUp (c .state .setup) now (p .commit .0) es
-      unfolding committed caughtUp enterNormal withBook
-      install-next = ap (λ (m : State). withBook m (commitUpTo (m .book) (p .commit .0))) install-reads
+      unfolding committed caughtUp enterNormal setBook
+      install-next = ap (λ (m : State). setBook m (commitUpTo (m .book) (p .commit .0))) install-reads
 
       install-rises : risesAfter (entries (c .state .commit .0) (c .runs .log)) es ≡ rising (committedThen now es)
       unfolding modelOf bookOf committedThen
@@ -379,7 +379,7 @@ module _ (c : Given) (table : List Row) (applied : List Entry) where
 
     -- the model's fillGap by our op number n
     abbrev gap : ℕ → Answer
-    gap n = if ltb n (p .start .0) or leb (p .end .0) n then ignored (heardBy now) else filling (drop (n - p .start .0) es)
+    gap n = if ltb n (p .start .0) or leb (p .end .0) n then ignored (heardFromPrimary now) else filling (drop (n - p .start .0) es)
 
     goal-transfer : Goal (transferUse (c .state) p) (fillGap (c .state .setup) now (p .start .0) (p .end .0) (p .commit .0) es)
     unfolding transferUse fillGap

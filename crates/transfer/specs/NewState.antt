@@ -15,14 +15,14 @@ use Rattle.state.specs.State.{heardBy, withStatus, withLog, normalIn}
 use Rattle.state.specs.Statuses.{isTransfer, isChanging}
 use Rattle.state.specs.Answers.{refusal, quiet}
 use Rattle.state.specs.declared.Replica.{Replica}
-use Rattle.steps.specs.Steps.{Left, left, acked}
+use Rattle.steps.specs.Steps.{Left, left, committedAndAcked}
 use Rattle.book.specs.Memory.{Runs}
 use Rattle.transfer.specs.declared.Part.{Part}
 use Rattle.transfer.specs.declared.Use.{Use}
 use Rattle.transfer.specs.declared.Use.the-variants.{Ignore, Hear, Fill, Install}
 
 -- what refusals 2 to 5 on the frame alone leave
-pub record Carried (s : Replica) (p : Part) : Type 0 where
+pub record PartPassed (s : Replica) (p : Part) : Type 0 where
   pub start-le : p .start .0 ≤ p .end .0
   pub end-le : p .end .0 ≤ s .setup .room
   pub commit-le : p .commit .0 ≤ p .end .0
@@ -56,11 +56,11 @@ unfoldable pub extended : (s t : Replica) (n k : ℕ) → Part → (installed : 
 extended s t n k p installed part x out =
     if not (risesAfter (entries n (x .log)) (entries k part)) then left (refusal 6 s) x out else
     if ltb (length out) 16 then left (refusal 9 s) x out else
-    acked s t (p .commit) installed (withPart n k part x) out
+    committedAndAcked s t (p .commit) installed (withPart n k part x) out
 
 -- in StateTransfer: `rest` begins with the excess
-unfoldable pub filled : Replica → Part → (rest : List ℕ) → Runs → List ℕ → Left
-filled s p rest x out =
+unfoldable pub gapFilled : Replica → Part → (rest : List ℕ) → Runs → List ℕ → Left
+gapFilled s p rest x out =
     extended s (withLog (withStatus (heardBy s) Normal) (p .end) (s .commit)) (s .op .0) (p .end .0 - s .op .0) p false rest x out
 
 -- catching up: what we had beyond our commit number is replaced
@@ -71,7 +71,7 @@ installed s p part x out =
 unfoldable pub byUse : Use → Replica → Part → (part : List ℕ) → Runs → List ℕ → Left
 byUse Ignore s p part x out = left (quiet s) x out
 byUse Hear s p part x out = left (quiet (heardBy s)) x out
-byUse Fill s p part x out = filled s p (drop (32 * (s .op .0 - p .start .0)) part) x out
+byUse Fill s p part x out = gapFilled s p (drop (32 * (s .op .0 - p .start .0)) part) x out
 byUse Install s p part x out = installed s p part x out
 
 -- on_new_state; `part` begins with its entries

@@ -4,8 +4,8 @@ use Prim.Native.Nat.{ℕ}
 use Rattle.clock.specs.declared.Clock.{Clock}
 use Rattle.state.specs.State.{withClock}
 use Rattle.state.specs.declared.Replica.{Replica}
-use Rattle.steps.specs.Steps.{Spoke, asked}
+use Rattle.steps.specs.Steps.{Spoke, askedForState}
 
 -- c is the clock after the tick
 unfoldable pub transferTick : Replica → Clock → List ℕ → Spoke
-transferTick s c out = asked s (withClock s c) (s .op) out
+transferTick s c out = askedForState s (withClock s c) (s .op) out

@@ -5,8 +5,8 @@ ghost use Rattle.steps.specs.Steps.{spoke};
 ghost use Rattle.transfer.specs.GetState.{Reading, answers, getStateStep};
 use numbers::Op;
 use numbers::View;
-use state::Answer;
 use state::Replica;
+use state::Returned;
 
 // Whether a GetState is answered: in Normal, in our view, from an op that we have.
 fn answers(s: Replica, v: View, o: Op) -> bool
@@ -23,7 +23,7 @@ fn answers(s: Replica, v: View, o: Op) -> bool
 }
 
 // on_get_state: our log from op o on, to the replica that asked
-pub fn on_get_state(s: Replica, from: u8, v: View, o: Op, log: &[u8], out: &mut [u8]) -> Answer
+pub fn on_get_state(s: Replica, from: u8, v: View, o: Op, log: &[u8], out: &mut [u8]) -> Returned
     requires { ⌜ Reading s (length (now log)) ⌝ }
     ensures { λ r. ⌜ spoke r (now (out .exit)) ≡ getStateStep s from v o (now (log .entry)) (now (out .entry)) ⌝ }
 {

@@ -5,8 +5,8 @@ ghost use Rattle.steps.specs.Steps.{spoke};
 ghost use Rattle.transfer.specs.Tick.{transferTick};
 use clock::Clock;
 use numbers::Op;
-use state::Answer;
 use state::Replica;
+use state::Returned;
 
 pub mod get_state; // on_get_state
 pub mod new_state; // on_new_state
@@ -27,7 +27,7 @@ pub enum Use {
 }
 
 // on_idle in StateTransfer, of a tick after which the wait isn't over: GetState again. `c` is the clock after it.
-pub fn tick_transfer(s: Replica, c: Clock, out: &mut [u8]) -> Answer
+pub fn tick_transfer(s: Replica, c: Clock, out: &mut [u8]) -> Returned
     requires { ⌜ 0 < s .setup .n ⌝ }
     ensures { λ r. ⌜ spoke r (now (out .exit)) ≡ transferTick s c (now (out .entry)) ⌝ }
 {

@@ -4,13 +4,13 @@ ghost use Prim.Native.Nat.{_-_, _*_, _≤_, _<_};
 ghost use lib.ListN.{length};
 ghost use Rattle.steps.specs.Steps.{Sound, left};
 ghost use Rattle.book.specs.Memory.{runs};
-ghost use Rattle.transfer.specs.NewState.{Carried, transferUse, changeUse, useOf, filled, installed, newStateStep};
+ghost use Rattle.transfer.specs.NewState.{PartPassed, transferUse, changeUse, useOf, gapFilled, installed, newStateStep};
 use crate::Part;
 use crate::Use;
 use frames::Status;
 use numbers::View;
-use state::Answer;
 use state::Replica;
+use state::Returned;
 
 // In StateTransfer it must start at or before our log's end, and end beyond it.
 fn use_in_transfer(s: Replica, p: Part) -> Use
@@ -63,9 +63,9 @@ fn fill(
     results: &mut [u8],
     totals: &mut [u8],
     out: &mut [u8],
-) -> Answer
-    requires { ⌜ Sound s (runs (now log) (now results) (now totals)) × ((s .op .0 < p .end .0) × (Carried s p × (32 * (p .end .0 - s .op .0) ≤ length (now rest)))) ⌝ }
-    ensures { λ r. ⌜ left r (runs (now (log .exit)) (now (results .exit)) (now (totals .exit))) (now (out .exit)) ≡ filled s p (now (rest .entry)) (runs (now (log .entry)) (now (results .entry)) (now (totals .entry))) (now (out .entry)) ⌝ }
+) -> Returned
+    requires { ⌜ Sound s (runs (now log) (now results) (now totals)) × ((s .op .0 < p .end .0) × (PartPassed s p × (32 * (p .end .0 - s .op .0) ≤ length (now rest)))) ⌝ }
+    ensures { λ r. ⌜ left r (runs (now (log .exit)) (now (results .exit)) (now (totals .exit))) (now (out .exit)) ≡ gapFilled s p (now (rest .entry)) (runs (now (log .entry)) (now (results .entry)) (now (totals .entry))) (now (out .entry)) ⌝ }
 {
     let n = s.op.0 as usize;
     let k = (p.end.0 - s.op.0) as usize;
@@ -96,8 +96,8 @@ fn install(
     results: &mut [u8],
     totals: &mut [u8],
     out: &mut [u8],
-) -> Answer
-    requires { ⌜ Sound s (runs (now log) (now results) (now totals)) × ((p .start .0 ≡ s .commit .0) × (Carried s p × (32 * (p .end .0 - p .start .0) ≤ length (now part)))) ⌝ }
+) -> Returned
+    requires { ⌜ Sound s (runs (now log) (now results) (now totals)) × ((p .start .0 ≡ s .commit .0) × (PartPassed s p × (32 * (p .end .0 - p .start .0) ≤ length (now part)))) ⌝ }
     ensures { λ r. ⌜ left r (runs (now (log .exit)) (now (results .exit)) (now (totals .exit))) (now (out .exit)) ≡ installed s p (now (part .entry)) (runs (now (log .entry)) (now (results .entry)) (now (totals .entry))) (now (out .entry)) ⌝ }
 {
     let n = s.commit.0 as usize;
@@ -127,8 +127,8 @@ pub fn on_new_state(
     results: &mut [u8],
     totals: &mut [u8],
     out: &mut [u8],
-) -> Answer
-    requires { ⌜ Sound s (runs (now log) (now results) (now totals)) × (Carried s p × (32 * (p .end .0 - p .start .0) ≤ length (now part))) ⌝ }
+) -> Returned
+    requires { ⌜ Sound s (runs (now log) (now results) (now totals)) × (PartPassed s p × (32 * (p .end .0 - p .start .0) ≤ length (now part))) ⌝ }
     ensures { λ r. ⌜ left r (runs (now (log .exit)) (now (results .exit)) (now (totals .exit))) (now (out .exit)) ≡ newStateStep s v p (now (part .entry)) (runs (now (log .entry)) (now (results .entry)) (now (totals .entry))) (now (out .entry)) ⌝ }
 {
     match use_of(s, v, p) {

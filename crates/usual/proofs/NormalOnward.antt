@@ -14,12 +14,12 @@ use Rattle.numbers.proofs.WordLaws.{split}
 use Rattle.entries.specs.declared.Entry.{Entry}
 use Rattle.frames.specs.declared.Status.{Status}
 use Rattle.frames.specs.declared.Status.the-variants.{Normal, StateTransfer, ViewChange, Recovering}
-use Rattle.rows.specs.declared.Latest.{Latest}
+use Rattle.client_table.specs.declared.Latest.{Latest}
 use Rattle.state.specs.Statuses.{isNormal, isChanging}
 use Rattle.state.specs.declared.Replica.{Replica}
 use Rattle.state_bytes.specs.Layout.{Onward}
 use Rattle.book.specs.Memory.{Runs, Memory}
-use Rattle.steps.specs.Steps.{Spoke, Left, acceptOf, asked, transferred, deferred, acked}
+use Rattle.steps.specs.Steps.{Spoke, Left, acceptOf, askedForState, transferred, deferred, committedAndAcked}
 use Rattle.steps.specs.declared.Accept.{Accept}
 use Rattle.normal.specs.Request as Request
 use Rattle.normal.specs.Request.{requestStep}
@@ -29,12 +29,12 @@ use Rattle.normal.specs.PrepareOk as PrepareOk
 use Rattle.normal.specs.PrepareOk.{Counted, prepareOkStep}
 use Rattle.normal.specs.Commit.{takenCommit, commitStep}
 use Rattle.normal.specs.declared.prepare.Prepared.{Prepared}
-use Rattle.normal.specs.declared.prepare.Verdict.{Verdict}
-use Rattle.normal.specs.declared.prepare.Verdict.the-variants.{Transfer, Again, Refuse, Append}
+use Rattle.normal.specs.declared.prepare.PrepareVerdict.{PrepareVerdict}
+use Rattle.normal.specs.declared.prepare.PrepareVerdict.the-variants.{Transfer, Again, Refuse, Append}
 use Rattle.normal.specs.declared.prepare_ok.Count.{Count}
 use Rattle.normal.specs.declared.prepare_ok.Count.the-variants as Counts
-use Rattle.normal.specs.declared.request.Call.{Call}
-use Rattle.normal.specs.declared.request.Call.the-variants as Calls
+use Rattle.normal.specs.declared.request.RequestVerdict.{RequestVerdict}
+use Rattle.normal.specs.declared.request.RequestVerdict.the-variants as Calls
 
 -- a Normal replica isn't in ViewChange
 not-changing : (t : Status) → isNormal t ≡ true → isChanging t ≡ true → ⊥
@@ -54,7 +54,7 @@ module _ (s : Replica) where
   Leaves d = Onward s (d .answer .state)
 
   transferred-onward : (out : List ℕ) → Speaks (transferred s out)
-  unfolding transferred asked
+  unfolding transferred askedForState
   transferred-onward out = split Speaks _ _ _ (λ _. refl) (λ _. refl)
 
   -- of our view, in Normal: neither ignored nor a reason to catch up
@@ -70,7 +70,7 @@ module _ (s : Replica) where
 
   -- ---- Request
 
-  call-onward : (e : Entry) (latest : Latest) (k : Call) (log acks out reps : List ℕ) → Onward s (Request.byCall k s e latest log acks out reps .answer .state)
+  call-onward : (e : Entry) (latest : Latest) (k : RequestVerdict) (log acks out reps : List ℕ) → Onward s (Request.byCall k s e latest log acks out reps .answer .state)
   unfolding Request.byCall Request.resent Request.accepted
   call-onward e latest Calls.Nothing log acks out reps = refl
   call-onward e latest Calls.Resend log acks out reps = refl
@@ -83,8 +83,8 @@ module _ (s : Replica) where
 
   -- ---- Prepare
 
-  verdict-onward : (p : Prepared) (d : Verdict) (x : Runs) (out : List ℕ) → Leaves (Prepare.byVerdict d s p x out)
-  unfolding Prepare.byVerdict appendedBy acked
+  verdict-onward : (p : Prepared) (d : PrepareVerdict) (x : Runs) (out : List ℕ) → Leaves (Prepare.byPrepareVerdict d s p x out)
+  unfolding Prepare.byPrepareVerdict appendedBy committedAndAcked
   verdict-onward p Transfer x out = transferred-onward out
   verdict-onward p Again x out = split Leaves _ _ _ (λ _. refl) (λ _. refl)
   verdict-onward p (Refuse k) x out = refl

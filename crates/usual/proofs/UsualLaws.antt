@@ -16,10 +16,10 @@ use Rattle.frames.specs.declared.Message.{Message}
 use Rattle.frames.specs.declared.Checked.{Checked}
 use Rattle.frames.specs.declared.Checked.the-variants.{Passed, Refused}
 use Rattle.frames.proofs.RefusalLaws.{passed}
-use Rattle.rows.specs.declared.Latest.{Latest}
+use Rattle.client_table.specs.declared.Latest.{Latest}
 use Rattle.state.specs.State.{leads}
 use Rattle.state.specs.Statuses.{isNormal}
-use Rattle.state.specs.declared.Answer.{Answer}
+use Rattle.state.specs.declared.Returned.{Returned}
 use Rattle.state.specs.declared.Replica.{Replica}
 use Rattle.state_bytes.specs.Layout.{Onward, Clocked}
 use Rattle.book.specs.Memory.{Memory}
@@ -71,7 +71,7 @@ module _ (s : Replica) (n : isNormal (s .status) ≡ true) (frame : List ℕ) (u
   checked-onward (Passed m) e =
       let latest = latestFor m (s .setup .room) (x .table) in
       let q : m ≡ messageOf (num 1 5 frame) frame = passed (s .setup) frame m (passed-is s (lengthsOf x) frame m e .1) .said .message in
-      subst (λ (a : Answer). Onward s (a .state)) (sym (followed-answer s (x .table) (x .old) _))
+      subst (λ (a : Returned). Onward s (a .state)) (sym (followed-answer s (x .table) (x .old) _))
       (subst (λ (z : Message). Onward s (messageStep z s latest frame (x .core) .answer .state)) (sym q)
       (step-onward s n latest frame (x .core) u))
 
@@ -103,7 +103,7 @@ module _ (s : Replica) where
     unfolding idleCall
     tick-clocked x =
         split (λ (d : Called). Clocked s (d .answer .state)) _ _ _ (λ _. refl) λ _.
-        subst (λ (a : Answer). Clocked s (a .state)) (sym (followed-answer s (x .table) (x .old) _)) (step-clocked (x .core))
+        subst (λ (a : Returned). Clocked s (a .state)) (sym (followed-answer s (x .table) (x .old) _)) (step-clocked (x .core))
 
 pub leading-clocked : (s : Replica) (x : Lent) → isLeading s ≡ true → Clocked s (idleCall s x .answer .state)
 unfolding isLeading

@@ -14,7 +14,7 @@ use Rattle.writers.specs.Writers.{sizeOf, lengthOf}
 use Rattle.steps.proofs.SendLaws.{bare-asks, bare-long}
 use Rattle.state.specs.State.{changingTo}
 use Rattle.state.specs.Answers.{refusal, completed}
-use Rattle.state.specs.declared.Answer.{Answer}
+use Rattle.state.specs.declared.Returned.{Returned}
 use Rattle.state.specs.declared.Replica.{Replica}
 use Rattle.steps.specs.Steps.{spoke}
 use Rattle.view_change.specs.StartViewChange.{callsLength, callsOf, startedChange}
@@ -33,11 +33,11 @@ module _ (s : Replica) (v : View) (ok : setupOk (s .setup) ≡ true) where
   calls-long = bare-long (s .setup) ok (StartViewChange v (s .setup .id)) refl
 
 module _ (s t : Replica) (v : View) (out : List ℕ) where
-  pub changes-short : (a : Answer) → length out < callsLength t → a ≡ refusal 9 s → spoke a out ≡ startedChange s t v out
+  pub changes-short : (a : Returned) → length out < callsLength t → a ≡ refusal 9 s → spoke a out ≡ startedChange s t v out
   unfolding startedChange if_then_else_
   changes-short a h p = rw (lt-ltb (length out) (callsLength t) h, p)
 
-  pub changes : (a : Answer) (t′ : Replica) (w : ℕ) (o : List ℕ) → setupOk (t .setup) ≡ true → callsLength t ≤ length out → Wrote (callsOf t v) out o w
+  pub changes : (a : Returned) (t′ : Replica) (w : ℕ) (o : List ℕ) → setupOk (t .setup) ≡ true → callsLength t ≤ length out → Wrote (callsOf t v) out o w
       → t′ ≡ changingTo t v → a ≡ completed t′ w 0 false → spoke a o ≡ startedChange s t v out
   unfolding startedChange if_then_else_
   changes a t′ w o ok h q e p = rw (le-ltb (length out) (callsLength t) h, p, q .bytes, q .count, calls-long t v ok, e)

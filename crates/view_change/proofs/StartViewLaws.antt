@@ -25,22 +25,22 @@ use Rattle.state.specs.State.{withLog, normalIn}
 use Rattle.state.specs.Statuses.{isChanging}
 use Rattle.state.specs.Answers.{refusal, completed, quiet}
 use Rattle.state.specs.Lengths.{acksLength}
-use Rattle.state.specs.declared.Answer.{Answer}
+use Rattle.state.specs.declared.Returned.{Returned}
 use Rattle.state.specs.declared.Replica.{Replica}
-use Rattle.steps.specs.Steps.{Sound, left, spoke, acked}
+use Rattle.steps.specs.Steps.{Sound, left, spoke, committedAndAcked}
 use Rattle.book.specs.Memory.{Runs, runs}
-use Rattle.view_change.specs.declared.Verdict.{Verdict}
-use Rattle.view_change.specs.declared.Verdict.the-variants.{Ignore, Refuse, Join}
-use Rattle.view_change.specs.StartView.{Holding, Carried, startViewLength, sentStartView, keepVerdict, verdictOf, Joined, joined, joinedBy, byVerdict, startViewStep}
+use Rattle.view_change.specs.declared.StartViewVerdict.{StartViewVerdict}
+use Rattle.view_change.specs.declared.StartViewVerdict.the-variants.{Ignore, Refuse, Join}
+use Rattle.view_change.specs.StartView.{LogHeld, LogPassed, startViewLength, sentStartView, keepVerdict, startViewVerdict, Joined, joined, joinedBy, byStartViewVerdict, startViewStep}
 
 -- ---- send_start_view
 
 module _ (s : Replica) (to : ℕ) (log out : List ℕ) where
-  pub sends-short : (a : Answer) → length out < startViewLength s → a ≡ refusal 9 s → spoke a out ≡ sentStartView s to log out
+  pub sends-short : (a : Returned) → length out < startViewLength s → a ≡ refusal 9 s → spoke a out ≡ sentStartView s to log out
   unfolding sentStartView if_then_else_
   sends-short a h p = rw (lt-ltb (length out) (startViewLength s) h, p)
 
-  module _ (h : Holding s (length log)) where
+  module _ (h : LogHeld s (length log)) where
     pub send-fits : startViewLength s ≤ length out
         → (s .op .0 ≤ 4096) × ((32 * s .op .0 ≤ length log) × (19 + 32 * s .op .0 ≤ length out))
     send-fits l =
@@ -53,7 +53,7 @@ module _ (s : Replica) (to : ℕ) (log out : List ℕ) where
         encode-length to (StartView (s .view) (s .op) (s .commit)) (take (32 * s .op .0) log)
         (length-take-le (32 * s .op .0) log (omega (arith, h .op-le, h .log-long)))
 
-    pub sends : (a : Answer) (w : ℕ) (o : List ℕ) → startViewLength s ≤ length out
+    pub sends : (a : Returned) (w : ℕ) (o : List ℕ) → startViewLength s ≤ length out
         → Wrote (encode to (StartView (s .view) (s .op) (s .commit)) (take (32 * s .op .0) log)) out o w → a ≡ completed s w 0 false
         → spoke a o ≡ sentStartView s to log out
     unfolding sentStartView if_then_else_
@@ -62,7 +62,7 @@ module _ (s : Replica) (to : ℕ) (log out : List ℕ) where
 -- ---- on_start_view, its verdict
 
 module _ (s : Replica) (o : Op) (part log : List ℕ) where
-  pub keep-fits : Holding s (length log) → s .commit .0 ≤ s .op .0 → 32 * o .0 ≤ length part
+  pub keep-fits : LogHeld s (length log) → s .commit .0 ≤ s .op .0 → 32 * o .0 ≤ length part
       → (s .commit .0 ≤ 4096) × ((entryPlace (s .commit .0) ≤ length log) × (32 * o .0 ≤ length part))
   keep-fits h l g =
       let z = sized (s .setup) (h .sized) in
@@ -78,26 +78,26 @@ module _ (s : Replica) (o : Op) (part log : List ℕ) where
   alters-ours b p q = rw (← p, q)
 
   module _ (v : View) where
-    pub older : v .0 < s .view .0 → Ignore ≡ verdictOf s v o part log
-    unfolding verdictOf if_then_else_
+    pub older : v .0 < s .view .0 → Ignore ≡ startViewVerdict s v o part log
+    unfolding startViewVerdict if_then_else_
     older h = rw (lt-ltb (v .0) (s .view .0) h)
 
     module _ (g : s .view .0 ≤ v .0) where
-      pub newer : (r : Verdict) → s .view .0 < v .0 → r ≡ keepVerdict s o part log → r ≡ verdictOf s v o part log
-      unfolding verdictOf if_then_else_
+      pub newer : (r : StartViewVerdict) → s .view .0 < v .0 → r ≡ keepVerdict s o part log → r ≡ startViewVerdict s v o part log
+      unfolding startViewVerdict if_then_else_
       newer r h p = rw (le-ltb (v .0) (s .view .0) g, lt-ltb (s .view .0) (v .0) h, p)
 
-      pub known : v .0 ≤ s .view .0 → not (isChanging (s .status)) ≡ true → Ignore ≡ verdictOf s v o part log
-      unfolding verdictOf if_then_else_
+      pub known : v .0 ≤ s .view .0 → not (isChanging (s .status)) ≡ true → Ignore ≡ startViewVerdict s v o part log
+      unfolding startViewVerdict if_then_else_
       known h n = rw (le-ltb (v .0) (s .view .0) g, le-ltb (s .view .0) (v .0) h, n)
 
-      pub awaited : (r : Verdict) → v .0 ≤ s .view .0 → not (isChanging (s .status)) ≡ false → r ≡ keepVerdict s o part log
-          → r ≡ verdictOf s v o part log
-      unfolding verdictOf if_then_else_
+      pub awaited : (r : StartViewVerdict) → v .0 ≤ s .view .0 → not (isChanging (s .status)) ≡ false → r ≡ keepVerdict s o part log
+          → r ≡ startViewVerdict s v o part log
+      unfolding startViewVerdict if_then_else_
       awaited r h n p = rw (le-ltb (v .0) (s .view .0) g, le-ltb (s .view .0) (v .0) h, n, p)
 
 -- what a verdict says of the numbers
-unfoldable Told : Replica → Op → Verdict → Type 0
+unfoldable Told : Replica → Op → StartViewVerdict → Type 0
 Told s o Ignore = Unit
 Told s o Refuse = Unit
 Told s o Join = s .commit .0 ≤ o .0
@@ -107,15 +107,15 @@ unfolding keepVerdict Told
 keep-told s o part log =
     split (Told s o) (keepsFirst (s .commit .0) log (o .0) part) Join Refuse (λ k. keeps-prefix (s .commit .0) log (o .0) part k .0) (λ _. tt)
 
-told : (s : Replica) (o : Op) (part log : List ℕ) (v : View) → Told s o (verdictOf s v o part log)
-unfolding verdictOf Told
+told : (s : Replica) (o : Op) (part log : List ℕ) (v : View) → Told s o (startViewVerdict s v o part log)
+unfolding startViewVerdict Told
 told s o part log v =
     split (Told s o) (ltb (v .0) (s .view .0)) Ignore _ (λ _. tt) (λ _.
     split (Told s o) (ltb (s .view .0) (v .0)) (keepVerdict s o part log) _ (λ _. keep-told s o part log) (λ _.
     split (Told s o) (not (isChanging (s .status))) Ignore (keepVerdict s o part log) (λ _. tt) (λ _. keep-told s o part log)))
 
 -- a StartView that is joined keeps all our committed entries
-pub join-keeps : (s : Replica) (o : Op) (part log : List ℕ) (v : View) → verdictOf s v o part log ≡ Join → s .commit .0 ≤ o .0
+pub join-keeps : (s : Replica) (o : Op) (part log : List ℕ) (v : View) → startViewVerdict s v o part log ≡ Join → s .commit .0 ≤ o .0
 unfolding Told
 join-keeps s o part log v e = subst (Told s o) e (told s o part log v)
 
@@ -125,11 +125,11 @@ module _ (s : Replica) (v : View) (o c : Op) (part log results totals acks out :
   abbrev x : Runs
   x = runs log results totals
 
-  pub joins-short : (a : Answer) → length out < 16 → a ≡ refusal 9 s → joined a (runs log results totals) acks out ≡ joinedBy s v o c part (runs log results totals) acks out
+  pub joins-short : (a : Returned) → length out < 16 → a ≡ refusal 9 s → joined a (runs log results totals) acks out ≡ joinedBy s v o c part (runs log results totals) acks out
   unfolding joinedBy if_then_else_
   joins-short a h p = rw (lt-ltb (length out) 16 h, p)
 
-  module _ (h : Sound s (runs log results totals)) (k : Carried s o c) (l : s .commit .0 ≤ o .0) (g : 32 * o .0 ≤ length part) where
+  module _ (h : Sound s (runs log results totals)) (k : LogPassed s o c) (l : s .commit .0 ≤ o .0) (g : 32 * o .0 ≤ length part) where
     pub part-fits : (0 + o .0 ≤ 4096) × ((entryPlace (0 + o .0) ≤ length log) × (32 * o .0 ≤ length part))
     part-fits =
         let z = sized (s .setup) (h .sized) in
@@ -152,26 +152,26 @@ module _ (s : Replica) (v : View) (o c : Op) (part log results totals acks out :
           k .commit-le,
         )
 
-  pub joins : (a : Answer) (t : Replica) (log′ results′ totals′ acks′ out′ : List ℕ) → 16 ≤ length out → t ≡ withLog (normalIn s v) o (s .commit)
+  pub joins : (a : Returned) (t : Replica) (log′ results′ totals′ acks′ out′ : List ℕ) → 16 ≤ length out → t ≡ withLog (normalIn s v) o (s .commit)
       → log′ ≡ withEntries 0 (take (32 * o .0) part) log → acks′ ≡ over (replicate (s .setup .room) 0) acks
-      → left a (runs log′ results′ totals′) out′ ≡ acked s t c true (runs log′ results totals) out
+      → left a (runs log′ results′ totals′) out′ ≡ committedAndAcked s t c true (runs log′ results totals) out
       → joined a (runs log′ results′ totals′) acks′ out′ ≡ joinedBy s v o c part (runs log results totals) acks out
   unfolding joinedBy if_then_else_
   joins a t log′ results′ totals′ acks′ out′ h p q r e =
       rw (le-ltb (length out) 16 h)
       (λ i.
-      let d = (e ∙ λ j. acked s (p j) c true (runs (q j) results totals) out) i in
+      let d = (e ∙ λ j. committedAndAcked s (p j) c true (runs (q j) results totals) out) i in
       joined (d .answer) (d .runs) (r i) (d .out))
 
-  module _ (j : Verdict) (p : j ≡ verdictOf s v o part log) where
-    pub does-nothing : (a : Answer) → j ≡ Ignore → a ≡ quiet s → joined a (runs log results totals) acks out ≡ startViewStep s v o c part (runs log results totals) acks out
-    unfolding startViewStep byVerdict
+  module _ (j : StartViewVerdict) (p : j ≡ startViewVerdict s v o part log) where
+    pub does-nothing : (a : Returned) → j ≡ Ignore → a ≡ quiet s → joined a (runs log results totals) acks out ≡ startViewStep s v o c part (runs log results totals) acks out
+    unfolding startViewStep byStartViewVerdict
     does-nothing a e q = rw (← p, e, q)
 
-    pub refuses : (a : Answer) → j ≡ Refuse → a ≡ refusal 7 s → joined a (runs log results totals) acks out ≡ startViewStep s v o c part (runs log results totals) acks out
-    unfolding startViewStep byVerdict
+    pub refuses : (a : Returned) → j ≡ Refuse → a ≡ refusal 7 s → joined a (runs log results totals) acks out ≡ startViewStep s v o c part (runs log results totals) acks out
+    unfolding startViewStep byStartViewVerdict
     refuses a e q = rw (← p, e, q)
 
     pub joins-it : (d : Joined) → j ≡ Join → d ≡ joinedBy s v o c part (runs log results totals) acks out → d ≡ startViewStep s v o c part (runs log results totals) acks out
-    unfolding startViewStep byVerdict
+    unfolding startViewStep byStartViewVerdict
     joins-it d e q = rw (← p, e, q)

@@ -40,18 +40,18 @@ use Rattle.state.specs.declared.Replica.{Replica}
 use Rattle.book.specs.Memory as Memory
 use Rattle.steps.specs.Steps.{Sound}
 use Rattle.view_change.specs.StartViewChange.{callsLength, callsOf, startedChange}
-use Rattle.view_change.specs.StartView.{Holding, Carried, startViewLength, sentStartView, keepVerdict, verdictOf, Joined, withLogOf, joinedBy, byVerdict, startViewStep}
-use Rattle.view_change.specs.declared.Verdict.{Verdict}
-use Rattle.view_change.specs.declared.Verdict.the-variants.{Ignore, Refuse, Join}
+use Rattle.view_change.specs.StartView.{LogHeld, LogPassed, startViewLength, sentStartView, keepVerdict, startViewVerdict, Joined, withLogOf, joinedBy, byStartViewVerdict, startViewStep}
+use Rattle.view_change.specs.declared.StartViewVerdict.{StartViewVerdict}
+use Rattle.view_change.specs.declared.StartViewVerdict.the-variants.{Ignore, Refuse, Join}
 use Rattle.view_change.proofs.StartViewChangeLaws.{calls-long}
 use Rattle.view_change.proofs.StartViewLaws.{part-fits, joins-sound}
-use Rattle.model.specs.State.{Row, Book, State, Sent, Reply, Answer, ignored, withBook, opOf}
+use Rattle.model.specs.State.{ClientEntry, Book, State, Sent, Reply, Answer, ignored, setBook, opOf}
 use Rattle.model.specs.State.Answer.{refused, done}
 use Rattle.model.specs.Book.{commitUpTo, install, agree}
 use Rattle.model.specs.Sending.{messagesOut, sendPrepareOk, sendStartViewChange, startViewOf, sendStartView}
 use Rattle.model.specs.Normal.{committed}
 use Rattle.model.specs.ViewChange.{noReports, noAcks, clearedVotes, clearedStore, enterNormal, changingTo, startViewChange, joined, onStartView}
-use Rattle.layout.specs.Layout.{Runs, storeOf, bookOf, modelOf}
+use Rattle.layout.specs.Layout.{LentRuns, storeOf, bookOf, modelOf}
 use Rattle.model.specs.Steps.{fitted}
 use Rattle.layout.specs.Shown.{Given, Step, Grew, Did, Shown}
 use Rattle.layout.specs.Shown.Grew.{anew}
@@ -65,7 +65,7 @@ use Rattle.numbers.proofs.RunLaws.{over-all}
 
 -- ---- start_view_change
 
-pub changing-reads : (s : Replica) (x : Runs) (table : List Row) (applied : List Entry) (v : View) → s .setup .n ≤ 7
+pub changing-reads : (s : Replica) (x : LentRuns) (table : List ClientEntry) (applied : List Entry) (v : View) → s .setup .n ≤ 7
     → isRecovering (s .status) ≡ false
     → modelOf (S.changingTo s v) x table applied ≡ changingTo (s .setup) (modelOf s x table applied) (v .0)
 unfolding modelOf storeOf changingTo clearedVotes clearedStore noReports isRecovering if_then_else_
@@ -76,7 +76,7 @@ unfolding changingTo
 changing-book u m w = refl
 
 -- from a state t, read as m₁, that differs in its clock at most
-module _ (c : Given) (table : List Row) (applied : List Entry) (v : View) (t : Replica) (m₁ : State) (ok : setupOk (c .state .setup) ≡ true)
+module _ (c : Given) (table : List ClientEntry) (applied : List Entry) (v : View) (t : Replica) (m₁ : State) (ok : setupOk (c .state .setup) ≡ true)
     (looks : isRecovering (c .state .status) ≡ false) (same : t .setup ≡ c .state .setup) (status : t .status ≡ c .state .status) where
   abbrev now : State
   now = modelOf (c .state) (c .runs) table applied
@@ -107,7 +107,7 @@ module _ (c : Given) (table : List Row) (applied : List Entry) (v : View) (t : R
 
 -- ---- send_start_view
 
-module _ (c : Given) (table : List Row) (applied : List Entry) (to : ℕ) (h : Holding (c .state) (length (c .runs .log)))
+module _ (c : Given) (table : List ClientEntry) (applied : List Entry) (to : ℕ) (h : LogHeld (c .state) (length (c .runs .log)))
     (ok : entriesOk (c .state .op .0) (c .runs .log) ≡ true) (bytes : Bytes (c .runs .log)) where
   abbrev m : State
   m = modelOf (c .state) (c .runs) table applied
@@ -198,7 +198,7 @@ all-and a b p = rw p
 pub record Announced (c : Given) (o k : Op) (part : List ℕ) : Type 0 where
   pub sound : Sound (c .state) (bookRuns (c .runs))
   pub acks-long : length (c .runs .acks) ≡ acksLength (c .state .setup)
-  pub numbers : Carried (c .state) o k
+  pub numbers : LogPassed (c .state) o k
   pub long : 32 * o .0 ≤ length part
   pub totals : Bytes (c .runs .totals)
   pub log-ok : entriesOk (c .state .op .0) (c .runs .log) ≡ true
@@ -207,7 +207,7 @@ pub record Announced (c : Given) (o k : Op) (part : List ℕ) : Type 0 where
   pub part-bytes : Bytes part
   pub looks : isRecovering (c .state .status) ≡ false
 
-module _ (c : Given) (table : List Row) (applied : List Entry) (v : View) (o k : Op) (part : List ℕ) (h : Announced c o k part) where
+module _ (c : Given) (table : List ClientEntry) (applied : List Entry) (v : View) (o k : Op) (part : List ℕ) (h : Announced c o k part) where
   abbrev was : State
   was = modelOf (c .state) (c .runs) table applied
 
@@ -224,15 +224,15 @@ module _ (c : Given) (table : List Row) (applied : List Entry) (v : View) (o k :
   abbrev after : State
   after = joined (c .state .setup) was (v .0) (record { commit = k .0; log = es })
 
-  abbrev Goal : Verdict → Answer → Type 0
-  Goal z a = Shown c (ofJoined c (byVerdict z (c .state) v o k part x (c .runs .acks) (c .out))) (was .book) (fit a)
+  abbrev Goal : StartViewVerdict → Answer → Type 0
+  Goal z a = Shown c (ofJoined c (byStartViewVerdict z (c .state) v o k part x (c .runs .acks) (c .out))) (was .book) (fit a)
 
   goal-ignore : Goal Ignore (ignored was)
-  unfolding byVerdict
+  unfolding byStartViewVerdict
   goal-ignore = idle-shown c table applied
 
   goal-refuse : Goal Refuse (refused 7)
-  unfolding byVerdict fitted
+  unfolding byStartViewVerdict fitted
   goal-refuse = refl
 
   -- ---- joined
@@ -291,11 +291,11 @@ module _ (c : Given) (table : List Row) (applied : List Entry) (v : View) (o k :
     next = committed (modelOf r (withRuns (c₁ .runs) y) (new-book .table) applied) (k .0)
 
     next-is : next ≡ after
-    unfolding committed joined enterNormal withBook
-    next-is = ap (λ (m : State). withBook m (commitUpTo (m .book) (k .0))) new-reads
+    unfolding committed joined enterNormal setBook
+    next-is = ap (λ (m : State). setBook m (commitUpTo (m .book) (k .0))) new-reads
 
     goal-join : Goal Join (done after (sendPrepareOk (c .state .setup) after) [])
-    unfolding byVerdict joinedBy
+    unfolding byStartViewVerdict joinedBy
     goal-join =
         let fits = joins-sound (c .state) v o k part (c .runs .log) (c .runs .results) (c .runs .totals) (c .runs .acks) (c .out)
         (h .sound) (h .numbers) l (h .long) r (y .log) refl refl in
@@ -324,11 +324,11 @@ module _ (c : Given) (table : List Row) (applied : List Entry) (v : View) (o k :
   goal-keep : Goal (keepVerdict (c .state) o part (c .runs .log)) taken
   unfolding keepVerdict
   goal-keep =
-      subst (λ (z : Verdict). Goal z taken) (sym (by-not (keepsFirst (c .state .commit .0) (c .runs .log) (o .0) part) Join Refuse))
+      subst (λ (z : StartViewVerdict). Goal z taken) (sym (by-not (keepsFirst (c .state .commit .0) (c .runs .log) (o .0) part) Join Refuse))
       (split₂ Goal _ _ _ _ _ _ (ap not (sym keeps-is)) (λ _. goal-refuse)
       (λ f. goal-join (keeps-prefix (c .state .commit .0) (c .runs .log) (o .0) part (not-false _ f) .0)))
 
-  abbrev rest : Verdict
+  abbrev rest : StartViewVerdict
   rest = if not (isChanging (c .state .status)) then Ignore else keepVerdict (c .state) o part (c .runs .log)
 
   -- one of our view or of a later one
@@ -349,10 +349,10 @@ module _ (c : Given) (table : List Row) (applied : List Entry) (v : View) (o k :
       split₂ Goal _ _ _ _ _ _ (sym (all-and _ (not (isChanging (c .state .status))) (eq-eqb (v .0) (c .state .view .0) e)))
       (λ _. goal-ignore) (λ _. goal-keep))
     where
-      P : Verdict → Type 0
+      P : StartViewVerdict → Type 0
       P z = Goal z (if eqb (v .0) (c .state .view .0) and not (isChanging (c .state .status)) then ignored was else taken)
 
   pub start-view-shown : Shown c (ofJoined c (startViewStep (c .state) v o k part x (c .runs .acks) (c .out))) (was .book)
       (fit (onStartView (c .state .setup) was (v .0) (record { commit = k .0; log = entries (o .0) part })))
-  unfolding startViewStep verdictOf onStartView modelOf
+  unfolding startViewStep startViewVerdict onStartView modelOf
   start-view-shown = split₂ Goal _ _ _ _ _ _ refl (λ _. goal-ignore) (λ f. goal-rest (ltb-false _ _ f))

@@ -18,21 +18,21 @@ use Rattle.state.specs.State.{withLog, normalIn}
 use Rattle.state.specs.Statuses.{isChanging}
 use Rattle.state.specs.Answers.{refusal, completed, quiet}
 use Rattle.state.specs.Lengths.{logLength}
-use Rattle.state.specs.declared.Answer.{Answer}
+use Rattle.state.specs.declared.Returned.{Returned}
 use Rattle.state.specs.declared.Replica.{Replica}
-use Rattle.steps.specs.Steps.{Spoke, Left, spoke, acked}
+use Rattle.steps.specs.Steps.{Spoke, Left, spoke, committedAndAcked}
 use Rattle.book.specs.Memory.{Runs}
-use Rattle.view_change.specs.declared.Verdict.{Verdict}
-use Rattle.view_change.specs.declared.Verdict.the-variants.{Ignore, Refuse, Join}
+use Rattle.view_change.specs.declared.StartViewVerdict.{StartViewVerdict}
+use Rattle.view_change.specs.declared.StartViewVerdict.the-variants.{Ignore, Refuse, Join}
 
 -- what refusal 1 leaves, of the log
-pub record Holding (s : Replica) (log : ℕ) : Type 0 where
+pub record LogHeld (s : Replica) (log : ℕ) : Type 0 where
   pub sized : setupOk (s .setup) ≡ true
   pub op-le : s .op .0 ≤ s .setup .room
   pub log-long : log ≡ logLength (s .setup)
 
 -- what refusals 4 and 5 on the frame alone leave
-pub record Carried (s : Replica) (o c : Op) : Type 0 where
+pub record LogPassed (s : Replica) (o c : Op) : Type 0 where
   pub op-le : o .0 ≤ s .setup .room
   pub commit-le : c .0 ≤ o .0
 
@@ -49,11 +49,11 @@ sentStartView s to log out =
     (over (encode to (StartView (s .view) (s .op) (s .commit)) (take (32 * s .op .0) log)) out)
 
 -- refusal 7
-unfoldable pub keepVerdict : Replica → Op → (part log : List ℕ) → Verdict
+unfoldable pub keepVerdict : Replica → Op → (part log : List ℕ) → StartViewVerdict
 keepVerdict s o part log = if keepsFirst (s .commit .0) log (o .0) part then Join else Refuse
 
-unfoldable pub verdictOf : Replica → View → Op → (part log : List ℕ) → Verdict
-verdictOf s v o part log =
+unfoldable pub startViewVerdict : Replica → View → Op → (part log : List ℕ) → StartViewVerdict
+startViewVerdict s v o part log =
     if ltb (v .0) (s .view .0) then Ignore else
     if ltb (s .view .0) (v .0) then keepVerdict s o part log else
     if not (isChanging (s .status)) then Ignore else
@@ -61,12 +61,12 @@ verdictOf s v o part log =
 
 -- what a StartView leaves: the answer, log, results and totals, acks, and the area for messages
 pub record Joined : Type 0 where
-  pub answer : Answer
+  pub answer : Returned
   pub runs : Runs
   pub acks : List ℕ
   pub out : List ℕ
 
-abbrev pub joined : Answer → Runs → (acks out : List ℕ) → Joined
+abbrev pub joined : Returned → Runs → (acks out : List ℕ) → Joined
 joined a x acks out = record { answer = a; runs = x; acks = acks; out = out }
 
 -- the log that is carried, in place of ours
@@ -81,13 +81,13 @@ clearing s acks d = joined (d .answer) (d .runs) (over (replicate (s .setup .roo
 unfoldable pub joinedBy : Replica → View → (o c : Op) (part : List ℕ) → Runs → (acks out : List ℕ) → Joined
 joinedBy s v o c part x acks out =
     if ltb (length out) 16 then joined (refusal 9 s) x acks out else
-    clearing s acks (acked s (withLog (normalIn s v) o (s .commit)) c true (withLogOf o part x) out)
+    clearing s acks (committedAndAcked s (withLog (normalIn s v) o (s .commit)) c true (withLogOf o part x) out)
 
-unfoldable pub byVerdict : Verdict → Replica → View → (o c : Op) (part : List ℕ) → Runs → (acks out : List ℕ) → Joined
-byVerdict Ignore s v o c part x acks out = joined (quiet s) x acks out
-byVerdict Refuse s v o c part x acks out = joined (refusal 7 s) x acks out
-byVerdict Join s v o c part x acks out = joinedBy s v o c part x acks out
+unfoldable pub byStartViewVerdict : StartViewVerdict → Replica → View → (o c : Op) (part : List ℕ) → Runs → (acks out : List ℕ) → Joined
+byStartViewVerdict Ignore s v o c part x acks out = joined (quiet s) x acks out
+byStartViewVerdict Refuse s v o c part x acks out = joined (refusal 7 s) x acks out
+byStartViewVerdict Join s v o c part x acks out = joinedBy s v o c part x acks out
 
 -- on_start_view; `part` begins with the o entries that it carries
 unfoldable pub startViewStep : Replica → View → (o c : Op) (part : List ℕ) → Runs → (acks out : List ℕ) → Joined
-startViewStep s v o c part x acks out = byVerdict (verdictOf s v o part (x .log)) s v o c part x acks out
+startViewStep s v o c part x acks out = byStartViewVerdict (startViewVerdict s v o part (x .log)) s v o c part x acks out

@@ -5,16 +5,16 @@ ghost use lib.ListN.{length};
 ghost use Rattle.state.specs.Lengths.{acksLength};
 ghost use Rattle.steps.specs.Steps.{Sound, spoke};
 ghost use Rattle.book.specs.Memory.{runs};
-ghost use Rattle.view_change.specs.StartView.{Holding, Carried, startViewLength, sentStartView, keepVerdict, verdictOf, joined, joinedBy, startViewStep};
-use crate::Verdict;
+ghost use Rattle.view_change.specs.StartView.{LogHeld, LogPassed, startViewLength, sentStartView, keepVerdict, startViewVerdict, joined, joinedBy, startViewStep};
+use crate::StartViewVerdict;
 use numbers::Op;
 use numbers::View;
-use state::Answer;
 use state::Replica;
+use state::Returned;
 
 // send_start_view, to one replica
-pub fn send_start_view(s: Replica, to: u8, log: &[u8], out: &mut [u8]) -> Answer
-    requires { ⌜ Holding s (length (now log)) ⌝ }
+pub fn send_start_view(s: Replica, to: u8, log: &[u8], out: &mut [u8]) -> Returned
+    requires { ⌜ LogHeld s (length (now log)) ⌝ }
     ensures { λ r. ⌜ spoke r (now (out .exit)) ≡ sentStartView s to (now (log .entry)) (now (out .entry)) ⌝ }
 {
     if out.len() < 19 + 32 * (s.op.0 as usize) {
@@ -28,30 +28,30 @@ pub fn send_start_view(s: Replica, to: u8, log: &[u8], out: &mut [u8]) -> Answer
 }
 
 // Refusal 7: the log of o entries in `part` must keep our committed entries.
-fn weigh_log(s: Replica, o: Op, part: &[u8], log: &[u8]) -> Verdict
-    requires { ⌜ Holding s (length (now log)) × ((s .commit .0 ≤ s .op .0) × (32 * o .0 ≤ length (now part))) ⌝ }
+fn weigh_log(s: Replica, o: Op, part: &[u8], log: &[u8]) -> StartViewVerdict
+    requires { ⌜ LogHeld s (length (now log)) × ((s .commit .0 ≤ s .op .0) × (32 * o .0 ≤ length (now part))) ⌝ }
     ensures { λ r. ⌜ r ≡ keepVerdict s o (now (part .entry)) (now (log .entry)) ⌝ }
 {
     if book::keeps(log, s.commit.0 as usize, part, o.0 as usize) {
-        return Verdict::Join;
+        return StartViewVerdict::Join;
     }
-    Verdict::Refuse
+    StartViewVerdict::Refuse
 }
 
 // One of our own view is new only while we are changing to it.
-fn weigh(s: Replica, v: View, o: Op, part: &[u8], log: &[u8]) -> Verdict
-    requires { ⌜ Holding s (length (now log)) × ((s .commit .0 ≤ s .op .0) × (32 * o .0 ≤ length (now part))) ⌝ }
-    ensures { λ r. ⌜ r ≡ verdictOf s v o (now (part .entry)) (now (log .entry)) ⌝ }
+fn weigh(s: Replica, v: View, o: Op, part: &[u8], log: &[u8]) -> StartViewVerdict
+    requires { ⌜ LogHeld s (length (now log)) × ((s .commit .0 ≤ s .op .0) × (32 * o .0 ≤ length (now part))) ⌝ }
+    ensures { λ r. ⌜ r ≡ startViewVerdict s v o (now (part .entry)) (now (log .entry)) ⌝ }
 {
     if v.0 < s.view.0 {
-        return Verdict::Ignore;
+        return StartViewVerdict::Ignore;
     }
     if s.view.0 < v.0 {
         return weigh_log(s, o, part, log);
     }
     let status = s.status;
     if !state::is_changing(status) {
-        return Verdict::Ignore;
+        return StartViewVerdict::Ignore;
     }
     weigh_log(s, o, part, log)
 }
@@ -68,8 +68,8 @@ fn join(
     totals: &mut [u8],
     acks: &mut [u8],
     out: &mut [u8],
-) -> Answer
-    requires { ⌜ Sound s (runs (now log) (now results) (now totals)) × (Carried s o c × ((s .commit .0 ≤ o .0) × ((32 * o .0 ≤ length (now part)) × (length (now acks) ≡ acksLength (s .setup))))) ⌝ }
+) -> Returned
+    requires { ⌜ Sound s (runs (now log) (now results) (now totals)) × (LogPassed s o c × ((s .commit .0 ≤ o .0) × ((32 * o .0 ≤ length (now part)) × (length (now acks) ≡ acksLength (s .setup))))) ⌝ }
     ensures { λ r. ⌜ joined r (runs (now (log .exit)) (now (results .exit)) (now (totals .exit))) (now (acks .exit)) (now (out .exit)) ≡ joinedBy s v o c (now (part .entry)) (runs (now (log .entry)) (now (results .entry)) (now (totals .entry))) (now (acks .entry)) (now (out .entry)) ⌝ }
 {
     if out.len() < 16 {
@@ -94,13 +94,13 @@ pub fn on_start_view(
     totals: &mut [u8],
     acks: &mut [u8],
     out: &mut [u8],
-) -> Answer
-    requires { ⌜ Sound s (runs (now log) (now results) (now totals)) × (Carried s o c × ((32 * o .0 ≤ length (now part)) × (length (now acks) ≡ acksLength (s .setup)))) ⌝ }
+) -> Returned
+    requires { ⌜ Sound s (runs (now log) (now results) (now totals)) × (LogPassed s o c × ((32 * o .0 ≤ length (now part)) × (length (now acks) ≡ acksLength (s .setup)))) ⌝ }
     ensures { λ r. ⌜ joined r (runs (now (log .exit)) (now (results .exit)) (now (totals .exit))) (now (acks .exit)) (now (out .exit)) ≡ startViewStep s v o c (now (part .entry)) (runs (now (log .entry)) (now (results .entry)) (now (totals .entry))) (now (acks .entry)) (now (out .entry)) ⌝ }
 {
     match weigh(s, v, o, part, log) {
-        Verdict::Ignore => state::done(s, 0, 0, false),
-        Verdict::Refuse => state::refused(7, s),
-        Verdict::Join => join(s, v, o, c, part, log, results, totals, acks, out),
+        StartViewVerdict::Ignore => state::done(s, 0, 0, false),
+        StartViewVerdict::Refuse => state::refused(7, s),
+        StartViewVerdict::Join => join(s, v, o, c, part, log, results, totals, acks, out),
     }
 }

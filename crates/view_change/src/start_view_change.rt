@@ -10,8 +10,8 @@ ghost use Rattle.steps.specs.Steps.{spoke};
 ghost use Rattle.view_change.specs.StartViewChange.{callsLength, callsOf, startedChange};
 use frames::Message;
 use numbers::View;
-use state::Answer;
 use state::Replica;
+use state::Returned;
 
 // StartViewChange of view v, to all others.
 pub fn call_others(s: Replica, v: View, out: &mut [u8]) -> usize
@@ -26,7 +26,7 @@ pub fn call_others(s: Replica, v: View, out: &mut [u8]) -> usize
 }
 
 // start_view_change to view v, from state t; `s` is the state as it was, for refusal 9.
-pub fn start_view_change(s: Replica, t: Replica, v: View, out: &mut [u8]) -> Answer
+pub fn start_view_change(s: Replica, t: Replica, v: View, out: &mut [u8]) -> Returned
     requires { ⌜ setupOk (t .setup) ≡ true ⌝ }
     ensures { λ r. ⌜ spoke r (now (out .exit)) ≡ startedChange s t v (now (out .entry)) ⌝ }
 {

@@ -22,14 +22,14 @@ use Rattle.writers.specs.Writers.{encode, sizeOf, lengthOf}
 use Rattle.writers.proofs.WriterLaws.{encode-length}
 use Rattle.state.specs.State.{withClock, changingTo}
 use Rattle.state.specs.Answers.{refusal, completed}
-use Rattle.state.specs.declared.Answer.{Answer}
+use Rattle.state.specs.declared.Returned.{Returned}
 use Rattle.state.specs.declared.Replica.{Replica}
-use Rattle.steps.specs.Steps.{Spoke, spoke, asked}
+use Rattle.steps.specs.Steps.{Spoke, spoke, askedForState}
 use Rattle.view_change.specs.StartViewChange.{callsLength, callsOf, startedChange}
 use Rattle.view_change.proofs.StartViewChangeLaws.{calls-long}
 use Rattle.do_view_change.specs.Record.{Recorded, recorded, onlySent, sendStep}
 use Rattle.book.specs.Memory.{Memory}
-use Rattle.voting.specs.Votes.{called}
+use Rattle.voting.specs.Votes.{sentFirst}
 use Rattle.voting.specs.Tick.{viewAfter, inLastView, nextView, askedAndCalled, nextViewAsking, repeated, changeTick}
 
 -- another clock: the setup is as it was
@@ -39,13 +39,13 @@ clocked-sized s c t e ok = subst (λ (x : Replica). setupOk (x .setup) ≡ true)
 -- ---- the wait is over
 
 module _ (s : Replica) (c : Clock) (out : List ℕ) (b : Bool) (eb : b ≡ inLastView s) where
-  pub last-view : b ≡ true → (a : Answer) → a ≡ refusal 8 s → spoke a out ≡ nextView s c out
+  pub last-view : b ≡ true → (a : Returned) → a ≡ refusal 8 s → spoke a out ≡ nextView s c out
   unfolding nextView
-  last-view h a p = ap (λ (x : Answer). spoke x out) p ∙ sym (if-true _ _ _ (sym eb ∙ h))
+  last-view h a p = ap (λ (x : Returned). spoke x out) p ∙ sym (if-true _ _ _ (sym eb ∙ h))
 
-  pub none-after : b ≡ true → (a : Answer) → a ≡ refusal 8 s → spoke a out ≡ nextViewAsking s c out
+  pub none-after : b ≡ true → (a : Returned) → a ≡ refusal 8 s → spoke a out ≡ nextViewAsking s c out
   unfolding nextViewAsking
-  none-after h a p = ap (λ (x : Answer). spoke x out) p ∙ sym (if-true _ _ _ (sym eb ∙ h))
+  none-after h a p = ap (λ (x : Returned). spoke x out) p ∙ sym (if-true _ _ _ (sym eb ∙ h))
 
   module _ (h : b ≡ false) where
     pub view-small : s .view .0 < 4294967295
@@ -56,10 +56,10 @@ module _ (s : Replica) (c : Clock) (out : List ℕ) (b : Bool) (eb : b ≡ inLas
     unfolding nextView
     next-view t d e p = p ∙ (λ i. startedChange s (e i) (viewAfter s) out) ∙ sym (if-false _ _ _ (sym eb ∙ h))
 
-    pub asking-short : (a : Answer) → length out < 16 + callsLength s → a ≡ refusal 9 s → spoke a out ≡ nextViewAsking s c out
+    pub asking-short : (a : Returned) → length out < 16 + callsLength s → a ≡ refusal 9 s → spoke a out ≡ nextViewAsking s c out
     unfolding nextViewAsking
     asking-short a l p =
-        ap (λ (x : Answer). spoke x out) p
+        ap (λ (x : Returned). spoke x out) p
         ∙ sym (if-false _ _ _ (sym eb ∙ h) ∙ if-true _ _ _ (lt-ltb (length out) (16 + callsLength s) l))
 
     -- after GetState
@@ -98,7 +98,7 @@ module _ (s : Replica) (c : Clock) (out : List ℕ) (b : Bool) (eb : b ≡ inLas
             (y .bytes)
             ∙ λ i. over (encode (et i) (GetState (s .setup .id) (s .view) (s .op)) [] ++ callsOf s (viewAfter s)) out
 
-        pub asks-on : (u t : Replica) (a : Answer) → u ≡ withClock s c → t ≡ changingTo u (viewAfter s) → a ≡ completed t (w + k) 0 false
+        pub asks-on : (u t : Replica) (a : Returned) → u ≡ withClock s c → t ≡ changingTo u (viewAfter s) → a ≡ completed t (w + k) 0 false
             → spoke a (take w cur ++ (part ++ drop (length cur - w) (drop w cur))) ≡ nextViewAsking s c out
         unfolding nextViewAsking
         asks-on u t a eu e p =
@@ -111,27 +111,27 @@ module _ (s : Replica) (c : Clock) (out : List ℕ) (b : Bool) (eb : b ≡ inLas
 -- ---- in ViewChange, where the wait isn't over
 
 module _ (s : Replica) (c : Clock) (m : Memory) (t : Replica) (et : t ≡ withClock s c) where
-  pub asks-again : s .catching ≡ true → (a : Answer) (out : List ℕ) → spoke a out ≡ asked s t (s .commit) (m .out)
+  pub asks-again : s .catching ≡ true → (a : Returned) (out : List ℕ) → spoke a out ≡ askedForState s t (s .commit) (m .out)
       → recorded a (record { runs = m .runs; acks = m .acks; stored = m .stored; out = out; reps = m .reps }) ≡ repeated s c m
   unfolding repeated
   asks-again h a out p =
-      (λ i. onlySent m (p i)) ∙ (λ i. onlySent m (asked s (et i) (s .commit) (m .out))) ∙ sym (if-true _ _ _ h)
+      (λ i. onlySent m (p i)) ∙ (λ i. onlySent m (askedForState s (et i) (s .commit) (m .out))) ∙ sym (if-true _ _ _ h)
 
   module _ (h : s .catching ≡ false) where
     pub sends-again : s .sent ≡ true → (x : Recorded) → x ≡ sendStep s t true m → x ≡ repeated s c m
     unfolding repeated
     sends-again e x p = p ∙ (λ i. sendStep s (et i) true m) ∙ sym (if-false _ _ _ h ∙ if-true _ _ _ e)
 
-    pub calls-again : s .sent ≡ false → (a : Answer) (out : List ℕ) → spoke a out ≡ called s t true (m .out)
+    pub calls-again : s .sent ≡ false → (a : Returned) (out : List ℕ) → spoke a out ≡ sentFirst s t true (m .out)
         → recorded a (record { runs = m .runs; acks = m .acks; stored = m .stored; out = out; reps = m .reps }) ≡ repeated s c m
     unfolding repeated
     calls-again e a out p =
-        (λ i. onlySent m (p i)) ∙ (λ i. onlySent m (called s (et i) true (m .out))) ∙ sym (if-false _ _ _ h ∙ if-false _ _ _ e)
+        (λ i. onlySent m (p i)) ∙ (λ i. onlySent m (sentFirst s (et i) true (m .out))) ∙ sym (if-false _ _ _ h ∙ if-false _ _ _ e)
 
 -- ---- on_idle in ViewChange
 
 module _ (s : Replica) (c : Clock) (up : Bool) (m : Memory) where
-  pub wait-over : up ≡ true → (a : Answer) (out : List ℕ) → spoke a out ≡ nextView s c (m .out)
+  pub wait-over : up ≡ true → (a : Returned) (out : List ℕ) → spoke a out ≡ nextView s c (m .out)
       → recorded a (record { runs = m .runs; acks = m .acks; stored = m .stored; out = out; reps = m .reps }) ≡ changeTick s c up m
   unfolding changeTick
   wait-over h a out p = (λ i. onlySent m (p i)) ∙ sym (if-true _ _ _ h)

@@ -25,7 +25,7 @@ use Rattle.clock.specs.declared.Clock.{Clock}
 use Rattle.state.specs.State.{leads, changingTo, withClock, withVotes, withStart, withSent}
 use Rattle.state.specs.Statuses.{isNormal, isChanging}
 use Rattle.state.specs.Answers.{refusal, completed, quiet}
-use Rattle.state.specs.declared.Answer.{Answer}
+use Rattle.state.specs.declared.Returned.{Returned}
 use Rattle.state.specs.declared.Replica.{Replica}
 use Rattle.steps.specs.Steps.{Sound, spoke}
 use Rattle.view_change.specs.StartView.{sentStartView}
@@ -34,41 +34,41 @@ use Rattle.do_view_change.specs.Record.{Recorded, recorded, onlySent, Gathering
 use Rattle.book.specs.Memory.{Memory}
 use Rattle.do_view_change.proofs.BeginLaws.{first-long}
 use Rattle.do_view_change.proofs.TellLaws.{moved-gathers}
-use Rattle.voting.specs.Votes.{called, due, maybeStep, sameView, startViewChangeStep}
+use Rattle.voting.specs.Votes.{sentFirst, reportDue, maybeStep, sameView, startViewChangeStep}
 
 -- ---- only what goes out first
 
 module _ (s t : Replica) (first : Bool) (out : List ℕ) (k : ℕ) (ek : k ≡ firstLength first t) where
-  pub calls-short : (a : Answer) → length out < k → a ≡ refusal 9 s → spoke a out ≡ called s t first out
-  unfolding called if_then_else_
+  pub calls-short : (a : Returned) → length out < k → a ≡ refusal 9 s → spoke a out ≡ sentFirst s t first out
+  unfolding sentFirst if_then_else_
   calls-short a h p = rw (← ek, lt-ltb (length out) k h, p)
 
-  pub calls : setupOk (t .setup) ≡ true → k ≤ length out → (a : Answer) (w : ℕ) (o : List ℕ) → Wrote (callsFirst first t) out o w
-      → a ≡ completed t w 0 false → spoke a o ≡ called s t first out
-  unfolding called if_then_else_
+  pub calls : setupOk (t .setup) ≡ true → k ≤ length out → (a : Returned) (w : ℕ) (o : List ℕ) → Wrote (callsFirst first t) out o w
+      → a ≡ completed t w 0 false → spoke a o ≡ sentFirst s t first out
+  unfolding sentFirst if_then_else_
   calls ok h a w o q p =
       let c : w ≡ k = q .count ∙ first-long first t ok ∙ sym ek in
       rw (← ek, le-ltb (length out) k h, p, q .bytes, c)
 
--- ---- whether our DoViewChange is due
+-- ---- whether our DoViewChange is reportDue
 
 module _ (t : Replica) (b : Bool) (eb : b ≡ isChanging (t .status)) where
-  pub stays : not b ≡ true → false ≡ due t
-  unfolding due
+  pub stays : not b ≡ true → false ≡ reportDue t
+  unfolding reportDue
   stays h = sym (if-true _ _ _ (ap not (sym eb) ∙ h))
 
   module _ (h : not b ≡ false) where
-    pub catches-up : t .catching ≡ true → false ≡ due t
-    unfolding due
+    pub catches-up : t .catching ≡ true → false ≡ reportDue t
+    unfolding reportDue
     catches-up e = sym (if-false _ _ _ (ap not (sym eb) ∙ h) ∙ if-true _ _ _ e)
 
     module _ (e : t .catching ≡ false) where
-      pub went-out : t .sent ≡ true → false ≡ due t
-      unfolding due
+      pub went-out : t .sent ≡ true → false ≡ reportDue t
+      unfolding reportDue
       went-out f = sym (if-false _ _ _ (ap not (sym eb) ∙ h) ∙ if-false _ _ _ e ∙ if-true _ _ _ f)
 
-      pub counts : t .sent ≡ false → (k : ℕ) → k ≡ ones (t .starts) → leb (t .setup .n / 2) k ≡ due t
-      unfolding due
+      pub counts : t .sent ≡ false → (k : ℕ) → k ≡ ones (t .starts) → leb (t .setup .n / 2) k ≡ reportDue t
+      unfolding reportDue
       counts f k p =
           ap (leb (t .setup .n / 2)) p
           ∙ sym (if-false _ _ _ (ap not (sym eb) ∙ h) ∙ if-false _ _ _ e ∙ if-false _ _ _ f)
@@ -119,8 +119,8 @@ asked-gathers s v r m u t eu et h = voted-gathers u m (moved-gathers s v m u eu 
 
 -- ---- maybe_send_do_view_change
 
-module _ (s t : Replica) (first : Bool) (m : Memory) (b : Bool) (eb : b ≡ due t) where
-  pub too-early : not b ≡ true → (a : Answer) (out : List ℕ) → spoke a out ≡ called s t first (m .out)
+module _ (s t : Replica) (first : Bool) (m : Memory) (b : Bool) (eb : b ≡ reportDue t) where
+  pub too-early : not b ≡ true → (a : Returned) (out : List ℕ) → spoke a out ≡ sentFirst s t first (m .out)
       → recorded a (record { runs = m .runs; acks = m .acks; stored = m .stored; out = out; reps = m .reps }) ≡ maybeStep s t first m
   unfolding maybeStep
   too-early h a out p = (λ i. onlySent m (p i)) ∙ sym (if-false _ _ _ (sym eb ∙ not-true b h))
@@ -137,30 +137,30 @@ module _ (s : Replica) (r : ℕ) (m : Memory) (b : Bool) (eb : b ≡ isChanging 
   joins h t x e p = p ∙ (λ i. maybeStep s (e i) false m) ∙ sym (if-true _ _ _ (sym eb ∙ h))
 
   module _ (h : b ≡ false) (d : Bool) (ed : d ≡ isNormal (s .status)) where
-    pub is-away : not d ≡ true → (a : Answer) → a ≡ quiet s → recorded a m ≡ sameView s r m
+    pub is-away : not d ≡ true → (a : Returned) → a ≡ quiet s → recorded a m ≡ sameView s r m
     unfolding sameView
-    is-away g a p = ap (λ (x : Answer). recorded x m) p ∙ sym (if-false _ _ _ (sym eb ∙ h) ∙ if-true _ _ _ (ap not (sym ed) ∙ g))
+    is-away g a p = ap (λ (x : Returned). recorded x m) p ∙ sym (if-false _ _ _ (sym eb ∙ h) ∙ if-true _ _ _ (ap not (sym ed) ∙ g))
 
     module _ (g : not d ≡ false) (l : Bool) (el : l ≡ leads s) where
-      pub leader-tells : l ≡ true → (a : Answer) (out : List ℕ) → spoke a out ≡ sentStartView s r (m .runs .log) (m .out)
+      pub leader-tells : l ≡ true → (a : Returned) (out : List ℕ) → spoke a out ≡ sentStartView s r (m .runs .log) (m .out)
           → recorded a (record { runs = m .runs; acks = m .acks; stored = m .stored; out = out; reps = m .reps }) ≡ sameView s r m
       unfolding sameView
       leader-tells e a out p =
           (λ i. onlySent m (p i))
           ∙ sym (if-false _ _ _ (sym eb ∙ h) ∙ if-false _ _ _ (ap not (sym ed) ∙ g) ∙ if-true _ _ _ (sym el ∙ e))
 
-      pub backup-waits : l ≡ false → (a : Answer) → a ≡ quiet s → recorded a m ≡ sameView s r m
+      pub backup-waits : l ≡ false → (a : Returned) → a ≡ quiet s → recorded a m ≡ sameView s r m
       unfolding sameView
       backup-waits e a p =
-          ap (λ (x : Answer). recorded x m) p
+          ap (λ (x : Returned). recorded x m) p
           ∙ sym (if-false _ _ _ (sym eb ∙ h) ∙ if-false _ _ _ (ap not (sym ed) ∙ g) ∙ if-false _ _ _ (sym el ∙ e))
 
 -- ---- on_start_view_change
 
 module _ (s : Replica) (v : View) (r : ℕ) (m : Memory) where
-  pub too-old : v .0 < s .view .0 → (a : Answer) → a ≡ quiet s → recorded a m ≡ startViewChangeStep s v r m
+  pub too-old : v .0 < s .view .0 → (a : Returned) → a ≡ quiet s → recorded a m ≡ startViewChangeStep s v r m
   unfolding startViewChangeStep
-  too-old h a p = ap (λ (x : Answer). recorded x m) p ∙ sym (if-true _ _ _ (lt-ltb (v .0) (s .view .0) h))
+  too-old h a p = ap (λ (x : Returned). recorded x m) p ∙ sym (if-true _ _ _ (lt-ltb (v .0) (s .view .0) h))
 
   module _ (g : s .view .0 ≤ v .0) where
     pub moves-on : s .view .0 < v .0 → (u t : Replica) (x : Recorded) → u ≡ changingTo s v → t ≡ withStart u r → x ≡ maybeStep s t true m

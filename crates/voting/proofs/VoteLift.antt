@@ -29,16 +29,16 @@ use Rattle.state.specs.State.{leads}
 use Rattle.state.specs.Statuses.{isNormal, isChanging}
 use Rattle.state.specs.Answers.{refusal, completed, quiet}
 use Rattle.state.specs.declared.Replica.{Replica}
-use Rattle.steps.specs.Steps.{Spoke, spoke, asked}
+use Rattle.steps.specs.Steps.{Spoke, spoke, askedForState}
 use Rattle.view_change.specs.StartViewChange.{callsLength, callsOf}
 use Rattle.view_change.specs.StartView.{sentStartView}
 use Rattle.view_change.proofs.StartViewChangeLaws.{calls-long}
 use Rattle.do_view_change.specs.Begin.{callsFirst, firstLength}
 use Rattle.do_view_change.specs.Record.{Recorded, recorded, onlySent}
-use Rattle.voting.specs.Votes.{called, due, maybeStep, sameView, startViewChangeStep}
+use Rattle.voting.specs.Votes.{sentFirst, reportDue, maybeStep, sameView, startViewChangeStep}
 use Rattle.voting.specs.Tick as T
 use Rattle.voting.specs.Tick.{viewAfter, inLastView, askedAndCalled}
-use Rattle.model.specs.State.{Row, State, Sent, Answer, ignored, withVotes, withClock, opOf}
+use Rattle.model.specs.State.{ClientEntry, State, Sent, Answer, ignored, setVotes, setClock, opOf}
 use Rattle.model.specs.State.Answer.{done}
 use Rattle.model.specs.Sending.{sentBytes, messagesOut, primary, isPrimary, toPrimary, sendGetState, sendStartViewChange, sendStartView}
 use Rattle.model.specs.ViewChange.{markSent, votedFor, changingTo, sendDoViewChange, enough, maybeSendDoViewChange}
@@ -105,24 +105,24 @@ four-tests true false true e = refl
 four-tests true false false e = refl
 four-tests false b d e = refl
 
-module _ (c : Given) (t : Replica) (table : List Row) (applied : List Entry) (h : Changing c t) (first : Bool) (ms : List Sent) (f : First t first ms)
+module _ (c : Given) (t : Replica) (table : List ClientEntry) (applied : List Entry) (h : Changing c t) (first : Bool) (ms : List Sent) (f : First t first ms)
     (kept : StoredOk t (c .runs .stored)) where
   abbrev was : State
   was = modelOf t (c .runs) table applied
 
-  due-is : due t ≡ enough (t .setup) was
-  unfolding due enough modelOf
+  due-is : reportDue t ≡ enough (t .setup) was
+  unfolding reportDue enough modelOf
   due-is = four-tests (isChanging (t .status)) (t .catching) (t .sent) (leb (t .setup .n / 2) (ones (t .starts)))
 
-  called-shown : Shown c (ofSpoke c (called (c .state) t first (c .out))) (modelOf (c .state) (c .runs) table applied .book)
+  called-shown : Shown c (ofSpoke c (sentFirst (c .state) t first (c .out))) (modelOf (c .state) (c .runs) table applied .book)
       (fitted (length (c .out)) (length (c .reps)) (done was ms []))
-  unfolding called
+  unfolding sentFirst
   called-shown = said-shown c t table applied h _ _ _ (f .bytes) (f .long)
 
   pub maybe-shown : Shown c (ofRecorded (maybeStep (c .state) t first (memoryOf c)))
       (modelOf (c .state) (c .runs) table applied .book)
       (fitted (length (c .out)) (length (c .reps)) (maybeSendDoViewChange (t .setup) (modelOf t (c .runs) table applied) ms))
-  unfolding maybeStep maybeSendDoViewChange markSent withVotes modelOf storeOf
+  unfolding maybeStep maybeSendDoViewChange markSent setVotes modelOf storeOf
   maybe-shown =
       split₂
       (λ (d : Recorded) (a : Answer).
@@ -133,7 +133,7 @@ module _ (c : Given) (t : Replica) (table : List Row) (applied : List Entry) (h 
       (first-varied c t (t .clock) (t .starts) true first ms f) (stored-varied c t (t .clock) (t .starts) true (c .runs .stored) kept))
       (λ _. called-shown)
 
-module _ (c : Given) (table : List Row) (applied : List Entry) (h : Changing c (c .state)) (kept : StoredOk (c .state) (c .runs .stored)) where
+module _ (c : Given) (table : List ClientEntry) (applied : List Entry) (h : Changing c (c .state)) (kept : StoredOk (c .state) (c .runs .stored)) where
   abbrev m : State
   m = modelOf (c .state) (c .runs) table applied
 
@@ -146,7 +146,7 @@ module _ (c : Given) (table : List Row) (applied : List Entry) (h : Changing c (
   voted : (t : Replica) (q : State) (r : ℕ) (first : Bool) (ms : List Sent) → Changing c t → First t first ms → StoredOk t (c .runs .stored)
       → modelOf t (c .runs) table applied ≡ q
       → Goal (maybeStep (c .state) (S.withStart t r) first (memoryOf c)) (maybeSendDoViewChange (t .setup) (votedFor q r) ms)
-  unfolding votedFor withVotes modelOf storeOf
+  unfolding votedFor setVotes modelOf storeOf
   voted t q r first ms g f s e =
       let k = t .clock in
       let starts = S.withStart t r .starts in
@@ -202,12 +202,12 @@ module _ (c : Given) (table : List Row) (applied : List Entry) (h : Changing c (
     Said x a = Shown c (ofSpoke c x) (m .book) (fitted (length (c .out)) (length (c .reps)) a)
 
     pub next-view-shown : Shown c (ofSpoke c (T.nextView (c .state) (k .clock) (c .out))) (m .book)
-        (fitted (length (c .out)) (length (c .reps)) (nextView (c .state .setup) (withClock m (k .clock)) []))
-    unfolding T.nextView nextView inLastView fitted withClock modelOf storeOf
+        (fitted (length (c .out)) (length (c .reps)) (nextView (c .state .setup) (setClock m (k .clock)) []))
+    unfolding T.nextView nextView inLastView fitted setClock modelOf storeOf
     next-view-shown =
         split₂ Said _ _ _ _ _ _ refl (λ _. refl)
         (λ _.
-        started-change-shown c table applied next t (withClock m (k .clock)) (h .gathering .sound .sized) (h .looks) refl refl refl refl)
+        started-change-shown c table applied next t (setClock m (k .clock)) (h .gathering .sound .sized) (h .looks) refl refl refl refl)
 
     -- GetState in the view that is left, then StartViewChange
     abbrev ask : List ℕ
@@ -239,8 +239,8 @@ module _ (c : Given) (table : List Row) (applied : List Entry) (h : Changing c (
 
     pub next-view-asking-shown : Shown c (ofSpoke c (T.nextViewAsking (c .state) (k .clock) (c .out))) (m .book)
         (fitted (length (c .out)) (length (c .reps))
-        (nextView (c .state .setup) (withClock m (k .clock)) (sendGetState (c .state .setup) m (opOf m))))
-    unfolding T.nextViewAsking nextView startViewChange inLastView fitted withClock modelOf storeOf
+        (nextView (c .state .setup) (setClock m (k .clock)) (sendGetState (c .state .setup) m (opOf m))))
+    unfolding T.nextViewAsking nextView startViewChange inLastView fitted setClock modelOf storeOf
     next-view-asking-shown =
         let t′ = S.changingTo t next in
         let ms = sendGetState (c .state .setup) m (opOf m) ++ sendStartViewChange (c .state .setup) (next .0) in
@@ -264,10 +264,10 @@ module _ (c : Given) (table : List Row) (applied : List Entry) (h : Changing c (
     ticked-stored : StoredOk t (c .runs .stored)
     ticked-stored = stored-varied c (c .state) (k .clock) (c .state .starts) (c .state .sent) (c .runs .stored) kept
 
-    goal-ask : Said (asked (c .state) t (c .state .commit) (c .out))
-        (done (withClock m (k .clock)) (sendGetState (c .state .setup) m (m .book .commit)) [])
-    unfolding sendGetState toPrimary withClock modelOf bookOf storeOf
-    goal-ask = ask-shown c t (m .book) (c .state .commit) (withClock m (k .clock)) refl refl (no-growth (m .book))
+    goal-ask : Said (askedForState (c .state) t (c .state .commit) (c .out))
+        (done (setClock m (k .clock)) (sendGetState (c .state .setup) m (m .book .commit)) [])
+    unfolding sendGetState toPrimary setClock modelOf bookOf storeOf
+    goal-ask = ask-shown c t (m .book) (c .state .commit) (setClock m (k .clock)) refl refl (no-growth (m .book))
 
     abbrev calls : List Sent
     calls = sendStartViewChange (c .state .setup) (m .place .view)
@@ -275,12 +275,12 @@ module _ (c : Given) (table : List Row) (applied : List Entry) (h : Changing c (
     -- what was sent is sent again
     abbrev again : Answer
     again =
-        if m .place .catchingUp then done (withClock m (k .clock)) (sendGetState (c .state .setup) m (m .book .commit)) [] else
-        if m .votes .sent then sendDoViewChange (c .state .setup) (withClock m (k .clock)) calls else
-        done (withClock m (k .clock)) calls []
+        if m .place .catchingUp then done (setClock m (k .clock)) (sendGetState (c .state .setup) m (m .book .commit)) [] else
+        if m .votes .sent then sendDoViewChange (c .state .setup) (setClock m (k .clock)) calls else
+        done (setClock m (k .clock)) calls []
 
     goal-again : Goal (T.repeated (c .state) (k .clock) (memoryOf c)) again
-    unfolding T.repeated withClock modelOf storeOf
+    unfolding T.repeated setClock modelOf storeOf
     goal-again =
         split₂ Goal (c .state .catching) (m .place .catchingUp) _ _ _ _ refl (λ _. goal-ask) λ _.
         split₂ Goal (c .state .sent) (m .votes .sent) _ _ _ _ refl
@@ -293,4 +293,4 @@ module _ (c : Given) (table : List Row) (applied : List Entry) (h : Changing c (
     change-tick-shown =
         split₂ Goal (k .up) (k .up)
         (onlySent (memoryOf c) (T.nextView (c .state) (k .clock) (c .out))) (T.repeated (c .state) (k .clock) (memoryOf c))
-        (nextView (c .state .setup) (withClock m (k .clock)) []) again refl (λ _. next-view-shown) (λ _. goal-again)
+        (nextView (c .state .setup) (setClock m (k .clock)) []) again refl (λ _. next-view-shown) (λ _. goal-again)

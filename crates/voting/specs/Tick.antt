@@ -15,11 +15,11 @@ use Rattle.writers.specs.Writers.{encode}
 use Rattle.state.specs.State.{withClock, changingTo}
 use Rattle.state.specs.Answers.{refusal, completed}
 use Rattle.state.specs.declared.Replica.{Replica}
-use Rattle.steps.specs.Steps.{Spoke, spoke, asked}
+use Rattle.steps.specs.Steps.{Spoke, spoke, askedForState}
 use Rattle.view_change.specs.StartViewChange.{callsLength, callsOf, startedChange}
 use Rattle.do_view_change.specs.Record.{Recorded, onlySent, sendStep}
 use Rattle.book.specs.Memory.{Memory}
-use Rattle.voting.specs.Votes.{called}
+use Rattle.voting.specs.Votes.{sentFirst}
 
 -- the view after ours
 abbrev pub viewAfter : Replica → View
@@ -50,9 +50,9 @@ nextViewAsking s c out =
 -- in ViewChange, where the wait isn't over: what was sent is sent again. A primary-to-be records its own DoViewChange again.
 unfoldable pub repeated : Replica → Clock → Memory → Recorded
 repeated s c m =
-    if s .catching then onlySent m (asked s (withClock s c) (s .commit) (m .out)) else
+    if s .catching then onlySent m (askedForState s (withClock s c) (s .commit) (m .out)) else
     if s .sent then sendStep s (withClock s c) true m else
-    onlySent m (called s (withClock s c) true (m .out))
+    onlySent m (sentFirst s (withClock s c) true (m .out))
 
 -- on_idle in ViewChange; `up`: the wait is over
 unfoldable pub changeTick : Replica → Clock → (up : Bool) → Memory → Recorded

@@ -20,14 +20,14 @@ use Rattle.do_view_change.specs.Record.{Recorded, recorded, onlySent, sendStep}
 use Rattle.book.specs.Memory.{Memory}
 
 -- only what goes out first, from state t; s is the state as it was
-unfoldable pub called : (s t : Replica) (first : Bool) → List ℕ → Spoke
-called s t first out =
+unfoldable pub sentFirst : (s t : Replica) (first : Bool) → List ℕ → Spoke
+sentFirst s t first out =
     if ltb (length out) (firstLength first t) then spoke (refusal 9 s) out else
     spoke (completed t (firstLength first t) 0 false) (over (callsFirst first t) out)
 
--- whether our DoViewChange is due
-unfoldable pub due : Replica → Bool
-due t =
+-- whether our DoViewChange is reportDue
+unfoldable pub reportDue : Replica → Bool
+reportDue t =
     if not (isChanging (t .status)) then false else
     if t .catching then false else
     if t .sent then false else
@@ -36,8 +36,8 @@ due t =
 -- maybe_send_do_view_change
 unfoldable pub maybeStep : (s t : Replica) (first : Bool) → Memory → Recorded
 maybeStep s t first m =
-    if due t then sendStep s (withSent t) first m else
-    onlySent m (called s t first (m .out))
+    if reportDue t then sendStep s (withSent t) first m else
+    onlySent m (sentFirst s t first (m .out))
 
 -- on_start_view_change of our view: counted while we change to it; a Normal primary sends StartView to one who missed it
 unfoldable pub sameView : Replica → (r : ℕ) → Memory → Recorded

@@ -9,8 +9,8 @@ ghost use Rattle.book.specs.Memory.{memory};
 ghost use Rattle.voting.specs.Tick.{inLastView, nextView, nextViewAsking, repeated, changeTick};
 use clock::Clock;
 use numbers::View;
-use state::Answer;
 use state::Replica;
+use state::Returned;
 
 // Refusal 8: no view comes after it.
 fn in_last_view(s: Replica) -> bool
@@ -20,7 +20,7 @@ fn in_last_view(s: Replica) -> bool
 }
 
 // The wait is over, in Normal and in ViewChange: the next view, or refusal 8.
-pub fn next_view(s: Replica, c: Clock, out: &mut [u8]) -> Answer
+pub fn next_view(s: Replica, c: Clock, out: &mut [u8]) -> Returned
     requires { ⌜ setupOk (s .setup) ≡ true ⌝ }
     ensures { λ a. ⌜ spoke a (now (out .exit)) ≡ nextView s c (now (out .entry)) ⌝ }
 {
@@ -32,7 +32,7 @@ pub fn next_view(s: Replica, c: Clock, out: &mut [u8]) -> Answer
 }
 
 // The wait is over, in StateTransfer: GetState first, in the view that is left.
-pub fn next_view_asking(s: Replica, c: Clock, out: &mut [u8]) -> Answer
+pub fn next_view_asking(s: Replica, c: Clock, out: &mut [u8]) -> Returned
     requires { ⌜ setupOk (s .setup) ≡ true ⌝ }
     ensures { λ a. ⌜ spoke a (now (out .exit)) ≡ nextViewAsking s c (now (out .entry)) ⌝ }
 {
@@ -67,7 +67,7 @@ fn repeat(
     stored: &mut [u8],
     out: &mut [u8],
     reps: &mut [u8],
-) -> Answer
+) -> Returned
     requires { ⌜ Gathering s (memory (now log) (now results) (now totals) (now acks) (now stored) (now out) (now reps)) ⌝ }
     ensures { λ a. ⌜ recorded a (memory (now (log .exit)) (now (results .exit)) (now (totals .exit)) (now (acks .exit)) (now (stored .exit)) (now (out .exit)) (now (reps .exit))) ≡ repeated s c (memory (now (log .entry)) (now (results .entry)) (now (totals .entry)) (now (acks .entry)) (now (stored .entry)) (now (out .entry)) (now (reps .entry))) ⌝ }
 {
@@ -90,7 +90,7 @@ fn repeat(
             reps,
         );
     }
-    crate::start_view_change::call(s, t, true, out)
+    crate::votes::call(s, t, true, out)
 }
 
 // on_idle in ViewChange; `up`: the wait is over
@@ -105,7 +105,7 @@ pub fn tick_change(
     stored: &mut [u8],
     out: &mut [u8],
     reps: &mut [u8],
-) -> Answer
+) -> Returned
     requires { ⌜ Gathering s (memory (now log) (now results) (now totals) (now acks) (now stored) (now out) (now reps)) ⌝ }
     ensures { λ a. ⌜ recorded a (memory (now (log .exit)) (now (results .exit)) (now (totals .exit)) (now (acks .exit)) (now (stored .exit)) (now (out .exit)) (now (reps .exit))) ≡ changeTick s c up (memory (now (log .entry)) (now (results .entry)) (now (totals .entry)) (now (acks .entry)) (now (stored .entry)) (now (out .entry)) (now (reps .entry))) ⌝ }
 {

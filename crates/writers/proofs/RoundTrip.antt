@@ -20,7 +20,7 @@ use Rattle.entries.specs.Entries.{operationOk, encodeEntry, entriesOk, EntryFit
 use Rattle.entries.specs.declared.Entry.{Entry}
 use Rattle.entries.proofs.EntryLaws.{entryOf-encode, entryOk-encode}
 use Rattle.frames.specs.Kinds.{roomOf, fieldsOk, countOf, headOk, bodyOk, wellFormed}
-use Rattle.frames.specs.Messages.{stateOf, messageOf, parseFrame, stateRow, carriedOf, carriedBytes}
+use Rattle.frames.specs.Messages.{responseState, messageOf, parseFrame, stateRow, carriedOf, carriedBytes}
 use Rattle.frames.specs.declared.RecoveryState.the-variants.{Absent, Present}
 use Rattle.frames.specs.declared.Message.{Message}
 use Rattle.frames.specs.declared.Message.the-variants.{Request, Prepare, PrepareOk, Commit, GetState, NewState, StartViewChange, DoViewChange, StartView, Recovery, RecoveryResponse}
@@ -60,32 +60,32 @@ Sendable (RecoveryResponse v x r (Present o c)) log =
 -- ---- kinds of one length
 
 parse-prepareok : (to : ℕ) (v : View) (o : Op) (r : ℕ) (log : List ℕ) → to < 2 ^ 8 → Sendable (PrepareOk v o r) log → parseFrame (encode to (PrepareOk v o r) log) ≡ Frame to (PrepareOk v o r)
-unfolding encode header big num encodeEntry roomOf countOf fieldsOk messageOf stateOf entriesOk headOk parseFrame wellFormed bodyOk within if_then_else_ _and_
+unfolding encode header big num encodeEntry roomOf countOf fieldsOk messageOf responseState entriesOk headOk parseFrame wellFormed bodyOk within if_then_else_ _and_
 parse-prepareok to v o r log t f =
     λ i. Frame (be-big 1 to t i) (PrepareOk (record { 0 = be-big 4 (v .0) (f .0) i }) (record { 0 = be-big 4 (o .0) (f .1) i }) (be-big 1 r (f .2) i))
 
 parse-commit : (to : ℕ) (v : View) (c : Op) (log : List ℕ) → to < 2 ^ 8 → Sendable (Commit v c) log → parseFrame (encode to (Commit v c) log) ≡ Frame to (Commit v c)
-unfolding encode header big num encodeEntry roomOf countOf fieldsOk messageOf stateOf entriesOk headOk parseFrame wellFormed bodyOk within if_then_else_ _and_
+unfolding encode header big num encodeEntry roomOf countOf fieldsOk messageOf responseState entriesOk headOk parseFrame wellFormed bodyOk within if_then_else_ _and_
 parse-commit to v c log t f =
     λ i. Frame (be-big 1 to t i) (Commit (record { 0 = be-big 4 (v .0) (f .0) i }) (record { 0 = be-big 4 (c .0) (f .1) i }))
 
 parse-getstate : (to : ℕ) (r : ℕ) (v : View) (o : Op) (log : List ℕ) → to < 2 ^ 8 → Sendable (GetState r v o) log → parseFrame (encode to (GetState r v o) log) ≡ Frame to (GetState r v o)
-unfolding encode header big num encodeEntry roomOf countOf fieldsOk messageOf stateOf entriesOk headOk parseFrame wellFormed bodyOk within if_then_else_ _and_
+unfolding encode header big num encodeEntry roomOf countOf fieldsOk messageOf responseState entriesOk headOk parseFrame wellFormed bodyOk within if_then_else_ _and_
 parse-getstate to r v o log t f =
     λ i. Frame (be-big 1 to t i) (GetState (be-big 1 r (f .0) i) (record { 0 = be-big 4 (v .0) (f .1) i }) (record { 0 = be-big 4 (o .0) (f .2) i }))
 
 parse-startviewchange : (to : ℕ) (v : View) (r : ℕ) (log : List ℕ) → to < 2 ^ 8 → Sendable (StartViewChange v r) log → parseFrame (encode to (StartViewChange v r) log) ≡ Frame to (StartViewChange v r)
-unfolding encode header big num encodeEntry roomOf countOf fieldsOk messageOf stateOf entriesOk headOk parseFrame wellFormed bodyOk within if_then_else_ _and_
+unfolding encode header big num encodeEntry roomOf countOf fieldsOk messageOf responseState entriesOk headOk parseFrame wellFormed bodyOk within if_then_else_ _and_
 parse-startviewchange to v r log t f =
     λ i. Frame (be-big 1 to t i) (StartViewChange (record { 0 = be-big 4 (v .0) (f .0) i }) (be-big 1 r (f .1) i))
 
 parse-recovery : (to : ℕ) (r : ℕ) (x : ℕ) (v : View) (log : List ℕ) → to < 2 ^ 8 → Sendable (Recovery r x v) log → parseFrame (encode to (Recovery r x v) log) ≡ Frame to (Recovery r x v)
-unfolding encode header big num encodeEntry roomOf countOf fieldsOk messageOf stateOf entriesOk headOk parseFrame wellFormed bodyOk within if_then_else_ _and_
+unfolding encode header big num encodeEntry roomOf countOf fieldsOk messageOf responseState entriesOk headOk parseFrame wellFormed bodyOk within if_then_else_ _and_
 parse-recovery to r x v log t f =
     λ i. Frame (be-big 1 to t i) (Recovery (be-big 1 r (f .0) i) (be-big 8 x (f .1) i) (record { 0 = be-big 4 (v .0) (f .2) i }))
 
 parse-bare : (to : ℕ) (v : View) (x : ℕ) (r : ℕ) (log : List ℕ) → to < 2 ^ 8 → Sendable (RecoveryResponse v x r Absent) log → parseFrame (encode to (RecoveryResponse v x r Absent) log) ≡ Frame to (RecoveryResponse v x r Absent)
-unfolding encode header big num encodeEntry roomOf countOf fieldsOk messageOf stateOf entriesOk headOk parseFrame wellFormed bodyOk within if_then_else_ _and_
+unfolding encode header big num encodeEntry roomOf countOf fieldsOk messageOf responseState entriesOk headOk parseFrame wellFormed bodyOk within if_then_else_ _and_
 parse-bare to v x r log t f =
     λ i. Frame (be-big 1 to t i) (RecoveryResponse (record { 0 = be-big 4 (v .0) (f .0) i }) (be-big 8 x (f .1) i) (be-big 1 r (f .2) i) Absent)
 
@@ -96,13 +96,13 @@ unfolding entriesOk _and_
 one-entry e f = rw (entryOk-encode e [] (f .fits), f .rules)
 
 parse-request : (to : ℕ) (e : Entry) (log : List ℕ) → to < 2 ^ 8 → Sendable (Request e) log → parseFrame (encode to (Request e) log) ≡ Frame to (Request e)
-unfolding encode header big num encodeEntry roomOf countOf fieldsOk messageOf stateOf if_then_else_
+unfolding encode header big num encodeEntry roomOf countOf fieldsOk messageOf responseState if_then_else_
 parse-request to e log t f =
     accepted _ (formed _ (record { long = lit≤ tt; size = refl; version = refl; low = lit≤ tt; high = lit≤ tt; fields = refl; exact = refl; log = one-entry e f }))
     ∙ (λ i. Frame (be-big 1 to t i) (Request (entryOf-encode e [] (f .fits) i)))
 
 parse-prepare : (to : ℕ) (v : View) (o : Op) (c : Op) (e : Entry) (log : List ℕ) → to < 2 ^ 8 → Sendable (Prepare v o c e) log → parseFrame (encode to (Prepare v o c e) log) ≡ Frame to (Prepare v o c e)
-unfolding encode header big num encodeEntry roomOf countOf fieldsOk messageOf stateOf if_then_else_
+unfolding encode header big num encodeEntry roomOf countOf fieldsOk messageOf responseState if_then_else_
 parse-prepare to v o c e log t f =
     accepted _ (formed _ (record { long = lit≤ tt; size = refl; version = refl; low = lit≤ tt; high = lit≤ tt; fields = refl; exact = refl; log = one-entry e (f .3) }))
     ∙ (λ i. Frame (be-big 1 to t i) (Prepare (record { 0 = be-big 4 (v .0) (f .0) i }) (record { 0 = be-big 4 (o .0) (f .1) i }) (record { 0 = be-big 4 (c .0) (f .2) i }) (entryOf-encode e [] (f .3 .fits) i)))
@@ -110,7 +110,7 @@ parse-prepare to v o c e log t f =
 -- ---- kinds with a log
 
 parse-newstate : (to : ℕ) (v : View) (a : Op) (z : Op) (c : Op) (log : List ℕ) → to < 2 ^ 8 → Sendable (NewState v a z c) log → parseFrame (encode to (NewState v a z c) log) ≡ Frame to (NewState v a z c)
-unfolding encode header big num encodeEntry roomOf countOf fieldsOk messageOf stateOf if_then_else_
+unfolding encode header big num encodeEntry roomOf countOf fieldsOk messageOf responseState if_then_else_
 parse-newstate to v a z c log t f =
     let s = encode to (NewState v a z c) log in
     let l = f .5 in
@@ -132,7 +132,7 @@ parse-newstate to v a z c log t f =
     ∙ (λ i. Frame (be-big 1 to t i) (NewState (record { 0 = be-big 4 (v .0) (f .0) i }) (record { 0 = be-big 4 (a .0) (f .1) i }) (record { 0 = be-big 4 (z .0) (f .2) i }) (record { 0 = be-big 4 (c .0) (f .3) i })))
 
 parse-doviewchange : (to : ℕ) (v : View) (r : ℕ) (l : View) (o : Op) (c : Op) (log : List ℕ) → to < 2 ^ 8 → Sendable (DoViewChange v r l o c) log → parseFrame (encode to (DoViewChange v r l o c) log) ≡ Frame to (DoViewChange v r l o c)
-unfolding encode header big num encodeEntry roomOf countOf fieldsOk messageOf stateOf if_then_else_
+unfolding encode header big num encodeEntry roomOf countOf fieldsOk messageOf responseState if_then_else_
 parse-doviewchange to v r l o c log t f =
     let s = encode to (DoViewChange v r l o c) log in
     let g = f .5 in
@@ -152,7 +152,7 @@ parse-doviewchange to v r l o c log t f =
     ∙ (λ i. Frame (be-big 1 to t i) (DoViewChange (record { 0 = be-big 4 (v .0) (f .0) i }) (be-big 1 r (f .1) i) (record { 0 = be-big 4 (l .0) (f .2) i }) (record { 0 = be-big 4 (o .0) (f .3) i }) (record { 0 = be-big 4 (c .0) (f .4) i })))
 
 parse-startview : (to : ℕ) (v : View) (o : Op) (c : Op) (log : List ℕ) → to < 2 ^ 8 → Sendable (StartView v o c) log → parseFrame (encode to (StartView v o c) log) ≡ Frame to (StartView v o c)
-unfolding encode header big num encodeEntry roomOf countOf fieldsOk messageOf stateOf if_then_else_
+unfolding encode header big num encodeEntry roomOf countOf fieldsOk messageOf responseState if_then_else_
 parse-startview to v o c log t f =
     let s = encode to (StartView v o c) log in
     let l = f .3 in
@@ -172,7 +172,7 @@ parse-startview to v o c log t f =
     ∙ (λ i. Frame (be-big 1 to t i) (StartView (record { 0 = be-big 4 (v .0) (f .0) i }) (record { 0 = be-big 4 (o .0) (f .1) i }) (record { 0 = be-big 4 (c .0) (f .2) i })))
 
 parse-full : (to : ℕ) (v : View) (x : ℕ) (r : ℕ) (o : Op) (c : Op) (log : List ℕ) → to < 2 ^ 8 → Sendable (RecoveryResponse v x r (Present o c)) log → parseFrame (encode to (RecoveryResponse v x r (Present o c)) log) ≡ Frame to (RecoveryResponse v x r (Present o c))
-unfolding encode header big num encodeEntry roomOf countOf fieldsOk messageOf stateOf if_then_else_
+unfolding encode header big num encodeEntry roomOf countOf fieldsOk messageOf responseState if_then_else_
 parse-full to v x r o c log t f =
     let s = encode to (RecoveryResponse v x r (Present o c)) log in
     let l = f .5 in

@@ -4,7 +4,7 @@ use Prim.Native.Nat.{ℕ, _+_, _-_, _≤_}
 use native.Mathlib.Omega.{arith}
 use lib.ListN.{length}
 use Rattle.entries.proofs.PlaceLaws.{entry-room}
-use Rattle.book.specs.Runs.{committed}
+use Rattle.book.specs.Runs.{moneyCommitted}
 use Rattle.book.specs.Memory.{money}
 use Rattle.book.proofs.RunLaws.{commit-none, commit-more}
 use Rattle.book.proofs.commit_up_to.Statement.{statement}
@@ -13,7 +13,7 @@ use Rattle.book.proofs.commit_up_to.Tie as tie
 abbrev Inv-loop : tie.InvT-loop
 Inv-loop log results₀ totals₀ members from count k₀ results totals k =
     (k ≤ count) × (length results ≡ length results₀) × (length totals ≡ length totals₀)
-    × (money results totals ≡ committed members log from k (money results₀ totals₀))
+    × (money results totals ≡ moneyCommitted members log from k (money results₀ totals₀))
 
 abbrev μ-loop : tie.MeasureT-loop
 μ-loop log results₀ totals₀ members from count k₀ results totals k = count - k
@@ -45,7 +45,7 @@ returns c =
     let l = c .before .loop in
     let a = c .before .before .before .before .before .args in
     let e : l .k ≡ a .count = omega arith in
-    l .inv .3 ∙ ap (λ (k : ℕ). committed (a .members) (a .log .now) (a .from) k (money (a .results .now) (a .totals .now))) e
+    l .inv .3 ∙ ap (λ (k : ℕ). moneyCommitted (a .members) (a .log .now) (a .from) k (money (a .results .now) (a .totals .now))) e
 
 pub commit-up-to-spec : {M : Type 1} → statement M
 commit-up-to-spec =

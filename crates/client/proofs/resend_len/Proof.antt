@@ -1,5 +1,5 @@
 -- `client::resend_len` meets its contract. Assumes nothing.
-use Rattle.client.specs.Client.{resend}
+use Rattle.client.specs.Client.{framesAgain}
 use Rattle.client.proofs.RefusalLaws.{frames-length}
 use borrow.Author.Needs.{needs}
 use Rattle.client.proofs.resend_len.Statement.{statement}
@@ -9,11 +9,11 @@ enum-told : tie.Need-enum-told
 enum-told c = search needs
 
 returns : tie.Need-returns
-unfolding resend
+unfolding framesAgain
 returns c = rw (c .enum-told .given .1)
 
 returns-2 : tie.Need-returns-2
-unfolding resend
+unfolding framesAgain
 returns-2 c = rw (c .enum-told2 .given .1, frames-length)
 
 pub resend-len-spec : {M : Type 1} → statement M

@@ -48,8 +48,8 @@ use Rattle.client.proofs.Client as T
 use Rattle.client.proofs.Client.Laws as T′
 use Rattle.client.proofs.AfterRequest as R
 use Rattle.client.proofs.AfterRequest.Laws as R′
-use Rattle.client.proofs.Sent as P
-use Rattle.client.proofs.Sent.Laws as P′
+use Rattle.client.proofs.RequestSent as P
+use Rattle.client.proofs.RequestSent.Laws as P′
 use Rattle.client.proofs.requested as callee
 use Rattle.client.proofs.requested.Symbol as callee-def
 use Rattle.client.proofs.requested.Symbol.{name as #callee}

@@ -3,7 +3,7 @@ use native.Mathlib.Omega.{arith}
 use borrow.Author.Tests.{eq-eqb, ne-eqb}
 use Rattle.numbers.specs.Words.{if_then_else_}
 use Rattle.frames.specs.Kinds.{roomOf}
-use Rattle.frames.specs.Messages.{stateOf}
+use Rattle.frames.specs.Messages.{responseState}
 use Rattle.frames.proofs.KindLaws.{least-room}
 use Rattle.frames.proofs.say.state.Statement.{statement}
 use Rattle.frames.proofs.say.state.Tie as tie
@@ -20,11 +20,11 @@ unfolding roomOf if_then_else_
 read-op-requires-2 c κs = omega (arith, rw (← c .before .before .read-u8 .ensures, eq-eqb _ _ (c .before .if1 .taken)) at (c .before .before .before .before .pre))
 
 returns : tie.Need-returns
-unfolding stateOf if_then_else_
+unfolding responseState if_then_else_
 returns c = rw (← c .before .before .before .read-u8 .ensures, eq-eqb _ _ (c .before .before .if1 .taken), c .before .read-op .ensures, c .read-op2 .ensures)
 
 returns-2 : tie.Need-returns-2
-unfolding stateOf if_then_else_
+unfolding responseState if_then_else_
 returns-2 c = rw (← c .before .read-u8 .ensures, ne-eqb _ _ (c .if1 .left))
 
 pub state-spec : {M : Type 1} → statement M

@@ -3,7 +3,7 @@ use Rattle.normal.proofs.PrepareOkLaws.{after-commit, ready, sender-sma
 use Rattle.normal.specs.PrepareOk.{counted, byCount}
 use Rattle.config.specs.Replicas.{withMember}
 use Rattle.book.specs.Memory.{money}
-use Rattle.state.specs.declared.Answer.{Answer}
+use Rattle.state.specs.declared.Returned.{Returned}
 use mathlib.Core.Path.{ap, _∙_}
 use native.Mathlib.Omega.{arith}
 use Prim.Native.Nat.{ℕ}
@@ -42,7 +42,7 @@ commit-with-replies-requires c κs = let a = c .before .before .before .before .
 
 returns-2 : tie.Need-returns-2
 unfolding byCount
-returns-2 c = let a = c .before .before .before .before .before .before .before .before .before .before .before .before .before .before .args in weighed (a .s) (a .v) (a .op) (a .from) (a .log .now) _ (a .acks .now) (a .reps .now) _ (c .before .before .before .before .before .before .before .before .hears .ensures) _ _ _ _ (c .before .before .before .before .before .ack-place .ensures) (c .before .before .before .before .before .before .before .if1 .left) (c .before .before .before .weigh .ensures) (c .before .enum-told .given .1) (ap (λ (x : Answer). counted x (money (a .results .now) (a .totals .now)) (a .acks .now) (a .reps .now)) (c .done2 .ensures))
+returns-2 c = let a = c .before .before .before .before .before .before .before .before .before .before .before .before .before .before .args in weighed (a .s) (a .v) (a .op) (a .from) (a .log .now) _ (a .acks .now) (a .reps .now) _ (c .before .before .before .before .before .before .before .before .hears .ensures) _ _ _ _ (c .before .before .before .before .before .ack-place .ensures) (c .before .before .before .before .before .before .before .if1 .left) (c .before .before .before .weigh .ensures) (c .before .enum-told .given .1) (ap (λ (x : Returned). counted x (money (a .results .now) (a .totals .now)) (a .acks .now) (a .reps .now)) (c .done2 .ensures))
 
 returns-3 : tie.Need-returns-3
 unfolding byCount
@@ -50,7 +50,7 @@ returns-3 c = let a = c .before .before .before .before .before .before .before 
 
 returns-4 : tie.Need-returns-4
 unfolding byCount
-returns-4 c = let a = c .before .before .before .before .before .before .before .before .before .before .before .before .before .before .before .args in weighed (a .s) (a .v) (a .op) (a .from) (a .log .now) _ (a .acks .now) (a .reps .now) _ (c .before .before .before .before .before .before .before .before .before .hears .ensures) _ _ _ _ (c .before .before .before .before .before .before .ack-place .ensures) (c .before .before .before .before .before .before .before .before .if1 .left) (c .before .before .before .before .weigh .ensures) (c .before .before .code .given .1) (ap (λ (x : Answer). counted x (money (a .results .now) (a .totals .now)) (a .acks .now) (a .reps .now)) (c .refused .ensures))
+returns-4 c = let a = c .before .before .before .before .before .before .before .before .before .before .before .before .before .before .before .args in weighed (a .s) (a .v) (a .op) (a .from) (a .log .now) _ (a .acks .now) (a .reps .now) _ (c .before .before .before .before .before .before .before .before .before .hears .ensures) _ _ _ _ (c .before .before .before .before .before .before .ack-place .ensures) (c .before .before .before .before .before .before .before .before .if1 .left) (c .before .before .before .before .weigh .ensures) (c .before .before .code .given .1) (ap (λ (x : Returned). counted x (money (a .results .now) (a .totals .now)) (a .acks .now) (a .reps .now)) (c .refused .ensures))
 
 returns-5 : tie.Need-returns-5
 unfolding byCount

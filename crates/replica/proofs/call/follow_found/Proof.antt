@@ -2,8 +2,8 @@
 use mathlib.Core.Path.{sym, ap, _∙_}
 use native.Mathlib.Omega.{arith}
 use Rattle.numbers.proofs.WordLaws.{if-false}
-use Rattle.rows.specs.declared.Change.{Change}
-use Rattle.table.specs.Steps.{oldAfter}
+use Rattle.client_table.specs.declared.Change.{Change}
+use Rattle.client_table_bytes.specs.Steps.{oldAfter}
 use Rattle.replica.proofs.CallLaws.{follow-refused, follow-done}
 use borrow.Author.Needs.{needs}
 use Rattle.replica.proofs.call.follow_found.Statement.{statement}

@@ -2,7 +2,7 @@
 use mathlib.Core.Path.{_≡_, ap, sym, _∙_, subst}
 use mathlib.Core.Bool.{true}
 use Rattle.reports.proofs.JudgeLaws.{primary-is, primary-lies, too-few, behind, asks-primary}
-use Rattle.reports.specs.Judge.{answered, Lies}
+use Rattle.reports.specs.Judge.{answeredByPrimary, Lies}
 use Rattle.reports.specs.declared.Best.{Best}
 use borrow.Author.Needs.{needs}
 use Rattle.reports.proofs.judge.judge_response.Statement.{statement}
@@ -50,7 +50,7 @@ returns-3 c =
     (c .before .before .before .before .before .before .before .before .quorum .ensures) (l .result .0) (c .judge-primary .result)
     (c .before .before .before .before .before .before .before .if1 .left) (l .ensures) (c .before .before .before .if2 .left)
     (c .judge-primary .ensures
-    ∙ ap (λ (b : Best). answered b (l .result .0) (a .id) (a .room) (a .c .0) (a .ours .now) (a .stored .now) (a .fresh .now)) e)
+    ∙ ap (λ (b : Best). answeredByPrimary b (l .result .0) (a .id) (a .room) (a .c .0) (a .ours .now) (a .stored .now) (a .fresh .now)) e)
 
 pub judge-response-spec : {M : Type 1} → statement M
 judge-response-spec =

@@ -4,19 +4,19 @@ use native.Mathlib.Omega.{arith}
 use lib.ListN.{take, drop}
 use Prim.Native.Nat.{_≤_}
 use borrow.Author.Needs.{needs}
-use Rattle.reports.specs.Rows.{latestIn}
+use Rattle.reports.specs.Rows.{latestViewIn}
 use Rattle.reports.proofs.RowLaws.{rows-end, latest-turn}
 use Rattle.reports.proofs.rows.latest_view.Statement.{statement}
 use Rattle.reports.proofs.rows.latest_view.Tie as tie
 
 abbrev Inv-loop : tie.InvT-loop
-Inv-loop t n i₀ v₀ i v = (i ≤ n) × (v .0 ≡ latestIn (drop i (take n (t .rows))))
+Inv-loop t n i₀ v₀ i v = (i ≤ n) × (v .0 ≡ latestViewIn (drop i (take n (t .rows))))
 
 abbrev μ-loop : tie.MeasureT-loop
 μ-loop t n i₀ v₀ i v = i
 
 loop-holds : tie.Need-loop-holds Inv-loop μ-loop
-unfolding latestIn
+unfolding latestViewIn
 loop-holds c = (omega arith, rw (rows-end (c .args .t .rows) (c .args .n)))
 
 loop-again : tie.Need-loop-again Inv-loop μ-loop

@@ -7,7 +7,7 @@ use native.Mathlib.Nat.{le-refl}
 use Rattle.frames.specs.declared.Status.the-variants.{Normal}
 use Rattle.state.specs.State.{heardBy, withStatus, withLog}
 use Rattle.book.specs.Memory.{runs}
-use Rattle.transfer.specs.NewState.{filled}
+use Rattle.transfer.specs.NewState.{gapFilled}
 use Rattle.transfer.proofs.NewStateLaws.{rises-fit, append-fits, breaks, short, extends, fill-fits}
 use borrow.Author.Needs.{needs}
 use Rattle.transfer.proofs.new_state.fill.Statement.{statement}
@@ -21,7 +21,7 @@ rises-after-requires c κs =
     (h .0) (h .1 .1 .1) (le-refl (a .s .op .0))
 
 returns : tie.Need-returns
-unfolding filled
+unfolding gapFilled
 returns c =
     let a = c .before .before .before .before .before .before .before .before .before .before .before .before .args in
     breaks (a .s) (withLog (withStatus (heardBy (a .s)) Normal) (a .p .end) (a .s .commit)) (a .s .op .0) (a .p .end .0 - a .s .op .0)
@@ -29,7 +29,7 @@ returns c =
     (ap not (sym (c .before .before .rises-after .ensures)) ∙ c .before .if1 .taken) (c .refused .ensures)
 
 returns-2 : tie.Need-returns-2
-unfolding filled
+unfolding gapFilled
 returns-2 c =
     let a = c .before .before .before .before .before .before .before .before .before .before .before .before .before .args in
     short (a .s) (withLog (withStatus (heardBy (a .s)) Normal) (a .p .end) (a .s .commit)) (a .s .op .0) (a .p .end .0 - a .s .op .0)
@@ -53,7 +53,7 @@ acknowledge-requires c κs =
     (fill-fits (a .s) (a .p) (a .rest .now) (runs (a .log .now) (a .results .now) (a .totals .now)) (h .0) (h .1 .1 .0) _ (h .1 .0) (h .1 .1 .1) (c .before .before .before .before .before .before .before .before .before .append-part .ensures))
 
 returns-3 : tie.Need-returns-3
-unfolding filled
+unfolding gapFilled
 returns-3 c =
     let a = c .before .before .before .before .before .before .before .before .before .before .before .before .before .before .before .before .before .before .before .before .before .before .before .before .before .before .before .before .before .before .before .before .before .args in
     extends (a .s) (withLog (withStatus (heardBy (a .s)) Normal) (a .p .end) (a .s .commit)) (a .s .op .0) (a .p .end .0 - a .s .op .0)

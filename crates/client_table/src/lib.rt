@@ -1,0 +1,82 @@
+// The client table as a list of rows, whichever way the rows are held: what a call changes, and the steps of the search by halves.
+ghost use mathlib.Core.Path.{_≡_};
+ghost use Prim.Native.Nat.{_-_, _≤_, _<_};
+ghost use Rattle.client_table.specs.Search.{midOf, halved, isBefore};
+use fees::Outcome;
+use numbers::Op;
+
+// Where a search has come to: the place is from `lo` up to `hi`.
+pub struct Span {
+    pub lo: usize,
+    pub hi: usize,
+}
+
+// What is sought: the place of a client's row, or the first unused row.
+pub enum Goal {
+    Client { id: u64 },
+    End,
+}
+
+// What the table has of a client: whether it has a row, its latest request, and the reply that is kept for it, if there is one.
+pub struct Latest {
+    pub there: bool,
+    pub request: u64,
+    pub replied: bool,
+    pub reply: Outcome,
+}
+
+// What a call did to a log that had `op` entries, `commit` of them committed: it was installed anew, or appended to, and has `to` entries now,
+// `done` of them committed.
+pub struct Change {
+    pub installed: bool,
+    pub op: Op,
+    pub commit: Op,
+    pub to: Op,
+    pub done: Op,
+}
+
+// The middle of a span.
+pub fn middle(s: Span) -> usize
+    requires { ⌜ s .lo < s .hi ⌝ }
+    ensures { λ r. ⌜ (r ≡ midOf s) × ((s .lo ≤ r) × (r < s .hi)) ⌝ }
+{
+    s.lo + (s.hi - s.lo) / 2
+}
+
+// The half of the span that is left: above its middle, or below.
+pub fn halve(s: Span, up: bool) -> Span
+    requires { ⌜ s .lo < s .hi ⌝ }
+    ensures { λ r. ⌜ r ≡ halved s up ⌝ }
+{
+    let m = middle(s);
+    if up {
+        return Span {
+            lo: m + 1,
+            hi: s.hi,
+        };
+    }
+    Span { lo: s.lo, hi: m }
+}
+
+// Whether a row, in use or not, of this client stands before what is sought.
+pub fn before(used: bool, client: u64, goal: Goal) -> bool
+    ensures { λ r. ⌜ r ≡ isBefore used client goal ⌝ }
+{
+    if !used {
+        return false;
+    }
+    match goal {
+        Goal::Client { id } => client < id,
+        Goal::End => true,
+    }
+}
+
+// What a commit number leaves after k entries.
+pub fn left_of(commit: usize, k: usize) -> usize
+    ensures { λ r. ⌜ r ≡ commit - k ⌝ }
+{
+    if commit < k {
+        return 0;
+    }
+    commit - k
+}

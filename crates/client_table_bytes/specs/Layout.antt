@@ -1,0 +1,52 @@
+-- The client table in lent bytes, 25 a row: client 8, request 8, mark 1 (0 unused, 255 no reply yet, else the outcome), total 8. Every byte has a
+-- meaning, so that bytes and rows say the same. Assumes nothing.
+use mathlib.Core.Bool.{not}
+use mathlib.Core.List.{List, _++_}
+use mathlib.Core.Option.{none, some}
+use Prim.Native.Nat.{ℕ}
+use lib.Dec.{eqb}
+use Rattle.numbers.specs.Words.{if_then_else_}
+use Rattle.numbers.specs.Numbers.{big, num}
+use Rattle.numbers.specs.Cells.{cells}
+use Rattle.entries.specs.declared.Entry.{Entry}
+use Rattle.fees.specs.Fees.{gives}
+use Rattle.client_table.specs.Shape.{Shape}
+use Rattle.client_table_bytes.specs.declared.MarkedRow.{MarkedRow}
+
+-- an unused row
+abbrev pub noRow : MarkedRow
+noRow = record { client = 0; request = 0; mark = 0; total = 0 }
+
+-- the row of an entry, with a mark and a total
+abbrev pub rowWith : Entry → ℕ → ℕ → MarkedRow
+rowWith e mark total = record { client = e .client; request = e .request; mark = mark; total = total }
+
+-- of an entry that has no reply yet
+abbrev pub freshOf : Entry → MarkedRow
+freshOf e = rowWith e 255 0
+
+-- what the table asks of a row, of one in bytes
+abbrev pub byteRow : Shape MarkedRow
+byteRow =
+    record {
+      used = λ x. not (eqb (x .mark) 0);
+      client = λ x. x .client;
+      request = λ x. x .request;
+      kept = λ x. if eqb (x .mark) 255 then none else some (gives (x .mark) (x .total));
+      blank = noRow;
+      fresh = freshOf;
+      answered = λ e o. rowWith e (o .code) (o .total);
+      again = λ e x. rowWith e (x .mark) (x .total);
+    }
+
+-- the row that the first 25 bytes stand for
+unfoldable pub rowOf : List ℕ → MarkedRow
+rowOf s = record { client = num 8 0 s; request = num 8 8 s; mark = num 1 16 s; total = num 8 17 s }
+
+-- a row's bytes
+unfoldable pub encodeRow : MarkedRow → List ℕ
+encodeRow r = big 8 (r .client) ++ big 8 (r .request) ++ big 1 (r .mark) ++ big 8 (r .total)
+
+-- the first n rows of a run
+abbrev pub rowsOf : ℕ → List ℕ → List MarkedRow
+rowsOf n s = cells 25 rowOf n s

@@ -1,0 +1,268 @@
+// The client table in lent bytes: 25 a row, in rising order of client id, unused rows last.
+ghost use mathlib.Core.Path.{_≡_};
+ghost use Prim.Native.Nat.{_-_, _*_, _≤_};
+ghost use lib.ListN.{length, take, drop, replicate};
+ghost use Rattle.numbers.specs.Numbers.{over};
+ghost use Rattle.entries.specs.Entries.{entries};
+ghost use Rattle.entries.specs.Places.{entryPlace, resultPlace};
+ghost use Rattle.fees.specs.Results.{outcomes};
+ghost use Rattle.client_table.specs.Rows.{spotOf, inserted, putRow, appended, replied, rowsCommitted, keptRow, rebuilt, renewed, followed};
+ghost use Rattle.client_table_bytes.specs.Layout.{noRow, byteRow, rowsOf};
+ghost use Rattle.client_table_bytes.specs.Steps.{foundIn, latestOf, oldAfter, RowsLeft, AppendsFor};
+use client_table::Change;
+use client_table::Goal;
+use client_table::Latest;
+use entries::Entry;
+use fees::Outcome;
+
+mod cell; // a row read, written and made
+mod place; // places: the search by halves, and a row stored
+
+// A row: mark 0 is an unused row, 255 no reply yet, any other the outcome of the reply that is kept, whose total follows.
+pub struct MarkedRow {
+    pub client: u64,
+    pub request: u64,
+    pub mark: u8,
+    pub total: u64,
+}
+
+// Where a client's row is or would go, whether it is there, and the row at that place.
+pub struct Found {
+    pub at: usize,
+    pub there: bool,
+    pub row: MarkedRow,
+}
+
+// The client's row, its place, or the place where it would go.
+pub fn find(table: &[u8], n: usize, client: u64) -> Found
+    requires { ⌜ 25 * n ≤ length (now table) ⌝ }
+    ensures { λ r. ⌜ r ≡ foundIn (rowsOf n (now (table .entry))) client ⌝ }
+{
+    let at = place::seek(table, n, 0, Goal::Client { id: client });
+    let row = place::peek(table, n, at);
+    Found {
+        at,
+        there: cell::is_of(row, client),
+        row,
+    }
+}
+
+// What was found, as the core is told it.
+pub fn latest(f: Found) -> Latest
+    ensures { λ r. ⌜ r ≡ latestOf f ⌝ }
+{
+    Latest {
+        there: f.there,
+        request: f.row.request,
+        replied: f.row.mark != 255,
+        reply: Outcome {
+            code: f.row.mark,
+            total: f.row.total,
+        },
+    }
+}
+
+// The row of a client that has none; a full table takes none.
+fn insert(table: &mut [u8], n: usize, at: usize, row: MarkedRow)
+    requires { ⌜ 25 * n ≤ length (now table) × (at ≡ spotOf byteRow (rowsOf n (now table)) (row .client)) ⌝ }
+    ensures { λ r. ⌜ RowsLeft n (now (table .entry)) (now (table .exit)) (inserted byteRow (rowsOf n (now (table .entry))) row) ⌝ }
+{
+    let to = place::seek(table, n, at, Goal::End);
+    if n <= to {
+        return;
+    }
+    place::store(table, n, at, to, row);
+}
+
+// `row` becomes its client's row; f is what was found of him.
+fn put_found(table: &mut [u8], n: usize, f: Found, row: MarkedRow)
+    requires { ⌜ (25 * n ≤ length (now table)) × (f ≡ foundIn (rowsOf n (now table)) (row .client)) ⌝ }
+    ensures { λ r. ⌜ RowsLeft n (now (table .entry)) (now (table .exit)) (putRow byteRow (rowsOf n (now (table .entry))) row) ⌝ }
+{
+    if f.there {
+        place::store(table, n, f.at, f.at, row);
+        return;
+    }
+    insert(table, n, f.at, row);
+}
+
+// `row` becomes its client's row.
+fn put(table: &mut [u8], n: usize, row: MarkedRow)
+    requires { ⌜ 25 * n ≤ length (now table) ⌝ }
+    ensures { λ r. ⌜ RowsLeft n (now (table .entry)) (now (table .exit)) (putRow byteRow (rowsOf n (now (table .entry))) row) ⌝ }
+{
+    let f = find(table, n, row.client);
+    put_found(table, n, f, row);
+}
+
+// The entries from .. to of the log, in order, become their clients' rows.
+pub fn follow_append(table: &mut [u8], n: usize, log: &[u8], from: usize, to: usize)
+    requires { ⌜ (25 * n ≤ length (now table)) × ((32 * to ≤ length (now log)) × (from ≤ to)) ⌝ }
+    ensures { λ r. ⌜ RowsLeft n (now (table .entry)) (now (table .exit)) (appended byteRow (rowsOf n (now (table .entry))) (entries (to - from) (drop (entryPlace from) (now (log .entry))))) ⌝ }
+{
+    let mut k = from;
+    while k < to {
+        put(table, n, cell::fresh(entries::entry_in(log, k)));
+        k += 1;
+    }
+}
+
+// The entry was executed: its reply is kept where it is its client's latest request.
+fn reply(table: &mut [u8], n: usize, e: Entry, o: Outcome)
+    requires { ⌜ 25 * n ≤ length (now table) ⌝ }
+    ensures { λ r. ⌜ RowsLeft n (now (table .entry)) (now (table .exit)) (replied byteRow (rowsOf n (now (table .entry))) e o) ⌝ }
+{
+    let f = find(table, n, e.client);
+    if !f.there {
+        return;
+    }
+    if f.row.request != e.request {
+        return;
+    }
+    let row = MarkedRow {
+        client: e.client,
+        request: e.request,
+        mark: o.code,
+        total: o.total,
+    };
+    place::store(table, n, f.at, f.at, row);
+}
+
+// The entries from .. to were executed, and gave these results.
+pub fn follow_commit(table: &mut [u8], n: usize, log: &[u8], results: &[u8], from: usize, to: usize)
+    requires { ⌜ (25 * n ≤ length (now table)) × ((32 * to ≤ length (now log)) × ((9 * to ≤ length (now results)) × (from ≤ to))) ⌝ }
+    ensures { λ r. ⌜ RowsLeft n (now (table .entry)) (now (table .exit)) (rowsCommitted byteRow (rowsOf n (now (table .entry))) (entries (to - from) (drop (entryPlace from) (now (log .entry)))) (outcomes (to - from) (drop (resultPlace from) (now (results .entry))))) ⌝ }
+{
+    let mut k = from;
+    while k < to {
+        let e = entries::entry_in(log, k);
+        let o = fees::result_in(results, k);
+        reply(table, n, e, o);
+        k += 1;
+    }
+}
+
+// The row of an entry of a new log, `left` entries from it on being committed, by the old rows.
+fn kept(old: &[u8], n: usize, left: usize, e: Entry) -> MarkedRow
+    requires { ⌜ 25 * n ≤ length (now old) ⌝ }
+    ensures { λ r. ⌜ r ≡ keptRow byteRow (rowsOf n (now (old .entry))) left e ⌝ }
+{
+    if left == 0 {
+        return cell::fresh(e);
+    }
+    let was = find(old, n, e.client);
+    if !was.there {
+        return cell::fresh(e);
+    }
+    if was.row.request != e.request {
+        return cell::fresh(e);
+    }
+    MarkedRow {
+        client: e.client,
+        request: e.request,
+        mark: was.row.mark,
+        total: was.row.total,
+    }
+}
+
+// The first `op` entries of the log become their clients' rows, in order, by the old rows.
+fn refill(table: &mut [u8], n: usize, old: &[u8], log: &[u8], op: usize, commit: usize)
+    requires { ⌜ (25 * n ≤ length (now table)) × ((25 * n ≤ length (now old)) × (32 * op ≤ length (now log))) ⌝ }
+    ensures { λ r. ⌜ RowsLeft n (now (table .entry)) (now (table .exit)) (rebuilt byteRow (rowsOf n (now (old .entry))) commit (rowsOf n (now (table .entry))) (entries op (now (log .entry)))) ⌝ }
+{
+    let mut k = 0;
+    while k < op {
+        let e = entries::entry_in(log, k);
+        put(table, n, kept(old, n, client_table::left_of(commit, k), e));
+        k += 1;
+    }
+}
+
+// All n rows become unused.
+pub fn clear(table: &mut [u8], n: usize)
+    requires { ⌜ 25 * n ≤ length (now table) ⌝ }
+    ensures { λ r. ⌜ RowsLeft n (now (table .entry)) (now (table .exit)) (replicate n noRow) ⌝ }
+{
+    numbers::fill(table, 25 * n, 0);
+}
+
+// The table of a new log of `op` entries, `commit` of them committed; `old` gets the rows that were there.
+pub fn rebuild(table: &mut [u8], n: usize, old: &mut [u8], log: &[u8], op: usize, commit: usize)
+    requires { ⌜ (25 * n ≤ length (now table)) × ((25 * n ≤ length (now old)) × (32 * op ≤ length (now log))) ⌝ }
+    ensures { λ r. ⌜ (RowsLeft n (now (table .entry)) (now (table .exit)) (rebuilt byteRow (rowsOf n (now (table .entry))) commit (replicate n noRow) (entries op (now (log .entry))))) × (now (old .exit) ≡ over (take (25 * n) (now (table .entry))) (now (old .entry))) ⌝ }
+{
+    numbers::copy(old, table, 25 * n);
+    clear(table, n);
+    refill(table, n, old, log, op, commit);
+}
+
+// The rows brought up to a log that was installed anew, or appended to.
+fn renew(table: &mut [u8], n: usize, old: &mut [u8], log: &[u8], change: Change)
+    requires { ⌜ (25 * n ≤ length (now table)) × ((25 * n ≤ length (now old)) × (32 * change .to .0 ≤ length (now log))) ⌝ }
+    ensures { λ r. ⌜ RowsLeft n (now (table .entry)) (now (table .exit)) (renewed byteRow change (rowsOf n (now (table .entry))) (entries (change .to .0) (now (log .entry)))) × (now (old .exit) ≡ oldAfter n change (now (table .entry)) (now (old .entry))) ⌝ }
+{
+    let to = change.to.0 as usize;
+    if change.installed {
+        rebuild(table, n, old, log, to, change.commit.0 as usize);
+        return;
+    }
+    if change.to.0 <= change.op.0 {
+        return;
+    }
+    follow_append(table, n, log, change.op.0 as usize, to);
+}
+
+// The table brought up to what a call did to the log; `old` gets the rows that a rebuild replaces.
+pub fn follow(
+    table: &mut [u8],
+    n: usize,
+    old: &mut [u8],
+    log: &[u8],
+    results: &[u8],
+    change: Change,
+)
+    requires { ⌜ (25 * n ≤ length (now table)) × ((25 * n ≤ length (now old)) × ((32 * change .to .0 ≤ length (now log)) × ((9 * change .done .0 ≤ length (now results)) × (change .done .0 ≤ change .to .0)))) ⌝ }
+    ensures { λ r. ⌜ RowsLeft n (now (table .entry)) (now (table .exit)) (followed byteRow change (rowsOf n (now (table .entry))) (entries (change .to .0) (now (log .entry))) (outcomes (change .done .0) (now (results .entry)))) × (now (old .exit) ≡ oldAfter n change (now (table .entry)) (now (old .entry))) ⌝ }
+{
+    renew(table, n, old, log, change);
+    if change.done.0 <= change.commit.0 {
+        return;
+    }
+    follow_commit(
+        table,
+        n,
+        log,
+        results,
+        change.commit.0 as usize,
+        change.done.0 as usize,
+    );
+}
+
+// The same where no more than one entry was appended, and f is what was found of its client before the call.
+pub fn follow_found(
+    table: &mut [u8],
+    n: usize,
+    f: Found,
+    log: &[u8],
+    results: &[u8],
+    change: Change,
+)
+    requires { ⌜ (25 * n ≤ length (now table)) × ((32 * change .to .0 ≤ length (now log)) × ((9 * change .done .0 ≤ length (now results)) × ((change .done .0 ≤ change .to .0) × AppendsFor n change f (now table) (now log)))) ⌝ }
+    ensures { λ r. ⌜ RowsLeft n (now (table .entry)) (now (table .exit)) (followed byteRow change (rowsOf n (now (table .entry))) (entries (change .to .0) (now (log .entry))) (outcomes (change .done .0) (now (results .entry)))) ⌝ }
+{
+    if change.op.0 < change.to.0 {
+        let e = entries::entry_in(log, change.op.0 as usize);
+        put_found(table, n, f, cell::fresh(e));
+    }
+    if change.done.0 <= change.commit.0 {
+        return;
+    }
+    follow_commit(
+        table,
+        n,
+        log,
+        results,
+        change.commit.0 as usize,
+        change.done.0 as usize,
+    );
+}

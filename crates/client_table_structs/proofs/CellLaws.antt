@@ -1,0 +1,65 @@
+-- What the functions of `cell` show, one law for each way out.
+--     found-unused, found-used                 what the row at a client's place tells
+--     end-there, end-new                       up to where rows go up
+--     latest-missing, latest-there             whether an entry is its client's latest request
+--     again-none, again-other, again-same      the row of an entry of a new log
+-- Assumes nothing.
+use mathlib.Core.Path.{_≡_, sym, ap, _∙_}
+use mathlib.Core.Bool.{Bool, true, false, not}
+use Prim.Native.Nat.{ℕ}
+use lib.Dec.{eqb}
+use borrow.Author.Tests.{eq-eqb, ne-eqb, not-true, not-false}
+use Rattle.numbers.specs.Words.{_and_}
+use Rattle.numbers.proofs.WordLaws.{if-true, if-false}
+use Rattle.entries.specs.declared.Entry.{Entry}
+use Rattle.client_table_structs.specs.Shape.{rowHolding, isUsed, foundAt, endAt, latestAt, keptAt}
+use Rattle.client_table_structs.specs.declared.Row.{Row}
+use Rattle.client_table_structs.specs.declared.KeptReply.the-variants.{Waiting}
+use Rattle.client_table_structs.specs.declared.FoundRow.{FoundRow}
+
+-- what is found at place i
+abbrev pub foundBy : ℕ → Bool → Row → FoundRow
+foundBy i t x = record { at = i; there = t; row = x }
+
+module _ (i : ℕ) (x : Row) (c : ℕ) (u : Bool) (p : u ≡ isUsed (x .reply)) where
+  pub found-unused : not u ≡ true → foundBy i false x ≡ foundAt i x c
+  unfolding foundAt _and_
+  found-unused q = rw (← p, not-true u q)
+
+  pub found-used : not u ≡ false → foundBy i (eqb (x .client) c) x ≡ foundAt i x c
+  unfolding foundAt _and_
+  found-used q = rw (← p, not-false u q)
+
+module _ (f : FoundRow) where
+  pub end-there : (n : ℕ) → f .there ≡ true → f .at ≡ endAt f n
+  unfolding endAt
+  end-there n t = sym (if-true _ _ _ t)
+
+  pub end-new : (n : ℕ) → f .there ≡ false → n ≡ endAt f n
+  unfolding endAt
+  end-new n t = sym (if-false _ _ _ t)
+
+  module _ (e : Entry) where
+    same : Bool
+    same = eqb (f .row .request) (e .request)
+
+    pub latest-missing : not (f .there) ≡ true → false ≡ latestAt f e
+    unfolding latestAt _and_ same
+    latest-missing t = sym (ap (λ (b : Bool). b and same) (not-true (f .there) t))
+
+    pub latest-there : not (f .there) ≡ false → eqb (f .row .request) (e .request) ≡ latestAt f e
+    unfolding latestAt _and_ same
+    latest-there t = sym (ap (λ (b : Bool). b and same) (not-false (f .there) t))
+
+    pub again-none : (left : ℕ) (r : Row) → left ≡ 0 → r ≡ rowHolding e Waiting → r ≡ keptAt f left e
+    unfolding keptAt
+    again-none left r l p = p ∙ sym (if-true _ _ _ (eq-eqb left 0 l))
+
+    module _ (left : ℕ) (l : left ≡ 0 → ⊥) (b : Bool) (q : b ≡ latestAt f e) where
+      pub again-other : (r : Row) → not b ≡ true → r ≡ rowHolding e Waiting → r ≡ keptAt f left e
+      unfolding keptAt
+      again-other r t p = p ∙ sym (if-false _ _ _ (ne-eqb left 0 l) ∙ if-false _ _ _ (sym q ∙ not-true b t))
+
+      pub again-same : not b ≡ false → rowHolding e (f .row .reply) ≡ keptAt f left e
+      unfolding keptAt
+      again-same t = sym (if-false _ _ _ (ne-eqb left 0 l) ∙ if-true _ _ _ (sym q ∙ not-false b t))

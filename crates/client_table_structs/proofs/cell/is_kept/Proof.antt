@@ -1,0 +1,20 @@
+-- `table_rows::cell::is_kept` meets its contract. Assumes nothing.
+use borrow.Author.Needs.{needs}
+use Rattle.client_table_structs.specs.Shape.{isKept}
+use Rattle.client_table_structs.proofs.cell.is_kept.Statement.{statement}
+use Rattle.client_table_structs.proofs.cell.is_kept.Tie as tie
+
+returns : tie.Need-returns
+unfolding isKept
+returns c = rw (c .enum-told .given .1)
+
+returns-2 : tie.Need-returns-2
+unfolding isKept
+returns-2 c = rw (c .enum-told2 .given .1)
+
+returns-3 : tie.Need-returns-3
+unfolding isKept
+returns-3 c = rw (c .enum-told3 .given .1)
+
+pub is-kept-spec : {M : Type 1} → statement M
+is-kept-spec = tie.close (tie.spec (λ c. search needs) (λ c. search needs) (λ c. search needs) returns returns-2 returns-3)

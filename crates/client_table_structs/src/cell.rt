@@ -1,0 +1,180 @@
+// What a row says, and the rows of entries: all by value.
+ghost use mathlib.Core.Path.{_≡_};
+ghost use Prim.Native.Nat.{_<_};
+ghost use Rattle.client_table.specs.Search.{halved, isBefore};
+ghost use Rattle.client_table_structs.specs.Shape.{unusedRow, structRow, isUsed, isKept, outcomeIn, foundAt, latestOfRow, endAt, latestAt, keptAt, firstNew, firstDone};
+use crate::FoundRow;
+use crate::KeptReply;
+use crate::Row;
+use client_table::Change;
+use client_table::Goal;
+use client_table::Latest;
+use client_table::Span;
+use entries::Entry;
+use fees::Outcome;
+
+// An unused row.
+pub fn no_row() -> Row
+    ensures { λ r. ⌜ r ≡ unusedRow ⌝ }
+{
+    Row {
+        client: 0,
+        request: 0,
+        reply: KeptReply::Unused,
+    }
+}
+
+// The row of an entry that has no reply yet.
+pub fn fresh(e: Entry) -> Row
+    ensures { λ r. ⌜ r ≡ structRow .fresh e ⌝ }
+{
+    Row {
+        client: e.client,
+        request: e.request,
+        reply: KeptReply::Waiting,
+    }
+}
+
+// With its reply.
+pub fn answered(e: Entry, o: Outcome) -> Row
+    ensures { λ r. ⌜ r ≡ structRow .answered e o ⌝ }
+{
+    Row {
+        client: e.client,
+        request: e.request,
+        reply: KeptReply::Kept {
+            code: o.code,
+            total: o.total,
+        },
+    }
+}
+
+fn is_used(k: KeptReply) -> bool
+    ensures { λ r. ⌜ r ≡ isUsed k ⌝ }
+{
+    match k {
+        KeptReply::Unused => false,
+        KeptReply::Waiting => true,
+        KeptReply::Kept { .. } => true,
+    }
+}
+
+// A turn of the search by halves, which has come to `s` and has read `x` in the middle of it.
+pub fn turn(s: Span, x: Row, goal: Goal) -> Span
+    requires { ⌜ s .lo < s .hi ⌝ }
+    ensures { λ r. ⌜ r ≡ halved s (isBefore (isUsed (x .reply)) (x .client) goal) ⌝ }
+{
+    let k = x.reply;
+    client_table::halve(s, client_table::before(is_used(k), x.client, goal))
+}
+
+// What the place of a client's row tells.
+pub fn found(at: usize, x: Row, client: u64) -> FoundRow
+    ensures { λ r. ⌜ r ≡ foundAt at x client ⌝ }
+{
+    let k = x.reply;
+    if !is_used(k) {
+        return FoundRow {
+            at,
+            there: false,
+            row: x,
+        };
+    }
+    FoundRow {
+        at,
+        there: x.client == client,
+        row: x,
+    }
+}
+
+fn is_kept(k: KeptReply) -> bool
+    ensures { λ r. ⌜ r ≡ isKept k ⌝ }
+{
+    match k {
+        KeptReply::Unused => false,
+        KeptReply::Waiting => false,
+        KeptReply::Kept { .. } => true,
+    }
+}
+
+fn outcome_in(k: KeptReply) -> Outcome
+    ensures { λ r. ⌜ r ≡ outcomeIn k ⌝ }
+{
+    match k {
+        KeptReply::Unused => Outcome { code: 0, total: 0 },
+        KeptReply::Waiting => Outcome { code: 0, total: 0 },
+        KeptReply::Kept { code, total } => Outcome { code, total },
+    }
+}
+
+// What was found, as the core is told it.
+pub fn latest(f: FoundRow) -> Latest
+    ensures { λ r. ⌜ r ≡ latestOfRow f ⌝ }
+{
+    let x = f.row;
+    let k = x.reply;
+    Latest {
+        there: f.there,
+        request: x.request,
+        replied: is_kept(k),
+        reply: outcome_in(k),
+    }
+}
+
+// Up to where rows go up for a client's row: nowhere where it is there, else to the first unused one.
+pub fn end_of(f: FoundRow, unused: usize) -> usize
+    ensures { λ r. ⌜ r ≡ endAt f unused ⌝ }
+{
+    if f.there {
+        return f.at;
+    }
+    unused
+}
+
+// Whether the entry is its client's latest request.
+pub fn is_latest(f: FoundRow, e: Entry) -> bool
+    ensures { λ r. ⌜ r ≡ latestAt f e ⌝ }
+{
+    if !f.there {
+        return false;
+    }
+    f.row.request == e.request
+}
+
+// The row of an entry of a new log, by the old one of its client, `left` entries from it on being committed.
+pub fn kept(f: FoundRow, left: usize, e: Entry) -> Row
+    ensures { λ r. ⌜ r ≡ keptAt f left e ⌝ }
+{
+    if left == 0 {
+        return fresh(e);
+    }
+    if !is_latest(f, e) {
+        return fresh(e);
+    }
+    let x = f.row;
+    let reply = x.reply;
+    Row {
+        client: e.client,
+        request: e.request,
+        reply,
+    }
+}
+
+// The first entry that a call appended, and the first that it committed: those before it have their rows.
+pub fn first_new(k: Change) -> usize
+    ensures { λ r. ⌜ r ≡ firstNew k ⌝ }
+{
+    if k.to.0 < k.op.0 {
+        return k.to.0 as usize;
+    }
+    k.op.0 as usize
+}
+
+pub fn first_done(k: Change) -> usize
+    ensures { λ r. ⌜ r ≡ firstDone k ⌝ }
+{
+    if k.done.0 < k.commit.0 {
+        return k.done.0 as usize;
+    }
+    k.commit.0 as usize
+}

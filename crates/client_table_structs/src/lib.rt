@@ -1,0 +1,226 @@
+// The client table as a slice of row structs, for callers in Rattle: rows in rising order of client id, unused rows last. The functions are thin:
+// they find, store and rebuild rows, and hand whole rows to `cell`, where what a row says is decided.
+ghost use mathlib.Core.Path.{_≡_};
+ghost use mathlib.Core.Bool.{true};
+ghost use Prim.Native.Nat.{_-_, _*_, _≤_, _<_};
+ghost use lib.ListN.{length, drop, replicate};
+ghost use Rattle.entries.specs.Entries.{entries};
+ghost use Rattle.entries.specs.Places.{entryPlace, resultPlace};
+ghost use Rattle.fees.specs.Results.{outcomes};
+ghost use Rattle.client_table.specs.Rows.{seek, stored, putRow, appended, replied, rowsCommitted, rebuilt, renewed, followed};
+ghost use Rattle.client_table.specs.Shape.{rowAt};
+ghost use Rattle.client_table_structs.specs.Shape.{unusedRow, structRow, foundAmong, latestAmong, oldRowsAfter};
+use client_table::Change;
+use client_table::Goal;
+use client_table::Latest;
+use client_table::Span;
+use entries::Entry;
+use fees::Outcome;
+
+pub mod cell; // what a row says, and the rows of entries
+
+// What a row is used for: nothing, a request that has no reply yet, or one whose reply is kept.
+pub enum KeptReply {
+    Unused,
+    Waiting,
+    Kept { code: u8, total: u64 },
+}
+
+// A client's latest request, and its reply.
+pub struct Row {
+    pub client: u64,
+    pub request: u64,
+    pub reply: KeptReply,
+}
+
+// Where a client's row is or would go, whether it is there, and the row at that place.
+pub struct FoundRow {
+    pub at: usize,
+    pub there: bool,
+    pub row: Row,
+}
+
+// The row at a place; past the end an unused one.
+fn peek(table: &[Row], at: usize) -> Row
+    ensures { λ r. ⌜ r ≡ rowAt structRow (now (table .entry)) at ⌝ }
+{
+    if at < table.len() {
+        return table[at];
+    }
+    cell::no_row()
+}
+
+// The first place, from `from` on, that isn't before the goal; by halves.
+fn seek(table: &[Row], from: usize, goal: Goal) -> usize
+    ensures { λ r. ⌜ r ≡ seek structRow from goal (now (table .entry)) ⌝ }
+{
+    let mut s = Span {
+        lo: from,
+        hi: table.len(),
+    };
+    while s.lo < s.hi {
+        s = cell::turn(s, table[client_table::middle(s)], goal);
+    }
+    s.lo
+}
+
+// The client's row, its place, or the place where it would go.
+pub fn find(table: &[Row], client: u64) -> FoundRow
+    ensures { λ r. ⌜ r ≡ foundAmong (now (table .entry)) client ⌝ }
+{
+    let at = seek(table, 0, Goal::Client { id: client });
+    cell::found(at, peek(table, at), client)
+}
+
+// `row` takes place `at`, after the rows from there up to `to` have gone up one place.
+pub fn store(table: &mut [Row], at: usize, to: usize, row: Row)
+    requires { ⌜ (at ≤ to) × (to < length (now table)) ⌝ }
+    ensures { λ r. ⌜ now (table .exit) ≡ stored structRow at to row (now (table .entry)) ⌝ }
+{
+    let mut i = to;
+    while at < i {
+        table[i] = table[i - 1];
+        i -= 1;
+    }
+    table[at] = row;
+}
+
+// `row` becomes its client's row: in place of the one that is there, or as a new one; a full table takes no new one.
+fn put(table: &mut [Row], row: Row)
+    ensures { λ r. ⌜ now (table .exit) ≡ putRow structRow (now (table .entry)) row ⌝ }
+{
+    let f = find(table, row.client);
+    let to = cell::end_of(f, seek(table, f.at, Goal::End));
+    if table.len() <= to {
+        return;
+    }
+    store(table, f.at, to, row);
+}
+
+// The entries from .. to of the log, in order, become their clients' rows.
+fn append(table: &mut [Row], log: &[u8], from: usize, to: usize)
+    requires { ⌜ (32 * to ≤ length (now log)) × (from ≤ to) ⌝ }
+    ensures { λ r. ⌜ now (table .exit) ≡ appended structRow (now (table .entry)) (entries (to - from) (drop (entryPlace from) (now (log .entry)))) ⌝ }
+{
+    let mut k = from;
+    while k < to {
+        put(table, cell::fresh(entries::entry_in(log, k)));
+        k += 1;
+    }
+}
+
+// The entry was executed: its reply is kept where it is its client's latest request.
+fn keep_reply(table: &mut [Row], e: Entry, o: Outcome)
+    ensures { λ r. ⌜ now (table .exit) ≡ replied structRow (now (table .entry)) e o ⌝ }
+{
+    let f = find(table, e.client);
+    if !cell::is_latest(f, e) {
+        return;
+    }
+    store(table, f.at, f.at, cell::answered(e, o));
+}
+
+// The entries from .. to were executed, and gave these results.
+fn commit(table: &mut [Row], log: &[u8], results: &[u8], from: usize, to: usize)
+    requires { ⌜ (32 * to ≤ length (now log)) × ((9 * to ≤ length (now results)) × (from ≤ to)) ⌝ }
+    ensures { λ r. ⌜ now (table .exit) ≡ rowsCommitted structRow (now (table .entry)) (entries (to - from) (drop (entryPlace from) (now (log .entry)))) (outcomes (to - from) (drop (resultPlace from) (now (results .entry)))) ⌝ }
+{
+    let mut k = from;
+    while k < to {
+        keep_reply(
+            table,
+            entries::entry_in(log, k),
+            fees::result_in(results, k),
+        );
+        k += 1;
+    }
+}
+
+// All rows go to `old`, and become unused.
+fn set_aside(table: &mut [Row], old: &mut [Row])
+    requires { ⌜ length (now old) ≡ length (now table) ⌝ }
+    ensures { λ r. ⌜ (now (table .exit) ≡ replicate (length (now (table .entry))) unusedRow) × (now (old .exit) ≡ now (table .entry)) ⌝ }
+{
+    let mut i = 0;
+    while i < table.len() {
+        store(old, i, i, peek(table, i));
+        store(table, i, i, cell::no_row());
+        i += 1;
+    }
+}
+
+// The first `op` entries of the log become their clients' rows, in order, by the old rows; the first `commit` of them are committed.
+fn refill(table: &mut [Row], old: &[Row], log: &[u8], op: usize, commit: usize)
+    requires { ⌜ 32 * op ≤ length (now log) ⌝ }
+    ensures { λ r. ⌜ now (table .exit) ≡ rebuilt structRow (now (old .entry)) commit (now (table .entry)) (entries op (now (log .entry))) ⌝ }
+{
+    let mut k = 0;
+    while k < op {
+        let e = entries::entry_in(log, k);
+        put(
+            table,
+            cell::kept(find(old, e.client), client_table::left_of(commit, k), e),
+        );
+        k += 1;
+    }
+}
+
+// The table of a new log of `op` entries, `commit` of them committed; `old` gets the rows that were there.
+fn rebuild(table: &mut [Row], old: &mut [Row], log: &[u8], op: usize, commit: usize)
+    requires { ⌜ (length (now old) ≡ length (now table)) × (32 * op ≤ length (now log)) ⌝ }
+    ensures { λ r. ⌜ (now (table .exit) ≡ rebuilt structRow (now (table .entry)) commit (replicate (length (now (table .entry))) unusedRow) (entries op (now (log .entry)))) × (now (old .exit) ≡ now (table .entry)) ⌝ }
+{
+    set_aside(table, old);
+    refill(table, old, log, op, commit);
+}
+
+// All rows become unused.
+pub fn clear(table: &mut [Row])
+    ensures { λ r. ⌜ now (table .exit) ≡ replicate (length (now (table .entry))) unusedRow ⌝ }
+{
+    let mut i = 0;
+    while i < table.len() {
+        table[i] = cell::no_row();
+        i += 1;
+    }
+}
+
+// What the table has of a client.
+pub fn latest(table: &[Row], client: u64) -> Latest
+    ensures { λ r. ⌜ r ≡ latestAmong (now (table .entry)) client ⌝ }
+{
+    cell::latest(find(table, client))
+}
+
+// The rows brought up to a log that was installed anew, or appended to.
+fn renew(table: &mut [Row], old: &mut [Row], log: &[u8], change: Change)
+    requires { ⌜ (change .installed ≡ true → length (now old) ≡ length (now table)) × (32 * change .to .0 ≤ length (now log)) ⌝ }
+    ensures { λ r. ⌜ (now (table .exit) ≡ renewed structRow change (now (table .entry)) (entries (change .to .0) (now (log .entry)))) × (now (old .exit) ≡ oldRowsAfter change (now (table .entry)) (now (old .entry))) ⌝ }
+{
+    if change.installed {
+        rebuild(
+            table,
+            old,
+            log,
+            change.to.0 as usize,
+            change.commit.0 as usize,
+        );
+        return;
+    }
+    append(table, log, cell::first_new(change), change.to.0 as usize);
+}
+
+// The table brought up to what a call did to the log; `old` gets the rows that a rebuild replaces.
+pub fn follow(table: &mut [Row], old: &mut [Row], log: &[u8], results: &[u8], change: Change)
+    requires { ⌜ (change .installed ≡ true → length (now old) ≡ length (now table)) × ((32 * change .to .0 ≤ length (now log)) × ((9 * change .done .0 ≤ length (now results)) × (change .done .0 ≤ change .to .0))) ⌝ }
+    ensures { λ r. ⌜ (now (table .exit) ≡ followed structRow change (now (table .entry)) (entries (change .to .0) (now (log .entry))) (outcomes (change .done .0) (now (results .entry)))) × (now (old .exit) ≡ oldRowsAfter change (now (table .entry)) (now (old .entry))) ⌝ }
+{
+    renew(table, old, log, change);
+    commit(
+        table,
+        log,
+        results,
+        cell::first_done(change),
+        change.done.0 as usize,
+    );
+}

@@ -1,0 +1,196 @@
+// The outside calls but for the client table, of which they are told its length and a client's latest request.
+ghost use mathlib.Core.Path.{_≡_};
+ghost use mathlib.Core.List.{[]};
+ghost use Rattle.book.specs.Memory.{memory};
+ghost use Rattle.do_view_change.specs.Record.{recorded};
+ghost use Rattle.outside.specs.Calls.{checkedOf};
+ghost use Rattle.replica_structs.specs.Core.{lengthsBy, clientIn, Passes, checkedCore, idleCore, createCore, recoverCore, changeAfter, rowBytes};
+use client_table::Change;
+use client_table::Latest;
+use config::Setup;
+use frames::Checked;
+use numbers::Op;
+use numbers::View;
+use outside::Lengths;
+use state::Replica;
+use state::Returned;
+
+// How many bytes so many rows would have; of more than any table has, none.
+fn in_bytes(rows: usize) -> usize
+    ensures { λ r. ⌜ r ≡ rowBytes rows ⌝ }
+{
+    if 4096 < rows {
+        return 0;
+    }
+    25 * rows
+}
+
+// Refusal 1, then what refusals 2 to 6 on the frame alone say; of what is lent beside it only the lengths.
+pub fn checked(
+    s: Replica,
+    log: usize,
+    results: usize,
+    totals: usize,
+    acks: usize,
+    stored: usize,
+    rows: usize,
+    old: usize,
+    frame: &[u8],
+) -> Checked
+    ensures { λ r. ⌜ r ≡ checkedOf s (lengthsBy log results totals acks stored rows old) (now (frame .entry)) ⌝ }
+{
+    let l = Lengths {
+        log,
+        results,
+        totals,
+        acks,
+        stored,
+        table: in_bytes(rows),
+        old: in_bytes(old),
+    };
+    outside::call::checked(s, l, frame)
+}
+
+// The client whose row is asked for.
+pub fn client_in(c: Checked) -> u64
+    ensures { λ r. ⌜ r ≡ clientIn c ⌝ }
+{
+    match c {
+        Checked::Refused { .. } => 0,
+        Checked::Passed { message } => outside::call::carried_by(message).client,
+    }
+}
+
+// on_message: what refusals 1 to 6 say; the handler.
+pub fn on_message(
+    s: Replica,
+    c: Checked,
+    latest: Latest,
+    frame: &[u8],
+    log: &mut [u8],
+    results: &mut [u8],
+    totals: &mut [u8],
+    acks: &mut [u8],
+    stored: &mut [u8],
+    out: &mut [u8],
+    reps: &mut [u8],
+) -> Returned
+    requires { ⌜ Passes c s (now frame) (memory (now log) (now results) (now totals) (now acks) (now stored) (now out) (now reps)) ⌝ }
+    ensures { λ a. ⌜ recorded a (memory (now (log .exit)) (now (results .exit)) (now (totals .exit)) (now (acks .exit)) (now (stored .exit)) (now (out .exit)) (now (reps .exit))) ≡ checkedCore c s latest (now (frame .entry)) (memory (now (log .entry)) (now (results .entry)) (now (totals .entry)) (now (acks .entry)) (now (stored .entry)) (now (out .entry)) (now (reps .entry))) ⌝ }
+{
+    match c {
+        Checked::Refused { number } => state::refused(number, s),
+        Checked::Passed { message } => handlers::message::on_message(
+            s,
+            message,
+            outside::call::told(message, latest),
+            frame,
+            log,
+            results,
+            totals,
+            acks,
+            stored,
+            out,
+            reps,
+        ),
+    }
+}
+
+// on_idle
+pub fn on_idle(
+    s: Replica,
+    rows: usize,
+    old: usize,
+    log: &mut [u8],
+    results: &mut [u8],
+    totals: &mut [u8],
+    acks: &mut [u8],
+    stored: &mut [u8],
+    out: &mut [u8],
+    reps: &mut [u8],
+) -> Returned
+    ensures { λ a. ⌜ recorded a (memory (now (log .exit)) (now (results .exit)) (now (totals .exit)) (now (acks .exit)) (now (stored .exit)) (now (out .exit)) (now (reps .exit))) ≡ idleCore s rows old (memory (now (log .entry)) (now (results .entry)) (now (totals .entry)) (now (acks .entry)) (now (stored .entry)) (now (out .entry)) (now (reps .entry))) ⌝ }
+{
+    let l = Lengths {
+        log: log.len(),
+        results: results.len(),
+        totals: totals.len(),
+        acks: acks.len(),
+        stored: stored.len(),
+        table: in_bytes(rows),
+        old: in_bytes(old),
+    };
+    if !outside::sound::is_sound(s, l) {
+        return state::refused(1, s);
+    }
+    handlers::idle::on_idle(s, log, results, totals, acks, stored, out, reps)
+}
+
+// new
+pub fn create(
+    u: Setup,
+    rows: usize,
+    old: usize,
+    log: &[u8],
+    results: &[u8],
+    totals: &mut [u8],
+    acks: &mut [u8],
+    stored: &[u8],
+) -> Returned
+    ensures { λ a. ⌜ recorded a (memory (now (log .entry)) (now (results .entry)) (now (totals .exit)) (now (acks .exit)) (now (stored .entry)) [] []) ≡ createCore u rows old (memory (now (log .entry)) (now (results .entry)) (now (totals .entry)) (now (acks .entry)) (now (stored .entry)) [] []) ⌝ }
+{
+    let l = Lengths {
+        log: log.len(),
+        results: results.len(),
+        totals: totals.len(),
+        acks: acks.len(),
+        stored: stored.len(),
+        table: in_bytes(rows),
+        old: in_bytes(old),
+    };
+    outside::create::create(u, l, totals, acks)
+}
+
+// recover: 1, then 9.
+pub fn recover(
+    u: Setup,
+    v: View,
+    nonce: u64,
+    rows: usize,
+    old: usize,
+    log: &[u8],
+    results: &[u8],
+    totals: &mut [u8],
+    acks: &mut [u8],
+    stored: &[u8],
+    out: &mut [u8],
+) -> Returned
+    ensures { λ a. ⌜ recorded a (memory (now (log .entry)) (now (results .entry)) (now (totals .exit)) (now (acks .exit)) (now (stored .entry)) (now (out .exit)) []) ≡ recoverCore u v nonce rows old (memory (now (log .entry)) (now (results .entry)) (now (totals .entry)) (now (acks .entry)) (now (stored .entry)) (now (out .entry)) []) ⌝ }
+{
+    let l = Lengths {
+        log: log.len(),
+        results: results.len(),
+        totals: totals.len(),
+        acks: acks.len(),
+        stored: stored.len(),
+        table: in_bytes(rows),
+        old: in_bytes(old),
+    };
+    outside::create::recover(u, v, nonce, l, totals, acks, out)
+}
+
+// What the table has to follow: nothing after a refusal.
+pub fn change_after(s: Replica, a: Returned) -> Change
+    ensures { λ r. ⌜ r ≡ changeAfter s a ⌝ }
+{
+    if a.code != 0 {
+        return Change {
+            installed: false,
+            op: Op(0),
+            commit: Op(0),
+            to: Op(0),
+            done: Op(0),
+        };
+    }
+    outside::call::change_by(s, a)
+}

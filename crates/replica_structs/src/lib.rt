@@ -1,0 +1,155 @@
+// The replica for callers in Rattle, with the client table as a slice of row structs: creation, recovery, a frame, a tick. None asks anything of its caller. Each is thin:
+// refusals 1 to 6, the row that the core asks for, the core, and the table brought up to what it did.
+ghost use mathlib.Core.Path.{_≡_};
+ghost use mathlib.Core.List.{[]};
+ghost use Rattle.replica_structs.specs.Calls.{lentRows, calledRows};
+ghost use Rattle.replica_structs.specs.Promise.{MessageRowsPromise, IdleRowsPromise, CreateRowsPromise, RecoverRowsPromise};
+use client_table_structs::Row;
+use config::Setup;
+use numbers::View;
+use state::Replica;
+use state::Returned;
+
+pub mod core; // the calls but for the table
+
+// new
+pub fn create(
+    u: Setup,
+    log: &[u8],
+    results: &[u8],
+    totals: &mut [u8],
+    acks: &mut [u8],
+    stored: &[u8],
+    table: &mut [Row],
+    old: &[Row],
+) -> Returned
+    ensures { λ a. ⌜ CreateRowsPromise u (lentRows (now (log .entry)) (now (results .entry)) (now (totals .entry)) (now (acks .entry)) (now (stored .entry)) (now (table .entry)) (now (old .entry)) [] []) (calledRows a (lentRows (now (log .entry)) (now (results .entry)) (now (totals .exit)) (now (acks .exit)) (now (stored .entry)) (now (table .exit)) (now (old .entry)) [] [])) ⌝ }
+{
+    let a = core::create(
+        u,
+        table.len(),
+        old.len(),
+        log,
+        results,
+        totals,
+        acks,
+        stored,
+    );
+    if a.code != 0 {
+        return a;
+    }
+    client_table_structs::clear(table);
+    a
+}
+
+// recover
+pub fn recover(
+    u: Setup,
+    v: View,
+    nonce: u64,
+    log: &[u8],
+    results: &[u8],
+    totals: &mut [u8],
+    acks: &mut [u8],
+    stored: &[u8],
+    table: &mut [Row],
+    old: &[Row],
+    out: &mut [u8],
+) -> Returned
+    ensures { λ a. ⌜ RecoverRowsPromise u v nonce (lentRows (now (log .entry)) (now (results .entry)) (now (totals .entry)) (now (acks .entry)) (now (stored .entry)) (now (table .entry)) (now (old .entry)) (now (out .entry)) []) (calledRows a (lentRows (now (log .entry)) (now (results .entry)) (now (totals .exit)) (now (acks .exit)) (now (stored .entry)) (now (table .exit)) (now (old .entry)) (now (out .exit)) [])) ⌝ }
+{
+    let a = core::recover(
+        u,
+        v,
+        nonce,
+        table.len(),
+        old.len(),
+        log,
+        results,
+        totals,
+        acks,
+        stored,
+        out,
+    );
+    if a.code != 0 {
+        return a;
+    }
+    client_table_structs::clear(table);
+    a
+}
+
+// on_message
+pub fn on_message(
+    s: Replica,
+    frame: &[u8],
+    log: &mut [u8],
+    results: &mut [u8],
+    totals: &mut [u8],
+    acks: &mut [u8],
+    stored: &mut [u8],
+    table: &mut [Row],
+    old: &mut [Row],
+    out: &mut [u8],
+    reps: &mut [u8],
+) -> Returned
+    ensures { λ a. ⌜ MessageRowsPromise s (now (frame .entry)) (lentRows (now (log .entry)) (now (results .entry)) (now (totals .entry)) (now (acks .entry)) (now (stored .entry)) (now (table .entry)) (now (old .entry)) (now (out .entry)) (now (reps .entry))) (calledRows a (lentRows (now (log .exit)) (now (results .exit)) (now (totals .exit)) (now (acks .exit)) (now (stored .exit)) (now (table .exit)) (now (old .exit)) (now (out .exit)) (now (reps .exit)))) ⌝ }
+{
+    let c = core::checked(
+        s,
+        log.len(),
+        results.len(),
+        totals.len(),
+        acks.len(),
+        stored.len(),
+        table.len(),
+        old.len(),
+        frame,
+    );
+    let latest = client_table_structs::latest(table, core::client_in(c));
+    let a = core::on_message(
+        s,
+        c,
+        latest,
+        frame,
+        log,
+        results,
+        totals,
+        acks,
+        stored,
+        out,
+        reps,
+    );
+    client_table_structs::follow(table, old, log, results, core::change_after(s, a));
+    a
+}
+
+// on_idle
+pub fn on_idle(
+    s: Replica,
+    log: &mut [u8],
+    results: &mut [u8],
+    totals: &mut [u8],
+    acks: &mut [u8],
+    stored: &mut [u8],
+    table: &mut [Row],
+    old: &mut [Row],
+    out: &mut [u8],
+    reps: &mut [u8],
+) -> Returned
+    ensures { λ a. ⌜ IdleRowsPromise s (lentRows (now (log .entry)) (now (results .entry)) (now (totals .entry)) (now (acks .entry)) (now (stored .entry)) (now (table .entry)) (now (old .entry)) (now (out .entry)) (now (reps .entry))) (calledRows a (lentRows (now (log .exit)) (now (results .exit)) (now (totals .exit)) (now (acks .exit)) (now (stored .exit)) (now (table .exit)) (now (old .exit)) (now (out .exit)) (now (reps .exit)))) ⌝ }
+{
+    let a = core::on_idle(
+        s,
+        table.len(),
+        old.len(),
+        log,
+        results,
+        totals,
+        acks,
+        stored,
+        out,
+        reps,
+    );
+    client_table_structs::follow(table, old, log, results, core::change_after(s, a));
+    a
+}

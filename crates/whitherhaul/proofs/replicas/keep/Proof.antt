@@ -1,0 +1,14 @@
+-- `ffi::replicas::keep` meets its contract. Assumes nothing.
+use Rattle.whitherhaul.proofs.ReplicaLaws.{keep-refused, keep-done}
+use borrow.Author.Needs.{needs}
+use Rattle.whitherhaul.proofs.replicas.keep.Statement.{statement}
+use Rattle.whitherhaul.proofs.replicas.keep.Tie as tie
+
+returns : tie.Need-returns
+returns c = keep-refused (c .before .before .before .args .a) (c .before .before .before .args .state .now) (c .if1 .taken)
+
+returns-2 : tie.Need-returns-2
+returns-2 c = keep-done (c .before .before .before .before .before .before .before .before .args .a) (c .before .before .before .before .before .before .before .before .args .state .now) (c .before .before .before .before .before .if1 .left) (c .before .before .write-state .ensures)
+
+pub keep-spec : {M : Type 1} → statement M
+keep-spec = tie.close (tie.spec returns (λ c κs. search needs) (λ c. search needs) returns-2)

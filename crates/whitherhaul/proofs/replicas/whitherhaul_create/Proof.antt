@@ -1,0 +1,38 @@
+-- `ffi::replicas::whitherhaul_create` meets its contract. Assumes nothing.
+use mathlib.Core.List.{[]}
+use Rattle.replica.specs.Lent.{lent}
+use Rattle.whitherhaul.proofs.ReplicaLaws.{no-creation, create-ran}
+use borrow.Author.Needs.{needs}
+use Rattle.whitherhaul.proofs.replicas.whitherhaul_create.Statement.{statement}
+use Rattle.whitherhaul.proofs.replicas.whitherhaul_create.Tie as tie
+
+returns : tie.Need-returns
+returns c = let a = c .before .before .before .before .before .before .before .before .before .args in no-creation (record { n = a .n; id = a .id; timeout = a .timeout; room = a .room; members = a .members }) (a .state .now) (lent (a .log .now) (a .results .now) (a .totals .now) (a .acks .now) (a .stored .now) (a .table .now) (a .old .now) [] []) (c .if1 .taken)
+
+same-length : tie.Need-same-length
+same-length c = c .before .before .keep .kept .1 .0
+
+same-length-2 : tie.Need-same-length-2
+same-length-2 c = c .before .before .before .before .before .before .before .before .before .before .create .kept .1 .1 .1 .0
+
+same-length-3 : tie.Need-same-length-3
+same-length-3 c = c .before .before .before .before .before .before .before .before .before .before .create .kept .1 .1 .1 .1 .0
+
+same-length-4 : tie.Need-same-length-4
+same-length-4 c = c .before .before .before .before .before .before .before .before .before .before .create .kept .1 .1 .1 .1 .1 .1 .0
+
+returns-2 : tie.Need-returns-2
+returns-2 c = let a = c .before .before .before .before .before .before .before .before .before .before .before .before .before .before .before .before .before .before .before .before .before .before .before .args in create-ran (record { n = a .n; id = a .id; timeout = a .timeout; room = a .room; members = a .members }) (a .state .now) (lent (a .log .now) (a .results .now) (a .totals .now) (a .acks .now) (a .stored .now) (a .table .now) (a .old .now) [] []) _ _ (c .before .before .before .before .before .before .before .before .before .before .before .before .before .before .if1 .left) (c .before .before .before .before .before .before .before .before .before .before .create .ensures) (c .before .before .keep .ensures)
+
+pub whitherhaul-create-spec : {M : Type 1} → statement M
+whitherhaul-create-spec =
+    tie.close
+    (tie.spec
+    returns
+    (λ c κs. search needs)
+    (λ c κs. search needs)
+    same-length
+    same-length-2
+    same-length-3
+    same-length-4
+    returns-2)

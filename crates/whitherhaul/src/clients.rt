@@ -1,0 +1,139 @@
+// A client, whose record lies in a lent run of 54 bytes. A refused call leaves that run, like the area, as it was.
+ghost use mathlib.Core.Path.{_≡_};
+ghost use Rattle.client.specs.Replies.{outcomeNumber};
+ghost use Rattle.whitherhaul.specs.Clients.{ClientCreateRan, RequestRan, ReplyRan, clientIdleRun, readRun};
+use client::Read;
+use client::ReplyOutcome;
+use numbers::View;
+
+// create
+#[no_mangle]
+pub extern "C" fn whitherhaul_client_create(n: u8, id: u64, held: &mut [u8]) -> u8
+    ensures { λ r. ⌜ ClientCreateRan n id (now (held .entry)) (record { code = r; run = now (held .exit) }) ⌝ }
+{
+    if held.len() != 54 {
+        return 1;
+    }
+    let a = client::create(n, id);
+    if a.refusal != 0 {
+        return a.refusal;
+    }
+    let c = a.client;
+    client_bytes::write_client(held, c);
+    0
+}
+
+// on_request
+#[no_mangle]
+pub extern "C" fn whitherhaul_client_request(
+    held: &mut [u8],
+    operation: u8,
+    member: u32,
+    cents: u64,
+    area: &mut [u8],
+    answers: &mut [u64; 2],
+) -> u8
+    ensures { λ r. ⌜ RequestRan (now (held .entry)) operation member cents (now (area .entry)) (record { code = r; answers = now (answers .exit); run = now (held .exit); area = now (area .exit) }) ⌝ }
+{
+    *answers = [0, 0];
+    if !client_bytes::client_ok(held) {
+        return 1;
+    }
+    let a = client::requested(
+        client_bytes::read_client(held),
+        operation,
+        member,
+        cents,
+        area,
+    );
+    if a.answer.refusal != 0 {
+        return a.answer.refusal;
+    }
+    *answers = [a.answer.number, a.answer.written as u64];
+    let c = a.client;
+    client_bytes::write_client(held, c);
+    0
+}
+
+// on_reply
+#[no_mangle]
+pub extern "C" fn whitherhaul_client_reply(
+    held: &mut [u8],
+    number: u64,
+    view: u32,
+    answers: &mut [u64; 1],
+) -> u8
+    ensures { λ r. ⌜ ReplyRan (now (held .entry)) number (record { 0 = view }) (record { code = r; answers = now (answers .exit); run = now (held .exit) }) ⌝ }
+{
+    *answers = [0];
+    if !client_bytes::client_ok(held) {
+        return 1;
+    }
+    let a = client::replied(client_bytes::read_client(held), number, View(view));
+    if a.answer.refusal != 0 {
+        return a.answer.refusal;
+    }
+    *answers = [a.answer.done as u64];
+    let c = a.client;
+    client_bytes::write_client(held, c);
+    0
+}
+
+// on_idle
+#[no_mangle]
+pub extern "C" fn whitherhaul_client_idle(
+    held: &[u8],
+    area: &mut [u8],
+    answers: &mut [u64; 1],
+) -> u8
+    ensures { λ r. ⌜ (record { code = r; answers = now (answers .exit); area = now (area .exit) }) ≡ clientIdleRun (now (held .entry)) (now (area .entry)) ⌝ }
+{
+    *answers = [0];
+    if !client_bytes::client_ok(held) {
+        return 1;
+    }
+    let a = client::idled(client_bytes::read_client(held), area);
+    *answers = [a.written as u64];
+    a.refusal
+}
+
+// The document's number of an outcome.
+fn outcome_number(o: ReplyOutcome) -> u8
+    ensures { λ r. ⌜ r ≡ outcomeNumber o ⌝ }
+{
+    match o {
+        ReplyOutcome::Fee => 1,
+        ReplyOutcome::Refund => 2,
+        ReplyOutcome::Ask => 3,
+        ReplyOutcome::NoMember => 4,
+        ReplyOutcome::PastLimit => 5,
+        ReplyOutcome::PastTotal => 6,
+    }
+}
+
+// A Reply, read: view, client, request, outcome and total, or all are 0 where it is malformed.
+#[no_mangle]
+pub extern "C" fn whitherhaul_read_reply(frame: &[u8], answers: &mut [u64; 5]) -> u8
+    ensures { λ r. ⌜ (record { code = r; answers = now (answers .exit) }) ≡ readRun (now (frame .entry)) ⌝ }
+{
+    *answers = [0, 0, 0, 0, 0];
+    match client::read_reply(frame) {
+        Read::Malformed => 2,
+        Read::Reply {
+            view,
+            client,
+            request,
+            outcome,
+            total,
+        } => {
+            *answers = [
+                view.0 as u64,
+                client,
+                request,
+                outcome_number(outcome) as u64,
+                total,
+            ];
+            0
+        }
+    }
+}

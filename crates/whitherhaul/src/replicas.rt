@@ -1,0 +1,410 @@
+// A replica, whose state lies in a lent run of 146 bytes. A refused call leaves that run, like all else, as it was.
+ghost use mathlib.Core.Path.{_≡_};
+ghost use mathlib.Core.Bool.{true};
+ghost use mathlib.Core.List.{[], _∷_};
+ghost use lib.ListN.{length};
+ghost use Rattle.replica.specs.Lent.{lent};
+ghost use Rattle.state_bytes.specs.Layout.{stateOf, Onward, Clocked, stateOk};
+ghost use Rattle.whitherhaul.specs.Replicas.{KeptIn, ran, CreateRan, RecoverRan, MessageRan, IdleRan};
+use config::Setup;
+use numbers::View;
+use state::Returned;
+
+// The state after a call that wasn't refused; a refused one leaves the run as it was.
+fn keep(a: Returned, state: &mut [u8]) -> u8
+    requires { ⌜ length (now state) ≡ 146 ⌝ }
+    ensures { λ r. ⌜ KeptIn a (now (state .entry)) (now (state .exit)) r ⌝ }
+{
+    if a.code != 0 {
+        return a.code;
+    }
+    let s = a.state;
+    state_bytes::write_state(state, s);
+    0
+}
+
+// The same of an answer that is further on in the view of the state that the run holds.
+fn keep_onward(a: Returned, state: &mut [u8]) -> u8
+    requires { ⌜ (stateOk (now state) ≡ true) × Onward (stateOf (now state)) (a .state) ⌝ }
+    ensures { λ r. ⌜ KeptIn a (now (state .entry)) (now (state .exit)) r ⌝ }
+{
+    if a.code != 0 {
+        return a.code;
+    }
+    let s = a.state;
+    state_bytes::write_onward(state, s);
+    0
+}
+
+// And of one that has another clock only.
+fn keep_clocked(a: Returned, state: &mut [u8]) -> u8
+    requires { ⌜ (stateOk (now state) ≡ true) × Clocked (stateOf (now state)) (a .state) ⌝ }
+    ensures { λ r. ⌜ KeptIn a (now (state .entry)) (now (state .exit)) r ⌝ }
+{
+    if a.code != 0 {
+        return a.code;
+    }
+    let s = a.state;
+    state_bytes::write_clocked(state, s);
+    0
+}
+
+// new
+#[no_mangle]
+pub extern "C" fn whitherhaul_create(
+    n: u8,
+    id: u8,
+    timeout: u16,
+    room: u32,
+    members: u32,
+    state: &mut [u8],
+    log: &[u8],
+    results: &[u8],
+    totals: &mut [u8],
+    acks: &mut [u8],
+    stored: &[u8],
+    table: &mut [u8],
+    old: &[u8],
+) -> u8
+    ensures { λ r. ⌜ CreateRan (record { n = n; id = id; timeout = timeout; room = room; members = members }) (now (state .entry)) (lent (now (log .entry)) (now (results .entry)) (now (totals .entry)) (now (acks .entry)) (now (stored .entry)) (now (table .entry)) (now (old .entry)) [] []) (ran r (0 ∷ 0 ∷ []) (now (state .exit)) (lent (now (log .entry)) (now (results .entry)) (now (totals .exit)) (now (acks .exit)) (now (stored .entry)) (now (table .exit)) (now (old .entry)) [] [])) ⌝ }
+{
+    if state.len() != 146 {
+        return 1;
+    }
+    let u = Setup {
+        n,
+        id,
+        timeout,
+        room,
+        members,
+    };
+    keep(
+        replica::create::create(u, log, results, totals, acks, stored, table, old),
+        state,
+    )
+}
+
+// recover
+#[no_mangle]
+pub extern "C" fn whitherhaul_recover(
+    n: u8,
+    id: u8,
+    timeout: u16,
+    room: u32,
+    members: u32,
+    view: u32,
+    nonce: u64,
+    state: &mut [u8],
+    log: &[u8],
+    results: &[u8],
+    totals: &mut [u8],
+    acks: &mut [u8],
+    stored: &[u8],
+    table: &mut [u8],
+    old: &[u8],
+    out: &mut [u8],
+    counts: &mut [u64; 2],
+) -> u8
+    ensures { λ r. ⌜ RecoverRan (record { n = n; id = id; timeout = timeout; room = room; members = members }) (record { 0 = view }) nonce (now (state .entry)) (lent (now (log .entry)) (now (results .entry)) (now (totals .entry)) (now (acks .entry)) (now (stored .entry)) (now (table .entry)) (now (old .entry)) (now (out .entry)) []) (ran r (now (counts .exit)) (now (state .exit)) (lent (now (log .entry)) (now (results .entry)) (now (totals .exit)) (now (acks .exit)) (now (stored .entry)) (now (table .exit)) (now (old .entry)) (now (out .exit)) [])) ⌝ }
+{
+    *counts = [0, 0];
+    if state.len() != 146 {
+        return 1;
+    }
+    let u = Setup {
+        n,
+        id,
+        timeout,
+        room,
+        members,
+    };
+    let a = replica::create::recover(
+        u,
+        View(view),
+        nonce,
+        log,
+        results,
+        totals,
+        acks,
+        stored,
+        table,
+        old,
+        out,
+    );
+    *counts = [a.messages as u64, a.replies as u64];
+    keep(a, state)
+}
+
+// A frame, whatever it is: all of the next state is written.
+fn message_whole(
+    state: &mut [u8],
+    frame: &[u8],
+    log: &mut [u8],
+    results: &mut [u8],
+    totals: &mut [u8],
+    acks: &mut [u8],
+    stored: &mut [u8],
+    table: &mut [u8],
+    old: &mut [u8],
+    out: &mut [u8],
+    reps: &mut [u8],
+    counts: &mut [u64; 2],
+) -> u8
+    requires { ⌜ stateOk (now state) ≡ true ⌝ }
+    ensures { λ r. ⌜ MessageRan (now (state .entry)) (now (frame .entry)) (lent (now (log .entry)) (now (results .entry)) (now (totals .entry)) (now (acks .entry)) (now (stored .entry)) (now (table .entry)) (now (old .entry)) (now (out .entry)) (now (reps .entry))) (ran r (now (counts .exit)) (now (state .exit)) (lent (now (log .exit)) (now (results .exit)) (now (totals .exit)) (now (acks .exit)) (now (stored .exit)) (now (table .exit)) (now (old .exit)) (now (out .exit)) (now (reps .exit)))) ⌝ }
+{
+    let a = replica::call::on_message(
+        state_bytes::read_state(state),
+        frame,
+        log,
+        results,
+        totals,
+        acks,
+        stored,
+        table,
+        old,
+        out,
+        reps,
+    );
+    *counts = [a.messages as u64, a.replies as u64];
+    keep(a, state)
+}
+
+// A frame that may be a usual one: of the next state only that part is written which a usual call changes.
+fn message_usual(
+    state: &mut [u8],
+    frame: &[u8],
+    log: &mut [u8],
+    results: &mut [u8],
+    totals: &mut [u8],
+    acks: &mut [u8],
+    stored: &mut [u8],
+    table: &mut [u8],
+    old: &mut [u8],
+    out: &mut [u8],
+    reps: &mut [u8],
+    counts: &mut [u64; 2],
+) -> u8
+    requires { ⌜ stateOk (now state) ≡ true ⌝ }
+    ensures { λ r. ⌜ MessageRan (now (state .entry)) (now (frame .entry)) (lent (now (log .entry)) (now (results .entry)) (now (totals .entry)) (now (acks .entry)) (now (stored .entry)) (now (table .entry)) (now (old .entry)) (now (out .entry)) (now (reps .entry))) (ran r (now (counts .exit)) (now (state .exit)) (lent (now (log .exit)) (now (results .exit)) (now (totals .exit)) (now (acks .exit)) (now (stored .exit)) (now (table .exit)) (now (old .exit)) (now (out .exit)) (now (reps .exit)))) ⌝ }
+{
+    let s = state_bytes::read_state(state);
+    if !usual::is_usual(s, frame) {
+        return message_whole(
+            state,
+            frame,
+            log,
+            results,
+            totals,
+            acks,
+            stored,
+            table,
+            old,
+            out,
+            reps,
+            counts,
+        );
+    }
+    let a = replica::call::on_message(
+        s,
+        frame,
+        log,
+        results,
+        totals,
+        acks,
+        stored,
+        table,
+        old,
+        out,
+        reps,
+    );
+    *counts = [a.messages as u64, a.replies as u64];
+    keep_onward(a, state)
+}
+
+// on_message. The same call stands once for each kind of a usual frame, and nothing is written between the look at the kind and the call: so the compiler makes of each the code of that kind alone.
+#[no_mangle]
+pub extern "C" fn whitherhaul_on_message(
+    state: &mut [u8],
+    frame: &[u8],
+    log: &mut [u8],
+    results: &mut [u8],
+    totals: &mut [u8],
+    acks: &mut [u8],
+    stored: &mut [u8],
+    table: &mut [u8],
+    old: &mut [u8],
+    out: &mut [u8],
+    reps: &mut [u8],
+    counts: &mut [u64; 2],
+) -> u8
+    ensures { λ r. ⌜ MessageRan (now (state .entry)) (now (frame .entry)) (lent (now (log .entry)) (now (results .entry)) (now (totals .entry)) (now (acks .entry)) (now (stored .entry)) (now (table .entry)) (now (old .entry)) (now (out .entry)) (now (reps .entry))) (ran r (now (counts .exit)) (now (state .exit)) (lent (now (log .exit)) (now (results .exit)) (now (totals .exit)) (now (acks .exit)) (now (stored .exit)) (now (table .exit)) (now (old .exit)) (now (out .exit)) (now (reps .exit)))) ⌝ }
+{
+    *counts = [0, 0];
+    if !state_bytes::state_ok(state) {
+        return 1;
+    }
+    if frame.len() < 7 {
+        return message_whole(
+            state,
+            frame,
+            log,
+            results,
+            totals,
+            acks,
+            stored,
+            table,
+            old,
+            out,
+            reps,
+            counts,
+        );
+    }
+    match numbers::read_u8(frame, 5) {
+        1 => message_usual(
+            state,
+            frame,
+            log,
+            results,
+            totals,
+            acks,
+            stored,
+            table,
+            old,
+            out,
+            reps,
+            counts,
+        ),
+        2 => message_usual(
+            state,
+            frame,
+            log,
+            results,
+            totals,
+            acks,
+            stored,
+            table,
+            old,
+            out,
+            reps,
+            counts,
+        ),
+        3 => message_usual(
+            state,
+            frame,
+            log,
+            results,
+            totals,
+            acks,
+            stored,
+            table,
+            old,
+            out,
+            reps,
+            counts,
+        ),
+        4 => message_usual(
+            state,
+            frame,
+            log,
+            results,
+            totals,
+            acks,
+            stored,
+            table,
+            old,
+            out,
+            reps,
+            counts,
+        ),
+        _ => message_whole(
+            state,
+            frame,
+            log,
+            results,
+            totals,
+            acks,
+            stored,
+            table,
+            old,
+            out,
+            reps,
+            counts,
+        ),
+    }
+}
+
+// A tick, whatever it does: all of the next state is written.
+fn tick_whole(
+    state: &mut [u8],
+    log: &mut [u8],
+    results: &mut [u8],
+    totals: &mut [u8],
+    acks: &mut [u8],
+    stored: &mut [u8],
+    table: &mut [u8],
+    old: &mut [u8],
+    out: &mut [u8],
+    reps: &mut [u8],
+    counts: &mut [u64; 2],
+) -> u8
+    requires { ⌜ stateOk (now state) ≡ true ⌝ }
+    ensures { λ r. ⌜ IdleRan (now (state .entry)) (lent (now (log .entry)) (now (results .entry)) (now (totals .entry)) (now (acks .entry)) (now (stored .entry)) (now (table .entry)) (now (old .entry)) (now (out .entry)) (now (reps .entry))) (ran r (now (counts .exit)) (now (state .exit)) (lent (now (log .exit)) (now (results .exit)) (now (totals .exit)) (now (acks .exit)) (now (stored .exit)) (now (table .exit)) (now (old .exit)) (now (out .exit)) (now (reps .exit)))) ⌝ }
+{
+    let a = replica::call::on_idle(
+        state_bytes::read_state(state),
+        log,
+        results,
+        totals,
+        acks,
+        stored,
+        table,
+        old,
+        out,
+        reps,
+    );
+    *counts = [a.messages as u64, a.replies as u64];
+    keep(a, state)
+}
+
+// on_idle. Of a Normal primary's next state only the clock is written.
+#[no_mangle]
+pub extern "C" fn whitherhaul_on_idle(
+    state: &mut [u8],
+    log: &mut [u8],
+    results: &mut [u8],
+    totals: &mut [u8],
+    acks: &mut [u8],
+    stored: &mut [u8],
+    table: &mut [u8],
+    old: &mut [u8],
+    out: &mut [u8],
+    reps: &mut [u8],
+    counts: &mut [u64; 2],
+) -> u8
+    ensures { λ r. ⌜ IdleRan (now (state .entry)) (lent (now (log .entry)) (now (results .entry)) (now (totals .entry)) (now (acks .entry)) (now (stored .entry)) (now (table .entry)) (now (old .entry)) (now (out .entry)) (now (reps .entry))) (ran r (now (counts .exit)) (now (state .exit)) (lent (now (log .exit)) (now (results .exit)) (now (totals .exit)) (now (acks .exit)) (now (stored .exit)) (now (table .exit)) (now (old .exit)) (now (out .exit)) (now (reps .exit)))) ⌝ }
+{
+    *counts = [0, 0];
+    if !state_bytes::state_ok(state) {
+        return 1;
+    }
+    let s = state_bytes::read_state(state);
+    if !usual::is_leading(s) {
+        return tick_whole(
+            state,
+            log,
+            results,
+            totals,
+            acks,
+            stored,
+            table,
+            old,
+            out,
+            reps,
+            counts,
+        );
+    }
+    let a = replica::call::on_idle(s, log, results, totals, acks, stored, table, old, out, reps);
+    *counts = [a.messages as u64, a.replies as u64];
+    keep_clocked(a, state)
+}
