@@ -7,14 +7,15 @@ ghost use Rattle.entries.specs.Entries.{encodeEntry, entries};
 ghost use Rattle.entries.specs.Places.{entryPlace, resultPlace};
 ghost use Rattle.book.specs.Log.{withEntries, risesAfter, noneBreaks, isSame, keepsFirst};
 ghost use Rattle.book.specs.Runs.{applied, moneyCommitted, replies};
-ghost use Rattle.book.specs.Memory.{money};
+ghost use Rattle.book.specs.Memory.{moneyBefore, moneyAfter};
+ghost use Rattle.numbers.specs.Lending.{was, last};
 use entries::Entry;
 use numbers::View;
 
 // One entry after the first n.
 pub fn append(log: &mut [u8], n: usize, e: Entry)
     requires { ⌜ (n < 4096) × (entryPlace (n + 1) ≤ length (now log)) ⌝ }
-    ensures { λ r. ⌜ now (log .exit) ≡ withEntries n (encodeEntry e) (now (log .entry)) ⌝ }
+    ensures { λ r. ⌜ last log ≡ withEntries n (encodeEntry e) (was log) ⌝ }
 {
     let p = entries::entry_place(n);
     entries::write_entry(&mut log[p..], e);
@@ -23,7 +24,7 @@ pub fn append(log: &mut [u8], n: usize, e: Entry)
 // The first k entries of `part` after the first n. With n = 0 a log is installed.
 pub fn append_part(log: &mut [u8], n: usize, part: &[u8], k: usize)
     requires { ⌜ (n + k ≤ 4096) × ((entryPlace (n + k) ≤ length (now log)) × (32 * k ≤ length (now part))) ⌝ }
-    ensures { λ r. ⌜ now (log .exit) ≡ withEntries n (take (32 * k) (now (part .entry))) (now (log .entry)) ⌝ }
+    ensures { λ r. ⌜ last log ≡ withEntries n (take (32 * k) (was part)) (was log) ⌝ }
 {
     let p = entries::entry_place(n);
     numbers::copy(&mut log[p..], part, 32 * k);
@@ -32,7 +33,7 @@ pub fn append_part(log: &mut [u8], n: usize, part: &[u8], k: usize)
 // Whether none of the first k entries of `part` breaks with one of the first n of the log. The look stops at the first pair that does.
 fn none_breaks(log: &[u8], n: usize, part: &[u8], k: usize) -> bool
     requires { ⌜ (n ≤ 4096) × ((entryPlace n ≤ length (now log)) × (32 * k ≤ length (now part))) ⌝ }
-    ensures { λ r. ⌜ r ≡ noneBreaks (entries n (now (log .entry))) (entries k (now (part .entry))) ⌝ }
+    ensures { λ r. ⌜ r ≡ noneBreaks (entries n (was log)) (entries k (was part)) ⌝ }
 {
     let mut ok = true;
     let mut i = 0;
@@ -54,7 +55,7 @@ fn none_breaks(log: &[u8], n: usize, part: &[u8], k: usize) -> bool
 // Whether the first n entries of a log that is rising, followed by the first k of `part`, are rising.
 pub fn rises_after(log: &[u8], n: usize, part: &[u8], k: usize) -> bool
     requires { ⌜ (n ≤ 4096) × ((entryPlace n ≤ length (now log)) × (32 * k ≤ length (now part))) ⌝ }
-    ensures { λ r. ⌜ r ≡ risesAfter (entries n (now (log .entry))) (entries k (now (part .entry))) ⌝ }
+    ensures { λ r. ⌜ r ≡ risesAfter (entries n (was log)) (entries k (was part)) ⌝ }
 {
     if !none_breaks(log, n, part, k) {
         return false;
@@ -65,7 +66,7 @@ pub fn rises_after(log: &[u8], n: usize, part: &[u8], k: usize) -> bool
 // Whether the first n bytes of two runs are equal.
 fn same(xs: &[u8], ys: &[u8], n: usize) -> bool
     requires { ⌜ (n ≤ length (now xs)) × (n ≤ length (now ys)) ⌝ }
-    ensures { λ r. ⌜ r ≡ isSame (take n (now (xs .entry))) (take n (now (ys .entry))) ⌝ }
+    ensures { λ r. ⌜ r ≡ isSame (take n (was xs)) (take n (was ys)) ⌝ }
 {
     let mut i = 0;
     while i < n {
@@ -80,7 +81,7 @@ fn same(xs: &[u8], ys: &[u8], n: usize) -> bool
 // Whether a log of k entries in `part` keeps the first n of ours, all 32 bytes of each.
 pub fn keeps(log: &[u8], n: usize, part: &[u8], k: usize) -> bool
     requires { ⌜ (n ≤ 4096) × ((entryPlace n ≤ length (now log)) × (32 * k ≤ length (now part))) ⌝ }
-    ensures { λ r. ⌜ r ≡ keepsFirst n (now (log .entry)) k (now (part .entry)) ⌝ }
+    ensures { λ r. ⌜ r ≡ keepsFirst n (was log) k (was part) ⌝ }
 {
     if k < n {
         return false;
@@ -91,7 +92,7 @@ pub fn keeps(log: &[u8], n: usize, part: &[u8], k: usize) -> bool
 // The entry of op number i + 1 goes through the fee rules; what it gave is the result of that op.
 fn commit_one(results: &mut [u8], totals: &mut [u8], members: u32, e: Entry, i: usize)
     requires { ⌜ (8 * members ≤ length (now totals)) × (resultPlace (i + 1) ≤ length (now results)) ⌝ }
-    ensures { λ r. ⌜ money (now (results .exit)) (now (totals .exit)) ≡ applied members e i (money (now (results .entry)) (now (totals .entry))) ⌝ }
+    ensures { λ r. ⌜ moneyAfter results totals ≡ applied members e i (moneyBefore results totals) ⌝ }
 {
     let o = fees::apply(totals, members, e);
     let p = entries::result_place(i);
@@ -108,7 +109,7 @@ pub fn commit_up_to(
     count: usize,
 )
     requires { ⌜ (from + count ≤ 4096) × ((8 * members ≤ length (now totals)) × ((9 * (from + count) ≤ length (now results)) × (entryPlace (from + count) ≤ length (now log)))) ⌝ }
-    ensures { λ r. ⌜ money (now (results .exit)) (now (totals .exit)) ≡ moneyCommitted members (now (log .entry)) from count (money (now (results .entry)) (now (totals .entry))) ⌝ }
+    ensures { λ r. ⌜ moneyAfter results totals ≡ moneyCommitted members (was log) from count (moneyBefore results totals) ⌝ }
 {
     let mut k = 0;
     while k < count {
@@ -128,7 +129,7 @@ pub fn write_replies(
     area: &mut [u8],
 )
     requires { ⌜ (from + count ≤ 4096) × ((36 * count ≤ length (now area)) × ((9 * (from + count) ≤ length (now results)) × (entryPlace (from + count) ≤ length (now log)))) ⌝ }
-    ensures { λ r. ⌜ now (area .exit) ≡ over (replies v (now (log .entry)) (now (results .entry)) from count) (now (area .entry)) ⌝ }
+    ensures { λ r. ⌜ last area ≡ over (replies v (was log) (was results) from count) (was area) ⌝ }
 {
     let mut k = 0;
     while k < count {

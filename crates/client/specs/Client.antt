@@ -1,6 +1,7 @@
 -- Document 01, the client. `on_request` replaces the pending request; `on_idle` sends it to every replica; `on_reply` raises the view even when the
 -- number doesn't match. A client call is refused by 1 (n is not 3 to 7), 2 (operation or cents outside the entry rules), 11 (the next request
 -- number is 2^64-1; for requests only), 9 (the frames don't fit the area), in this order; record and area then stay as they were. Assumes nothing.
+use mathlib.Core.Path.{_≡_}
 use mathlib.Core.Bool.{Bool, true, false, not}
 use mathlib.Core.List.{List, [], _++_}
 use Prim.Native.Nat.{ℕ, zero, suc, _+_}
@@ -76,6 +77,12 @@ requestedArea c operation member cents s =
     if eqb (requestRefusal c operation cents (length s)) 0
     then over (requestTo (primaryOf (c .n) (c .view)) (nextEntry c operation member cents)) s
     else s
+
+-- what a request leaves where the record is lent: answer, record and area
+abbrev pub Requests : Client → (operation member cents : ℕ) (area : List ℕ) → RequestSent → Client → List ℕ → Type 0
+Requests c operation member cents s r c′ s′ =
+    (r ≡ requestedOf c operation member cents (length s) .answer)
+    × ((c′ ≡ requestedOf c operation member cents (length s) .client) × (s′ ≡ requestedArea c operation member cents s))
 
 -- ---- a reply
 

@@ -5,6 +5,7 @@ ghost use lib.ListN.{length};
 ghost use Rattle.numbers.specs.Numbers.{Wrote};
 ghost use Rattle.client.specs.Client.{freshClient, createOf, requestRefusal, requestedOf, requestedArea, raisedView, awaits, leftPending, repliedOf, framesTo, framesAgain, idleRefusal, idledOf, idledArea};
 ghost use Rattle.client.specs.Replies.{outcomeOf, replyOk, readReply};
+ghost use Rattle.numbers.specs.Lending.{was, last};
 use entries::Entry;
 use numbers::View;
 
@@ -113,7 +114,7 @@ fn request_refusal(c: Client, operation: u8, cents: u64, room: usize) -> u8
 
 // The Rust's `on_request`: one frame to the primary of the view known.
 pub fn requested(c: Client, operation: u8, member: u32, cents: u64, area: &mut [u8]) -> AfterRequest
-    ensures { λ r. ⌜ (r ≡ requestedOf c operation member cents (length (now (area .entry)))) × (now (area .exit) ≡ requestedArea c operation member cents (now (area .entry))) ⌝ }
+    ensures { λ r. ⌜ (r ≡ requestedOf c operation member cents (length (was area))) × (last area ≡ requestedArea c operation member cents (was area)) ⌝ }
 {
     let no = request_refusal(c, operation, cents, area.len());
     if no != 0 {
@@ -242,7 +243,7 @@ fn idle_refusal(c: Client, room: usize) -> u8
 // The entry's frame to each of n replicas: the rest of the area is lent to the next frame.
 fn send_all(area: &mut [u8], n: u8, e: Entry) -> usize
     requires { ⌜ n * 39 ≤ length (now area) ⌝ }
-    ensures { λ k. ⌜ Wrote (framesTo n e) (now (area .entry)) (now (area .exit)) k ⌝ }
+    ensures { λ k. ⌜ Wrote (framesTo n e) (was area) (last area) k ⌝ }
 {
     let mut at = 0;
     let mut to = 0;
@@ -255,7 +256,7 @@ fn send_all(area: &mut [u8], n: u8, e: Entry) -> usize
 
 // The Rust's `on_idle`: the pending request, if any, to every replica. The record stays as it is.
 pub fn idled(c: Client, area: &mut [u8]) -> Resent
-    ensures { λ r. ⌜ (r ≡ idledOf c (length (now (area .entry)))) × (now (area .exit) ≡ idledArea c (now (area .entry))) ⌝ }
+    ensures { λ r. ⌜ (r ≡ idledOf c (length (was area))) × (last area ≡ idledArea c (was area)) ⌝ }
 {
     let no = idle_refusal(c, area.len());
     if no != 0 {
@@ -316,7 +317,7 @@ fn outcome_of(number: u8) -> ReplyOutcome
 
 // Whether the frame is a Reply.
 fn reply_ok(frame: &[u8]) -> bool
-    ensures { λ r. ⌜ r ≡ replyOk (now (frame .entry)) ⌝ }
+    ensures { λ r. ⌜ r ≡ replyOk (was frame) ⌝ }
 {
     if frame.len() != 36 {
         return false;
@@ -338,7 +339,7 @@ fn reply_ok(frame: &[u8]) -> bool
 
 // What a Reply says, or that the frame is malformed: 2.
 pub fn read_reply(frame: &[u8]) -> Read
-    ensures { λ r. ⌜ r ≡ readReply (now (frame .entry)) ⌝ }
+    ensures { λ r. ⌜ r ≡ readReply (was frame) ⌝ }
 {
     if !reply_ok(frame) {
         return Read::Malformed;

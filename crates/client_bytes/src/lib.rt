@@ -4,13 +4,14 @@ ghost use Prim.Native.Nat.{_≤_};
 ghost use lib.ListN.{length, drop};
 ghost use Rattle.numbers.specs.Numbers.{over};
 ghost use Rattle.client_bytes.specs.Layout.{pendingOf, encodePending, recordOf, recordOk, HoldsClient};
+ghost use Rattle.numbers.specs.Lending.{was, last};
 use client::Client;
 use client::Pending;
 
 // What is pending, 33 bytes from byte 21 on: 0, or 1 and the entry.
 fn pending_in(run: &[u8]) -> Pending
     requires { ⌜ 54 ≤ length (now run) ⌝ }
-    ensures { λ r. ⌜ r ≡ pendingOf (drop 21 (now (run .entry))) ⌝ }
+    ensures { λ r. ⌜ r ≡ pendingOf (drop 21 (was run)) ⌝ }
 {
     if numbers::read_u8(run, 21) == 0 {
         return Pending::Nothing;
@@ -23,7 +24,7 @@ fn pending_in(run: &[u8]) -> Pending
 // The record that the run holds.
 pub fn read_client(run: &[u8]) -> Client
     requires { ⌜ 54 ≤ length (now run) ⌝ }
-    ensures { λ r. ⌜ r ≡ recordOf (now (run .entry)) ⌝ }
+    ensures { λ r. ⌜ r ≡ recordOf (was run) ⌝ }
 {
     Client {
         n: numbers::read_u8(run, 0),
@@ -37,7 +38,7 @@ pub fn read_client(run: &[u8]) -> Client
 // That it is read back is told to whoever writes it.
 fn write_pending(area: &mut [u8], p: Pending)
     requires { ⌜ 33 ≤ length (now area) ⌝ }
-    ensures { λ r. ⌜ (now (area .exit) ≡ over (encodePending p) (now (area .entry))) × (pendingOf (encodePending p) ≡ p) ⌝ }
+    ensures { λ r. ⌜ (last area ≡ over (encodePending p) (was area)) × (pendingOf (encodePending p) ≡ p) ⌝ }
 {
     match p {
         Pending::Nothing => numbers::fill(area, 33, 0),
@@ -51,7 +52,7 @@ fn write_pending(area: &mut [u8], p: Pending)
 // The run holds the record.
 pub fn write_client(run: &mut [u8], c: Client)
     requires { ⌜ length (now run) ≡ 54 ⌝ }
-    ensures { λ r. ⌜ HoldsClient c (now (run .exit)) ⌝ }
+    ensures { λ r. ⌜ HoldsClient c (last run) ⌝ }
 {
     numbers::write_u8(run, c.n);
     numbers::write_u64(&mut run[1..], c.id);
@@ -63,7 +64,7 @@ pub fn write_client(run: &mut [u8], c: Client)
 
 // Whether the run is one that holds a record: its length, and no byte without meaning.
 pub fn client_ok(run: &[u8]) -> bool
-    ensures { λ r. ⌜ r ≡ recordOk (now (run .entry)) ⌝ }
+    ensures { λ r. ⌜ r ≡ recordOk (was run) ⌝ }
 {
     if run.len() != 54 {
         return false;

@@ -1,7 +1,8 @@
 // The client's record, lent and changed in its place: thin functions over `&mut Client` that call the covered ones of `client` by value.
 ghost use mathlib.Core.Path.{_≡_};
 ghost use lib.ListN.{length};
-ghost use Rattle.client.specs.Client.{requestedOf, requestedArea, repliedOf, idledOf, idledArea};
+ghost use Rattle.client.specs.Client.{Requests, repliedOf, idledOf, idledArea};
+ghost use Rattle.numbers.specs.Lending.{was, last};
 use client::Client;
 use client::Heard;
 use client::RequestSent;
@@ -16,7 +17,7 @@ pub fn request(
     cents: u64,
     area: &mut [u8],
 ) -> RequestSent
-    ensures { λ r. ⌜ (r ≡ requestedOf (now (c .entry)) operation member cents (length (now (area .entry))) .answer) × ((now (c .exit) ≡ requestedOf (now (c .entry)) operation member cents (length (now (area .entry))) .client) × (now (area .exit) ≡ requestedArea (now (c .entry)) operation member cents (now (area .entry)))) ⌝ }
+    ensures { λ r. ⌜ Requests (was c) operation member cents (was area) r (last c) (last area) ⌝ }
 {
     let r = client::requested(*c, operation, member, cents, area);
     *c = r.client;
@@ -25,7 +26,7 @@ pub fn request(
 
 // The Rust's `on_reply`.
 pub fn reply(c: &mut Client, number: u64, view: View) -> Heard
-    ensures { λ r. ⌜ (r ≡ repliedOf (now (c .entry)) number view .answer) × (now (c .exit) ≡ repliedOf (now (c .entry)) number view .client) ⌝ }
+    ensures { λ r. ⌜ (r ≡ repliedOf (was c) number view .answer) × (last c ≡ repliedOf (was c) number view .client) ⌝ }
 {
     let r = client::replied(*c, number, view);
     *c = r.client;
@@ -34,7 +35,7 @@ pub fn reply(c: &mut Client, number: u64, view: View) -> Heard
 
 // The Rust's `on_idle`: the record is only read.
 pub fn idle(c: &mut Client, area: &mut [u8]) -> Resent
-    ensures { λ r. ⌜ (r ≡ idledOf (now (c .entry)) (length (now (area .entry)))) × ((now (c .exit) ≡ now (c .entry)) × (now (area .exit) ≡ idledArea (now (c .entry)) (now (area .entry)))) ⌝ }
+    ensures { λ r. ⌜ (r ≡ idledOf (was c) (length (was area))) × ((last c ≡ was c) × (last area ≡ idledArea (was c) (was area))) ⌝ }
 {
     client::idled(*c, area)
 }

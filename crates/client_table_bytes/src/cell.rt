@@ -7,13 +7,14 @@ ghost use lib.ListN.{length, drop};
 ghost use Rattle.numbers.specs.Numbers.{over};
 ghost use Rattle.numbers.specs.Words.{_and_};
 ghost use Rattle.client_table_bytes.specs.Layout.{noRow, freshOf, rowOf, encodeRow};
+ghost use Rattle.numbers.specs.Lending.{was, last};
 use crate::MarkedRow;
 use entries::Entry;
 
 // The row at byte p.
 pub fn row_at(table: &[u8], p: usize) -> MarkedRow
     requires { ⌜ p + 25 ≤ length (now table) ⌝ }
-    ensures { λ r. ⌜ r ≡ rowOf (drop p (now (table .entry))) ⌝ }
+    ensures { λ r. ⌜ r ≡ rowOf (drop p (was table)) ⌝ }
 {
     MarkedRow {
         client: numbers::read_u64(table, p),
@@ -25,7 +26,7 @@ pub fn row_at(table: &[u8], p: usize) -> MarkedRow
 
 pub fn write_row(area: &mut [u8], row: MarkedRow)
     requires { ⌜ 25 ≤ length (now area) ⌝ }
-    ensures { λ r. ⌜ now (area .exit) ≡ over (encodeRow row) (now (area .entry)) ⌝ }
+    ensures { λ r. ⌜ last area ≡ over (encodeRow row) (was area) ⌝ }
 {
     numbers::write_u64(area, row.client);
     numbers::write_u64(&mut area[8..], row.request);

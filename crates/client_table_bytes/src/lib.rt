@@ -9,6 +9,7 @@ ghost use Rattle.fees.specs.Results.{outcomes};
 ghost use Rattle.client_table.specs.Rows.{spotOf, inserted, putRow, appended, replied, rowsCommitted, keptRow, rebuilt, renewed, followed};
 ghost use Rattle.client_table_bytes.specs.Layout.{noRow, byteRow, rowsOf};
 ghost use Rattle.client_table_bytes.specs.Steps.{foundIn, latestOf, oldAfter, RowsLeft, AppendsFor};
+ghost use Rattle.numbers.specs.Lending.{was, last};
 use client_table::Change;
 use client_table::Goal;
 use client_table::Latest;
@@ -36,7 +37,7 @@ pub struct Found {
 // The client's row, its place, or the place where it would go.
 pub fn find(table: &[u8], n: usize, client: u64) -> Found
     requires { ⌜ 25 * n ≤ length (now table) ⌝ }
-    ensures { λ r. ⌜ r ≡ foundIn (rowsOf n (now (table .entry))) client ⌝ }
+    ensures { λ r. ⌜ r ≡ foundIn (rowsOf n (was table)) client ⌝ }
 {
     let at = place::seek(table, n, 0, Goal::Client { id: client });
     let row = place::peek(table, n, at);
@@ -65,7 +66,7 @@ pub fn latest(f: Found) -> Latest
 // The row of a client that has none; a full table takes none.
 fn insert(table: &mut [u8], n: usize, at: usize, row: MarkedRow)
     requires { ⌜ 25 * n ≤ length (now table) × (at ≡ spotOf byteRow (rowsOf n (now table)) (row .client)) ⌝ }
-    ensures { λ r. ⌜ RowsLeft n (now (table .entry)) (now (table .exit)) (inserted byteRow (rowsOf n (now (table .entry))) row) ⌝ }
+    ensures { λ r. ⌜ RowsLeft n (was table) (last table) (inserted byteRow (rowsOf n (was table)) row) ⌝ }
 {
     let to = place::seek(table, n, at, Goal::End);
     if n <= to {
@@ -77,7 +78,7 @@ fn insert(table: &mut [u8], n: usize, at: usize, row: MarkedRow)
 // `row` becomes its client's row; f is what was found of him.
 fn put_found(table: &mut [u8], n: usize, f: Found, row: MarkedRow)
     requires { ⌜ (25 * n ≤ length (now table)) × (f ≡ foundIn (rowsOf n (now table)) (row .client)) ⌝ }
-    ensures { λ r. ⌜ RowsLeft n (now (table .entry)) (now (table .exit)) (putRow byteRow (rowsOf n (now (table .entry))) row) ⌝ }
+    ensures { λ r. ⌜ RowsLeft n (was table) (last table) (putRow byteRow (rowsOf n (was table)) row) ⌝ }
 {
     if f.there {
         place::store(table, n, f.at, f.at, row);
@@ -89,7 +90,7 @@ fn put_found(table: &mut [u8], n: usize, f: Found, row: MarkedRow)
 // `row` becomes its client's row.
 fn put(table: &mut [u8], n: usize, row: MarkedRow)
     requires { ⌜ 25 * n ≤ length (now table) ⌝ }
-    ensures { λ r. ⌜ RowsLeft n (now (table .entry)) (now (table .exit)) (putRow byteRow (rowsOf n (now (table .entry))) row) ⌝ }
+    ensures { λ r. ⌜ RowsLeft n (was table) (last table) (putRow byteRow (rowsOf n (was table)) row) ⌝ }
 {
     let f = find(table, n, row.client);
     put_found(table, n, f, row);
@@ -98,7 +99,7 @@ fn put(table: &mut [u8], n: usize, row: MarkedRow)
 // The entries from .. to of the log, in order, become their clients' rows.
 pub fn follow_append(table: &mut [u8], n: usize, log: &[u8], from: usize, to: usize)
     requires { ⌜ (25 * n ≤ length (now table)) × ((32 * to ≤ length (now log)) × (from ≤ to)) ⌝ }
-    ensures { λ r. ⌜ RowsLeft n (now (table .entry)) (now (table .exit)) (appended byteRow (rowsOf n (now (table .entry))) (entries (to - from) (drop (entryPlace from) (now (log .entry))))) ⌝ }
+    ensures { λ r. ⌜ RowsLeft n (was table) (last table) (appended byteRow (rowsOf n (was table)) (entries (to - from) (drop (entryPlace from) (was log)))) ⌝ }
 {
     let mut k = from;
     while k < to {
@@ -110,7 +111,7 @@ pub fn follow_append(table: &mut [u8], n: usize, log: &[u8], from: usize, to: us
 // The entry was executed: its reply is kept where it is its client's latest request.
 fn reply(table: &mut [u8], n: usize, e: Entry, o: Outcome)
     requires { ⌜ 25 * n ≤ length (now table) ⌝ }
-    ensures { λ r. ⌜ RowsLeft n (now (table .entry)) (now (table .exit)) (replied byteRow (rowsOf n (now (table .entry))) e o) ⌝ }
+    ensures { λ r. ⌜ RowsLeft n (was table) (last table) (replied byteRow (rowsOf n (was table)) e o) ⌝ }
 {
     let f = find(table, n, e.client);
     if !f.there {
@@ -131,7 +132,7 @@ fn reply(table: &mut [u8], n: usize, e: Entry, o: Outcome)
 // The entries from .. to were executed, and gave these results.
 pub fn follow_commit(table: &mut [u8], n: usize, log: &[u8], results: &[u8], from: usize, to: usize)
     requires { ⌜ (25 * n ≤ length (now table)) × ((32 * to ≤ length (now log)) × ((9 * to ≤ length (now results)) × (from ≤ to))) ⌝ }
-    ensures { λ r. ⌜ RowsLeft n (now (table .entry)) (now (table .exit)) (rowsCommitted byteRow (rowsOf n (now (table .entry))) (entries (to - from) (drop (entryPlace from) (now (log .entry)))) (outcomes (to - from) (drop (resultPlace from) (now (results .entry))))) ⌝ }
+    ensures { λ r. ⌜ RowsLeft n (was table) (last table) (rowsCommitted byteRow (rowsOf n (was table)) (entries (to - from) (drop (entryPlace from) (was log))) (outcomes (to - from) (drop (resultPlace from) (was results)))) ⌝ }
 {
     let mut k = from;
     while k < to {
@@ -145,7 +146,7 @@ pub fn follow_commit(table: &mut [u8], n: usize, log: &[u8], results: &[u8], fro
 // The row of an entry of a new log, `left` entries from it on being committed, by the old rows.
 fn kept(old: &[u8], n: usize, left: usize, e: Entry) -> MarkedRow
     requires { ⌜ 25 * n ≤ length (now old) ⌝ }
-    ensures { λ r. ⌜ r ≡ keptRow byteRow (rowsOf n (now (old .entry))) left e ⌝ }
+    ensures { λ r. ⌜ r ≡ keptRow byteRow (rowsOf n (was old)) left e ⌝ }
 {
     if left == 0 {
         return cell::fresh(e);
@@ -168,7 +169,7 @@ fn kept(old: &[u8], n: usize, left: usize, e: Entry) -> MarkedRow
 // The first `op` entries of the log become their clients' rows, in order, by the old rows.
 fn refill(table: &mut [u8], n: usize, old: &[u8], log: &[u8], op: usize, commit: usize)
     requires { ⌜ (25 * n ≤ length (now table)) × ((25 * n ≤ length (now old)) × (32 * op ≤ length (now log))) ⌝ }
-    ensures { λ r. ⌜ RowsLeft n (now (table .entry)) (now (table .exit)) (rebuilt byteRow (rowsOf n (now (old .entry))) commit (rowsOf n (now (table .entry))) (entries op (now (log .entry)))) ⌝ }
+    ensures { λ r. ⌜ RowsLeft n (was table) (last table) (rebuilt byteRow (rowsOf n (was old)) commit (rowsOf n (was table)) (entries op (was log))) ⌝ }
 {
     let mut k = 0;
     while k < op {
@@ -181,7 +182,7 @@ fn refill(table: &mut [u8], n: usize, old: &[u8], log: &[u8], op: usize, commit:
 // All n rows become unused.
 pub fn clear(table: &mut [u8], n: usize)
     requires { ⌜ 25 * n ≤ length (now table) ⌝ }
-    ensures { λ r. ⌜ RowsLeft n (now (table .entry)) (now (table .exit)) (replicate n noRow) ⌝ }
+    ensures { λ r. ⌜ RowsLeft n (was table) (last table) (replicate n noRow) ⌝ }
 {
     numbers::fill(table, 25 * n, 0);
 }
@@ -189,7 +190,7 @@ pub fn clear(table: &mut [u8], n: usize)
 // The table of a new log of `op` entries, `commit` of them committed; `old` gets the rows that were there.
 pub fn rebuild(table: &mut [u8], n: usize, old: &mut [u8], log: &[u8], op: usize, commit: usize)
     requires { ⌜ (25 * n ≤ length (now table)) × ((25 * n ≤ length (now old)) × (32 * op ≤ length (now log))) ⌝ }
-    ensures { λ r. ⌜ (RowsLeft n (now (table .entry)) (now (table .exit)) (rebuilt byteRow (rowsOf n (now (table .entry))) commit (replicate n noRow) (entries op (now (log .entry))))) × (now (old .exit) ≡ over (take (25 * n) (now (table .entry))) (now (old .entry))) ⌝ }
+    ensures { λ r. ⌜ (RowsLeft n (was table) (last table) (rebuilt byteRow (rowsOf n (was table)) commit (replicate n noRow) (entries op (was log)))) × (last old ≡ over (take (25 * n) (was table)) (was old)) ⌝ }
 {
     numbers::copy(old, table, 25 * n);
     clear(table, n);
@@ -199,7 +200,7 @@ pub fn rebuild(table: &mut [u8], n: usize, old: &mut [u8], log: &[u8], op: usize
 // The rows brought up to a log that was installed anew, or appended to.
 fn renew(table: &mut [u8], n: usize, old: &mut [u8], log: &[u8], change: Change)
     requires { ⌜ (25 * n ≤ length (now table)) × ((25 * n ≤ length (now old)) × (32 * change .to .0 ≤ length (now log))) ⌝ }
-    ensures { λ r. ⌜ RowsLeft n (now (table .entry)) (now (table .exit)) (renewed byteRow change (rowsOf n (now (table .entry))) (entries (change .to .0) (now (log .entry)))) × (now (old .exit) ≡ oldAfter n change (now (table .entry)) (now (old .entry))) ⌝ }
+    ensures { λ r. ⌜ RowsLeft n (was table) (last table) (renewed byteRow change (rowsOf n (was table)) (entries (change .to .0) (was log))) × (last old ≡ oldAfter n change (was table) (was old)) ⌝ }
 {
     let to = change.to.0 as usize;
     if change.installed {
@@ -222,7 +223,7 @@ pub fn follow(
     change: Change,
 )
     requires { ⌜ (25 * n ≤ length (now table)) × ((25 * n ≤ length (now old)) × ((32 * change .to .0 ≤ length (now log)) × ((9 * change .done .0 ≤ length (now results)) × (change .done .0 ≤ change .to .0)))) ⌝ }
-    ensures { λ r. ⌜ RowsLeft n (now (table .entry)) (now (table .exit)) (followed byteRow change (rowsOf n (now (table .entry))) (entries (change .to .0) (now (log .entry))) (outcomes (change .done .0) (now (results .entry)))) × (now (old .exit) ≡ oldAfter n change (now (table .entry)) (now (old .entry))) ⌝ }
+    ensures { λ r. ⌜ RowsLeft n (was table) (last table) (followed byteRow change (rowsOf n (was table)) (entries (change .to .0) (was log)) (outcomes (change .done .0) (was results))) × (last old ≡ oldAfter n change (was table) (was old)) ⌝ }
 {
     renew(table, n, old, log, change);
     if change.done.0 <= change.commit.0 {
@@ -248,7 +249,7 @@ pub fn follow_found(
     change: Change,
 )
     requires { ⌜ (25 * n ≤ length (now table)) × ((32 * change .to .0 ≤ length (now log)) × ((9 * change .done .0 ≤ length (now results)) × ((change .done .0 ≤ change .to .0) × AppendsFor n change f (now table) (now log)))) ⌝ }
-    ensures { λ r. ⌜ RowsLeft n (now (table .entry)) (now (table .exit)) (followed byteRow change (rowsOf n (now (table .entry))) (entries (change .to .0) (now (log .entry))) (outcomes (change .done .0) (now (results .entry)))) ⌝ }
+    ensures { λ r. ⌜ RowsLeft n (was table) (last table) (followed byteRow change (rowsOf n (was table)) (entries (change .to .0) (was log)) (outcomes (change .done .0) (was results))) ⌝ }
 {
     if change.op.0 < change.to.0 {
         let e = entries::entry_in(log, change.op.0 as usize);

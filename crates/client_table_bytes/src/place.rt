@@ -6,6 +6,7 @@ ghost use lib.ListN.{length, take, getD};
 ghost use Rattle.client_table.specs.Rows.{seek, stored};
 ghost use Rattle.client_table_bytes.specs.Layout.{noRow, byteRow, rowsOf};
 ghost use Rattle.client_table_bytes.specs.Steps.{RowsLeft};
+ghost use Rattle.numbers.specs.Lending.{was, last};
 use crate::MarkedRow;
 use crate::cell;
 use client_table::Goal;
@@ -14,7 +15,7 @@ use client_table::Span;
 // The first place, from `from` on, that isn't before the goal; by halves.
 pub fn seek(table: &[u8], n: usize, from: usize, goal: Goal) -> usize
     requires { ⌜ 25 * n ≤ length (now table) ⌝ }
-    ensures { λ r. ⌜ r ≡ seek byteRow from goal (rowsOf n (now (table .entry))) ⌝ }
+    ensures { λ r. ⌜ r ≡ seek byteRow from goal (rowsOf n (was table)) ⌝ }
 {
     let mut s = Span { lo: from, hi: n };
     while s.lo < s.hi {
@@ -27,7 +28,7 @@ pub fn seek(table: &[u8], n: usize, from: usize, goal: Goal) -> usize
 // The row at a place; past the end an unused one.
 pub fn peek(table: &[u8], n: usize, at: usize) -> MarkedRow
     requires { ⌜ 25 * n ≤ length (now table) ⌝ }
-    ensures { λ r. ⌜ r ≡ getD (rowsOf n (now (table .entry))) at noRow ⌝ }
+    ensures { λ r. ⌜ r ≡ getD (rowsOf n (was table)) at noRow ⌝ }
 {
     if n <= at {
         return cell::no_row();
@@ -38,7 +39,7 @@ pub fn peek(table: &[u8], n: usize, at: usize) -> MarkedRow
 // All bytes but the last 25 go up 25 places: one move.
 fn shift(part: &mut [u8])
     requires { ⌜ 25 ≤ length (now part) ⌝ }
-    ensures { λ r. ⌜ now (part .exit) ≡ take 25 (now (part .entry)) ++ take (length (now (part .entry)) - 25) (now (part .entry)) ⌝ }
+    ensures { λ r. ⌜ last part ≡ take 25 (was part) ++ take (length (was part) - 25) (was part) ⌝ }
 {
     let mut i = part.len() - 25;
     while 0 < i {
@@ -50,7 +51,7 @@ fn shift(part: &mut [u8])
 // `row` takes place `at`, after the rows from there up to `to` have gone up one place.
 pub fn store(table: &mut [u8], n: usize, at: usize, to: usize, row: MarkedRow)
     requires { ⌜ (at ≤ to) × ((to < n) × (25 * n ≤ length (now table))) ⌝ }
-    ensures { λ r. ⌜ RowsLeft n (now (table .entry)) (now (table .exit)) (stored byteRow at to row (rowsOf n (now (table .entry)))) ⌝ }
+    ensures { λ r. ⌜ RowsLeft n (was table) (last table) (stored byteRow at to row (rowsOf n (was table))) ⌝ }
 {
     let p = 25 * at;
     let e = 25 * to + 25;

@@ -10,6 +10,7 @@ ghost use Rattle.fees.specs.Results.{outcomes};
 ghost use Rattle.client_table.specs.Rows.{seek, stored, putRow, appended, replied, rowsCommitted, rebuilt, renewed, followed};
 ghost use Rattle.client_table.specs.Shape.{rowAt};
 ghost use Rattle.client_table_structs.specs.Shape.{unusedRow, structRow, foundAmong, latestAmong, oldRowsAfter};
+ghost use Rattle.numbers.specs.Lending.{was, last};
 use client_table::Change;
 use client_table::Goal;
 use client_table::Latest;
@@ -42,7 +43,7 @@ pub struct FoundRow {
 
 // The row at a place; past the end an unused one.
 fn peek(table: &[Row], at: usize) -> Row
-    ensures { λ r. ⌜ r ≡ rowAt structRow (now (table .entry)) at ⌝ }
+    ensures { λ r. ⌜ r ≡ rowAt structRow (was table) at ⌝ }
 {
     if at < table.len() {
         return table[at];
@@ -52,7 +53,7 @@ fn peek(table: &[Row], at: usize) -> Row
 
 // The first place, from `from` on, that isn't before the goal; by halves.
 fn seek(table: &[Row], from: usize, goal: Goal) -> usize
-    ensures { λ r. ⌜ r ≡ seek structRow from goal (now (table .entry)) ⌝ }
+    ensures { λ r. ⌜ r ≡ seek structRow from goal (was table) ⌝ }
 {
     let mut s = Span {
         lo: from,
@@ -66,7 +67,7 @@ fn seek(table: &[Row], from: usize, goal: Goal) -> usize
 
 // The client's row, its place, or the place where it would go.
 pub fn find(table: &[Row], client: u64) -> FoundRow
-    ensures { λ r. ⌜ r ≡ foundAmong (now (table .entry)) client ⌝ }
+    ensures { λ r. ⌜ r ≡ foundAmong (was table) client ⌝ }
 {
     let at = seek(table, 0, Goal::Client { id: client });
     cell::found(at, peek(table, at), client)
@@ -75,7 +76,7 @@ pub fn find(table: &[Row], client: u64) -> FoundRow
 // `row` takes place `at`, after the rows from there up to `to` have gone up one place.
 pub fn store(table: &mut [Row], at: usize, to: usize, row: Row)
     requires { ⌜ (at ≤ to) × (to < length (now table)) ⌝ }
-    ensures { λ r. ⌜ now (table .exit) ≡ stored structRow at to row (now (table .entry)) ⌝ }
+    ensures { λ r. ⌜ last table ≡ stored structRow at to row (was table) ⌝ }
 {
     let mut i = to;
     while at < i {
@@ -87,7 +88,7 @@ pub fn store(table: &mut [Row], at: usize, to: usize, row: Row)
 
 // `row` becomes its client's row: in place of the one that is there, or as a new one; a full table takes no new one.
 fn put(table: &mut [Row], row: Row)
-    ensures { λ r. ⌜ now (table .exit) ≡ putRow structRow (now (table .entry)) row ⌝ }
+    ensures { λ r. ⌜ last table ≡ putRow structRow (was table) row ⌝ }
 {
     let f = find(table, row.client);
     let to = cell::end_of(f, seek(table, f.at, Goal::End));
@@ -100,7 +101,7 @@ fn put(table: &mut [Row], row: Row)
 // The entries from .. to of the log, in order, become their clients' rows.
 fn append(table: &mut [Row], log: &[u8], from: usize, to: usize)
     requires { ⌜ (32 * to ≤ length (now log)) × (from ≤ to) ⌝ }
-    ensures { λ r. ⌜ now (table .exit) ≡ appended structRow (now (table .entry)) (entries (to - from) (drop (entryPlace from) (now (log .entry)))) ⌝ }
+    ensures { λ r. ⌜ last table ≡ appended structRow (was table) (entries (to - from) (drop (entryPlace from) (was log))) ⌝ }
 {
     let mut k = from;
     while k < to {
@@ -111,7 +112,7 @@ fn append(table: &mut [Row], log: &[u8], from: usize, to: usize)
 
 // The entry was executed: its reply is kept where it is its client's latest request.
 fn keep_reply(table: &mut [Row], e: Entry, o: Outcome)
-    ensures { λ r. ⌜ now (table .exit) ≡ replied structRow (now (table .entry)) e o ⌝ }
+    ensures { λ r. ⌜ last table ≡ replied structRow (was table) e o ⌝ }
 {
     let f = find(table, e.client);
     if !cell::is_latest(f, e) {
@@ -123,7 +124,7 @@ fn keep_reply(table: &mut [Row], e: Entry, o: Outcome)
 // The entries from .. to were executed, and gave these results.
 fn commit(table: &mut [Row], log: &[u8], results: &[u8], from: usize, to: usize)
     requires { ⌜ (32 * to ≤ length (now log)) × ((9 * to ≤ length (now results)) × (from ≤ to)) ⌝ }
-    ensures { λ r. ⌜ now (table .exit) ≡ rowsCommitted structRow (now (table .entry)) (entries (to - from) (drop (entryPlace from) (now (log .entry)))) (outcomes (to - from) (drop (resultPlace from) (now (results .entry)))) ⌝ }
+    ensures { λ r. ⌜ last table ≡ rowsCommitted structRow (was table) (entries (to - from) (drop (entryPlace from) (was log))) (outcomes (to - from) (drop (resultPlace from) (was results))) ⌝ }
 {
     let mut k = from;
     while k < to {
@@ -139,7 +140,7 @@ fn commit(table: &mut [Row], log: &[u8], results: &[u8], from: usize, to: usize)
 // All rows go to `old`, and become unused.
 fn set_aside(table: &mut [Row], old: &mut [Row])
     requires { ⌜ length (now old) ≡ length (now table) ⌝ }
-    ensures { λ r. ⌜ (now (table .exit) ≡ replicate (length (now (table .entry))) unusedRow) × (now (old .exit) ≡ now (table .entry)) ⌝ }
+    ensures { λ r. ⌜ (last table ≡ replicate (length (was table)) unusedRow) × (last old ≡ was table) ⌝ }
 {
     let mut i = 0;
     while i < table.len() {
@@ -152,7 +153,7 @@ fn set_aside(table: &mut [Row], old: &mut [Row])
 // The first `op` entries of the log become their clients' rows, in order, by the old rows; the first `commit` of them are committed.
 fn refill(table: &mut [Row], old: &[Row], log: &[u8], op: usize, commit: usize)
     requires { ⌜ 32 * op ≤ length (now log) ⌝ }
-    ensures { λ r. ⌜ now (table .exit) ≡ rebuilt structRow (now (old .entry)) commit (now (table .entry)) (entries op (now (log .entry))) ⌝ }
+    ensures { λ r. ⌜ last table ≡ rebuilt structRow (was old) commit (was table) (entries op (was log)) ⌝ }
 {
     let mut k = 0;
     while k < op {
@@ -168,7 +169,7 @@ fn refill(table: &mut [Row], old: &[Row], log: &[u8], op: usize, commit: usize)
 // The table of a new log of `op` entries, `commit` of them committed; `old` gets the rows that were there.
 fn rebuild(table: &mut [Row], old: &mut [Row], log: &[u8], op: usize, commit: usize)
     requires { ⌜ (length (now old) ≡ length (now table)) × (32 * op ≤ length (now log)) ⌝ }
-    ensures { λ r. ⌜ (now (table .exit) ≡ rebuilt structRow (now (table .entry)) commit (replicate (length (now (table .entry))) unusedRow) (entries op (now (log .entry)))) × (now (old .exit) ≡ now (table .entry)) ⌝ }
+    ensures { λ r. ⌜ (last table ≡ rebuilt structRow (was table) commit (replicate (length (was table)) unusedRow) (entries op (was log))) × (last old ≡ was table) ⌝ }
 {
     set_aside(table, old);
     refill(table, old, log, op, commit);
@@ -176,7 +177,7 @@ fn rebuild(table: &mut [Row], old: &mut [Row], log: &[u8], op: usize, commit: us
 
 // All rows become unused.
 pub fn clear(table: &mut [Row])
-    ensures { λ r. ⌜ now (table .exit) ≡ replicate (length (now (table .entry))) unusedRow ⌝ }
+    ensures { λ r. ⌜ last table ≡ replicate (length (was table)) unusedRow ⌝ }
 {
     let mut i = 0;
     while i < table.len() {
@@ -187,7 +188,7 @@ pub fn clear(table: &mut [Row])
 
 // What the table has of a client.
 pub fn latest(table: &[Row], client: u64) -> Latest
-    ensures { λ r. ⌜ r ≡ latestAmong (now (table .entry)) client ⌝ }
+    ensures { λ r. ⌜ r ≡ latestAmong (was table) client ⌝ }
 {
     cell::latest(find(table, client))
 }
@@ -195,7 +196,7 @@ pub fn latest(table: &[Row], client: u64) -> Latest
 // The rows brought up to a log that was installed anew, or appended to.
 fn renew(table: &mut [Row], old: &mut [Row], log: &[u8], change: Change)
     requires { ⌜ (change .installed ≡ true → length (now old) ≡ length (now table)) × (32 * change .to .0 ≤ length (now log)) ⌝ }
-    ensures { λ r. ⌜ (now (table .exit) ≡ renewed structRow change (now (table .entry)) (entries (change .to .0) (now (log .entry)))) × (now (old .exit) ≡ oldRowsAfter change (now (table .entry)) (now (old .entry))) ⌝ }
+    ensures { λ r. ⌜ (last table ≡ renewed structRow change (was table) (entries (change .to .0) (was log))) × (last old ≡ oldRowsAfter change (was table) (was old)) ⌝ }
 {
     if change.installed {
         rebuild(
@@ -213,7 +214,7 @@ fn renew(table: &mut [Row], old: &mut [Row], log: &[u8], change: Change)
 // The table brought up to what a call did to the log; `old` gets the rows that a rebuild replaces.
 pub fn follow(table: &mut [Row], old: &mut [Row], log: &[u8], results: &[u8], change: Change)
     requires { ⌜ (change .installed ≡ true → length (now old) ≡ length (now table)) × ((32 * change .to .0 ≤ length (now log)) × ((9 * change .done .0 ≤ length (now results)) × (change .done .0 ≤ change .to .0))) ⌝ }
-    ensures { λ r. ⌜ (now (table .exit) ≡ followed structRow change (now (table .entry)) (entries (change .to .0) (now (log .entry))) (outcomes (change .done .0) (now (results .entry)))) × (now (old .exit) ≡ oldRowsAfter change (now (table .entry)) (now (old .entry))) ⌝ }
+    ensures { λ r. ⌜ (last table ≡ followed structRow change (was table) (entries (change .to .0) (was log)) (outcomes (change .done .0) (was results))) × (last old ≡ oldRowsAfter change (was table) (was old)) ⌝ }
 {
     renew(table, old, log, change);
     commit(

@@ -29,7 +29,7 @@ use Rattle.reports.specs.Store.{keptLog, chosenOver}
 use Rattle.reports.specs.declared.Judged.{Judged}
 use Rattle.reports.specs.declared.Judged.the-variants.{Wait, Refuse, Begin}
 use Rattle.steps.specs.Steps.{Sound, Spoke, spoke}
-use Rattle.book.specs.Memory.{Memory, memory}
+use Rattle.book.specs.Memory.{Memory, memory, Run, memoryBefore, memoryAfter}
 use Rattle.view_change.specs.StartView.{sentStartView}
 use Rattle.do_view_change.specs.Begin.{callsFirst, firstLength, startViewsLength, entered, owed, Begun, beginStep}
 use Rattle.do_view_change.specs.declared.Decision.{Decision}
@@ -42,6 +42,11 @@ pub record Recorded : Type 0 where
 
 abbrev pub recorded : Returned → Memory → Recorded
 recorded a m = record { answer = a; memory = m }
+
+-- a call that answers a, on these runs, does this step
+abbrev pub Does : (Memory → Recorded) → Returned → (log results totals acks stored out reps : Run) → Type 0
+Does step a log results totals acks stored out reps =
+    recorded a (memoryAfter log results totals acks stored out reps) ≡ step (memoryBefore log results totals acks stored out reps)
 
 -- a call that only sends
 abbrev pub onlySent : Memory → Spoke → Recorded

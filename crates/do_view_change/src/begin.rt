@@ -6,11 +6,12 @@ ghost use Prim.Native.Nat.{_+_, _-_, _*_, _≤_};
 ghost use lib.ListN.{length};
 ghost use Rattle.numbers.specs.Numbers.{over, Wrote};
 ghost use Rattle.config.specs.Setup.{setupOk};
-ghost use Rattle.book.specs.Memory.{money, runs};
+ghost use Rattle.book.specs.Memory.{runsHeld, moneyBefore, moneyAfter};
 ghost use Rattle.state.specs.Lengths.{acksLength};
 ghost use Rattle.steps.specs.Steps.{Sound};
 ghost use Rattle.view_change.specs.StartView.{LogHeld};
 ghost use Rattle.do_view_change.specs.Begin.{callsFirst, firstLength, startViewsLength, startViewsOf, ownAcks, entered, owed, begun, beginStep};
+ghost use Rattle.numbers.specs.Lending.{was, last};
 use frames::Message;
 use numbers::Op;
 use state::Replica;
@@ -30,7 +31,7 @@ pub fn first_len(first: bool, t: Replica) -> usize
 // StartViewChange to all others, where the call asks for the view.
 pub fn call_first(first: bool, t: Replica, out: &mut [u8]) -> usize
     requires { ⌜ (setupOk (t .setup) ≡ true) × (firstLength first t ≤ length (now out)) ⌝ }
-    ensures { λ k. ⌜ Wrote (callsFirst first t) (now (out .entry)) (now (out .exit)) k ⌝ }
+    ensures { λ k. ⌜ Wrote (callsFirst first t) (was out) (last out) k ⌝ }
 {
     if first {
         let v = t.view;
@@ -50,7 +51,7 @@ pub fn start_views_len(t: Replica, o: Op) -> usize
 // StartView to all others, after what goes out first.
 fn send_start_views(t: Replica, u: Replica, first: bool, log: &[u8], out: &mut [u8]) -> usize
     requires { ⌜ (setupOk (t .setup) ≡ true) × (LogHeld u (length (now log)) × (firstLength first t + startViewsLength u ≤ length (now out))) ⌝ }
-    ensures { λ k. ⌜ Wrote (callsFirst first t ++ startViewsOf u (now (log .entry))) (now (out .entry)) (now (out .exit)) k ⌝ }
+    ensures { λ k. ⌜ Wrote (callsFirst first t ++ startViewsOf u (was log)) (was out) (last out) k ⌝ }
 {
     let view = u.view;
     let op = u.op;
@@ -63,7 +64,7 @@ fn send_start_views(t: Replica, u: Replica, first: bool, log: &[u8], out: &mut [
 // Our own ack for each op that isn't committed, none for the others.
 fn own_acks(u: Replica, acks: &mut [u8])
     requires { ⌜ (setupOk (u .setup) ≡ true) × ((u .commit .0 ≤ u .op .0) × ((u .op .0 ≤ u .setup .room) × (length (now acks) ≡ acksLength (u .setup)))) ⌝ }
-    ensures { λ r. ⌜ now (acks .exit) ≡ over (ownAcks u) (now (acks .entry)) ⌝ }
+    ensures { λ r. ⌜ last acks ≡ over (ownAcks u) (was acks) ⌝ }
 {
     let c = entries::ack_place(u.commit.0 as usize);
     let k = (u.op.0 - u.commit.0) as usize;
@@ -84,8 +85,8 @@ pub fn begin(
     out: &mut [u8],
     reps: &mut [u8],
 ) -> Returned
-    requires { ⌜ Sound (entered t o) (runs (now log) (now results) (now totals)) × ((g .0 ≤ o .0) × ((length (now acks) ≡ acksLength (t .setup)) × ((firstLength first t + startViewsLength (entered t o) ≤ length (now out)) × (36 * owed t g ≤ length (now reps))))) ⌝ }
-    ensures { λ r. ⌜ begun r (money (now (results .exit)) (now (totals .exit))) (now (acks .exit)) (now (out .exit)) (now (reps .exit)) ≡ beginStep t o g first (now (log .entry)) (money (now (results .entry)) (now (totals .entry))) (now (acks .entry)) (now (out .entry)) (now (reps .entry)) ⌝ }
+    requires { ⌜ Sound (entered t o) (runsHeld log results totals) × ((g .0 ≤ o .0) × ((length (now acks) ≡ acksLength (t .setup)) × ((firstLength first t + startViewsLength (entered t o) ≤ length (now out)) × (36 * owed t g ≤ length (now reps))))) ⌝ }
+    ensures { λ r. ⌜ begun r (moneyAfter results totals) (last acks) (last out) (last reps) ≡ beginStep t o g first (was log) (moneyBefore results totals) (was acks) (was out) (was reps) ⌝ }
 {
     let v = t.view;
     let c = t.commit;

@@ -9,8 +9,9 @@ ghost use Rattle.reports.specs.declared.Judged.the-variants.{Wait, Begin};
 ghost use Rattle.steps.specs.Steps.{spoke};
 ghost use Rattle.view_change.specs.StartView.{LogHeld};
 ghost use Rattle.do_view_change.specs.Begin.{owed};
-ghost use Rattle.do_view_change.specs.Record.{recorded, Gathering, Told, decidedBy, decided, recordStep, ownReport, reportOf, toldPrimary, sendStep, doViewChangeStep};
-ghost use Rattle.book.specs.Memory.{memory};
+ghost use Rattle.do_view_change.specs.Record.{Gathering, Told, decidedBy, decided, recordStep, ownReport, reportOf, toldPrimary, sendStep, doViewChangeStep, Does};
+ghost use Rattle.book.specs.Memory.{memoryHeld};
+ghost use Rattle.numbers.specs.Lending.{was, last};
 use crate::Decision;
 use crate::begin;
 use numbers::Op;
@@ -71,7 +72,7 @@ fn decide<'a>(
     fresh: &'a [u8],
 ) -> Decision
     requires { ⌜ (setupOk (t .setup) ≡ true) × (Fits rows (t .setup .n) r (t .setup .room) (now stored) (now fresh) × (32 * t .commit .0 ≤ length (now log))) ⌝ }
-    ensures { λ a. ⌜ a ≡ decided t rows r first area replies (now (log .entry)) (now (stored .entry)) (now (fresh .entry)) ⌝ }
+    ensures { λ a. ⌜ a ≡ decided t rows r first area replies (was log) (was stored) (was fresh) ⌝ }
 {
     let n = t.setup.n;
     let room = t.setup.room;
@@ -99,8 +100,8 @@ fn record_frame(
     out: &mut [u8],
     reps: &mut [u8],
 ) -> Returned
-    requires { ⌜ Gathering t (memory (now log) (now results) (now totals) (now acks) (now stored) (now out) (now reps)) × Told t r (d .op) (d .commit) (now fresh) ⌝ }
-    ensures { λ a. ⌜ recorded a (memory (now (log .exit)) (now (results .exit)) (now (totals .exit)) (now (acks .exit)) (now (stored .exit)) (now (out .exit)) (now (reps .exit))) ≡ recordStep s t r d first (now (fresh .entry)) (memory (now (log .entry)) (now (results .entry)) (now (totals .entry)) (now (acks .entry)) (now (stored .entry)) (now (out .entry)) (now (reps .entry))) ⌝ }
+    requires { ⌜ Gathering t (memoryHeld log results totals acks stored out reps) × Told t r (d .op) (d .commit) (now fresh) ⌝ }
+    ensures { λ a. ⌜ Does (recordStep s t r d first (was fresh)) a log results totals acks stored out reps ⌝ }
 {
     let held = t.reports;
     let rows = reports::rows::with_report(held, r, d);
@@ -133,8 +134,8 @@ fn record_own(
     out: &mut [u8],
     reps: &mut [u8],
 ) -> Returned
-    requires { ⌜ Gathering t (memory (now log) (now results) (now totals) (now acks) (now stored) (now out) (now reps)) ⌝ }
-    ensures { λ a. ⌜ recorded a (memory (now (log .exit)) (now (results .exit)) (now (totals .exit)) (now (acks .exit)) (now (stored .exit)) (now (out .exit)) (now (reps .exit))) ≡ recordStep s t (t .setup .id) (ownReport t) first (now (log .entry)) (memory (now (log .entry)) (now (results .entry)) (now (totals .entry)) (now (acks .entry)) (now (stored .entry)) (now (out .entry)) (now (reps .entry))) ⌝ }
+    requires { ⌜ Gathering t (memoryHeld log results totals acks stored out reps) ⌝ }
+    ensures { λ a. ⌜ Does (recordStep s t (t .setup .id) (ownReport t) first (was log)) a log results totals acks stored out reps ⌝ }
 {
     let me = t.setup.id;
     let d = own_report(t);
@@ -156,14 +157,14 @@ fn record_own(
     }
 }
 
-// A DoViewChange's last normal view, op and commit number.
-fn report(last: View, o: Op, c: Op) -> Report
-    ensures { λ d. ⌜ d ≡ reportOf last o c ⌝ }
+// A DoViewChange's normal normal view, op and commit number.
+fn report(normal: View, o: Op, c: Op) -> Report
+    ensures { λ d. ⌜ d ≡ reportOf normal o c ⌝ }
 {
     Report {
         there: true,
         full: true,
-        view: last,
+        view: normal,
         op: o,
         commit: c,
     }
@@ -172,27 +173,27 @@ fn report(last: View, o: Op, c: Op) -> Report
 fn own_report(s: Replica) -> Report
     ensures { λ d. ⌜ d ≡ ownReport s ⌝ }
 {
-    let last = s.normal;
+    let normal = s.normal;
     let o = s.op;
     let c = s.commit;
-    report(last, o, c)
+    report(normal, o, c)
 }
 
 // Our DoViewChange, to the primary of our view.
 fn tell_primary(s: Replica, t: Replica, first: bool, log: &[u8], out: &mut [u8]) -> Returned
     requires { ⌜ LogHeld t (length (now log)) ⌝ }
-    ensures { λ a. ⌜ spoke a (now (out .exit)) ≡ toldPrimary s t first (now (log .entry)) (now (out .entry)) ⌝ }
+    ensures { λ a. ⌜ spoke a (last out) ≡ toldPrimary s t first (was log) (was out) ⌝ }
 {
     if out.len() < begin::first_len(first, t) + (24 + 32 * (t.op.0 as usize)) {
         return state::refused(9, s);
     }
     let v = t.view;
-    let last = t.normal;
+    let normal = t.normal;
     let o = t.op;
     let c = t.commit;
     let to = config::primary_id(t.setup.n, v);
     let w = begin::call_first(first, t, out);
-    let k = writers::kinds::do_view_change(&mut out[w..], to, v, t.setup.id, last, o, c, log);
+    let k = writers::kinds::do_view_change(&mut out[w..], to, v, t.setup.id, normal, o, c, log);
     state::done(t, w + k, 0, false)
 }
 
@@ -209,8 +210,8 @@ pub fn send_do_view_change(
     out: &mut [u8],
     reps: &mut [u8],
 ) -> Returned
-    requires { ⌜ Gathering t (memory (now log) (now results) (now totals) (now acks) (now stored) (now out) (now reps)) ⌝ }
-    ensures { λ a. ⌜ recorded a (memory (now (log .exit)) (now (results .exit)) (now (totals .exit)) (now (acks .exit)) (now (stored .exit)) (now (out .exit)) (now (reps .exit))) ≡ sendStep s t first (memory (now (log .entry)) (now (results .entry)) (now (totals .entry)) (now (acks .entry)) (now (stored .entry)) (now (out .entry)) (now (reps .entry))) ⌝ }
+    requires { ⌜ Gathering t (memoryHeld log results totals acks stored out reps) ⌝ }
+    ensures { λ a. ⌜ Does (sendStep s t first) a log results totals acks stored out reps ⌝ }
 {
     if state::is_primary(t) {
         return record_own(s, t, first, log, results, totals, acks, stored, out, reps);
@@ -223,7 +224,7 @@ pub fn on_do_view_change(
     s: Replica,
     v: View,
     r: u8,
-    last: View,
+    normal: View,
     o: Op,
     c: Op,
     part: &[u8],
@@ -235,8 +236,8 @@ pub fn on_do_view_change(
     out: &mut [u8],
     reps: &mut [u8],
 ) -> Returned
-    requires { ⌜ Gathering s (memory (now log) (now results) (now totals) (now acks) (now stored) (now out) (now reps)) × Told s r o c (now part) ⌝ }
-    ensures { λ a. ⌜ recorded a (memory (now (log .exit)) (now (results .exit)) (now (totals .exit)) (now (acks .exit)) (now (stored .exit)) (now (out .exit)) (now (reps .exit))) ≡ doViewChangeStep s v r last o c (now (part .entry)) (memory (now (log .entry)) (now (results .entry)) (now (totals .entry)) (now (acks .entry)) (now (stored .entry)) (now (out .entry)) (now (reps .entry))) ⌝ }
+    requires { ⌜ Gathering s (memoryHeld log results totals acks stored out reps) × Told s r o c (now part) ⌝ }
+    ensures { λ a. ⌜ Does (doViewChangeStep s v r normal o c (was part)) a log results totals acks stored out reps ⌝ }
 {
     if v.0 < s.view.0 {
         return state::done(s, 0, 0, false);
@@ -244,7 +245,7 @@ pub fn on_do_view_change(
     if config::primary_id(s.setup.n, v) != s.setup.id {
         return state::done(s, 0, 0, false);
     }
-    let d = report(last, o, c);
+    let d = report(normal, o, c);
     if s.view.0 < v.0 {
         let t = state::changing_to(s, v);
         return record_frame(

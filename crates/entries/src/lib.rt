@@ -6,6 +6,7 @@ ghost use Rattle.numbers.specs.Numbers.{over};
 ghost use Rattle.entries.specs.Entries.{operationNumber, operationOf, operationOk, entryOf, entryOk, encodeEntry, entries, entriesOk};
 ghost use Rattle.entries.specs.Places.{cellOf, entryPlace, resultPlace, ackPlace, entryIn};
 ghost use Rattle.entries.specs.Rising.{breaksAt, rising};
+ghost use Rattle.numbers.specs.Lending.{was, last};
 
 // A charge as a client asks for it. The operation is the wire's byte: memory that no call produced may hold any.
 pub struct Entry {
@@ -58,7 +59,7 @@ pub fn operation_ok(operation: u8, cents: u64) -> bool
 // The entry at place `at`, whether it keeps the rules or not.
 pub fn entry_at(s: &[u8], at: usize) -> Entry
     requires { ⌜ at + 32 ≤ length (now s) ⌝ }
-    ensures { λ r. ⌜ r ≡ entryOf (drop at (now (s .entry))) ⌝ }
+    ensures { λ r. ⌜ r ≡ entryOf (drop at (was s)) ⌝ }
 {
     Entry {
         client: numbers::read_u64(s, at),
@@ -102,7 +103,7 @@ pub fn ack_place(i: usize) -> usize
 // The entry of op number i + 1.
 pub fn entry_in(log: &[u8], i: usize) -> Entry
     requires { ⌜ entryPlace (i + 1) ≤ length (now log) ⌝ }
-    ensures { λ r. ⌜ r ≡ entryIn (now (log .entry)) i ⌝ }
+    ensures { λ r. ⌜ r ≡ entryIn (was log) i ⌝ }
 {
     entry_at(log, entry_place(i))
 }
@@ -110,7 +111,7 @@ pub fn entry_in(log: &[u8], i: usize) -> Entry
 // Whether the 32 bytes at place `at` keep the entry rules.
 pub fn entry_ok(s: &[u8], at: usize) -> bool
     requires { ⌜ at + 32 ≤ length (now s) ⌝ }
-    ensures { λ r. ⌜ r ≡ entryOk (drop at (now (s .entry))) ⌝ }
+    ensures { λ r. ⌜ r ≡ entryOk (drop at (was s)) ⌝ }
 {
     if numbers::read_be(s, at + 17, 3) != 0 {
         return false;
@@ -121,7 +122,7 @@ pub fn entry_ok(s: &[u8], at: usize) -> bool
 // The entry's 32 bytes over the front of `area`.
 pub fn write_entry(area: &mut [u8], e: Entry)
     requires { ⌜ 32 ≤ length (now area) ⌝ }
-    ensures { λ r. ⌜ now (area .exit) ≡ over (encodeEntry e) (now (area .entry)) ⌝ }
+    ensures { λ r. ⌜ last area ≡ over (encodeEntry e) (was area) ⌝ }
 {
     numbers::write_u64(area, e.client);
     numbers::write_u64(&mut area[8..], e.request);
@@ -134,7 +135,7 @@ pub fn write_entry(area: &mut [u8], e: Entry)
 // Whether the k entries from place `at` on keep the entry rules.
 pub fn entries_ok(s: &[u8], at: usize, k: usize) -> bool
     requires { ⌜ at + 32 * k ≤ length (now s) ⌝ }
-    ensures { λ r. ⌜ r ≡ entriesOk k (drop at (now (s .entry))) ⌝ }
+    ensures { λ r. ⌜ r ≡ entriesOk k (drop at (was s)) ⌝ }
 {
     let mut i = 0;
     let mut p = at;
@@ -151,7 +152,7 @@ pub fn entries_ok(s: &[u8], at: usize, k: usize) -> bool
 // Whether the entry at `at`, which stands after e, is of the same client and its request number does not rise. Of another client's entry nothing else is read.
 pub fn breaks(e: Entry, s: &[u8], at: usize) -> bool
     requires { ⌜ at + 32 ≤ length (now s) ⌝ }
-    ensures { λ r. ⌜ r ≡ breaksAt e (entryOf (drop at (now (s .entry)))) ⌝ }
+    ensures { λ r. ⌜ r ≡ breaksAt e (entryOf (drop at (was s))) ⌝ }
 {
     if numbers::read_u64(s, at) != e.client {
         return false;
@@ -162,7 +163,7 @@ pub fn breaks(e: Entry, s: &[u8], at: usize) -> bool
 // Whether the first k entries of the run are rising. The look over pairs stops at the first pair that breaks this.
 pub fn is_rising(s: &[u8], k: usize) -> bool
     requires { ⌜ 32 * k ≤ length (now s) ⌝ }
-    ensures { λ r. ⌜ r ≡ rising (entries k (now (s .entry))) ⌝ }
+    ensures { λ r. ⌜ r ≡ rising (entries k (was s)) ⌝ }
 {
     let mut ok = true;
     let mut i = 0;

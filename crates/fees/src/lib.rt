@@ -6,6 +6,7 @@ ghost use Rattle.numbers.specs.Numbers.{over};
 ghost use Rattle.entries.specs.Places.{resultPlace};
 ghost use Rattle.fees.specs.Fees.{rule, outcomeOn, totalBytesAfter};
 ghost use Rattle.fees.specs.Results.{resultOf, resultIn, encodeResult};
+ghost use Rattle.numbers.specs.Lending.{was, last};
 use entries::Entry;
 use entries::Operation;
 
@@ -60,7 +61,7 @@ pub fn by_rule(total: u64, op: Operation, cents: u64) -> Outcome
 // One entry on the first `members` totals of the run, 8 bytes each.
 pub fn apply(totals: &mut [u8], members: u32, e: Entry) -> Outcome
     requires { ⌜ 8 * members ≤ length (now totals) ⌝ }
-    ensures { λ r. ⌜ (r ≡ outcomeOn members (now (totals .entry)) e) × (now (totals .exit) ≡ totalBytesAfter members (now (totals .entry)) e) ⌝ }
+    ensures { λ r. ⌜ (r ≡ outcomeOn members (was totals) e) × (last totals ≡ totalBytesAfter members (was totals) e) ⌝ }
 {
     if e.member < members {
         let at = 8 * (e.member as usize);
@@ -75,7 +76,7 @@ pub fn apply(totals: &mut [u8], members: u32, e: Entry) -> Outcome
 // The result at place `at` of a run.
 pub fn result_at(s: &[u8], at: usize) -> Outcome
     requires { ⌜ at + 9 ≤ length (now s) ⌝ }
-    ensures { λ r. ⌜ r ≡ resultOf (drop at (now (s .entry))) ⌝ }
+    ensures { λ r. ⌜ r ≡ resultOf (drop at (was s)) ⌝ }
 {
     Outcome {
         code: numbers::read_u8(s, at),
@@ -86,7 +87,7 @@ pub fn result_at(s: &[u8], at: usize) -> Outcome
 // The result of op number i + 1.
 pub fn result_in(results: &[u8], i: usize) -> Outcome
     requires { ⌜ resultPlace (i + 1) ≤ length (now results) ⌝ }
-    ensures { λ r. ⌜ r ≡ resultIn (now (results .entry)) i ⌝ }
+    ensures { λ r. ⌜ r ≡ resultIn (was results) i ⌝ }
 {
     result_at(results, entries::result_place(i))
 }
@@ -94,7 +95,7 @@ pub fn result_in(results: &[u8], i: usize) -> Outcome
 // A result's 9 bytes over the front of the area.
 pub fn write_result(area: &mut [u8], o: Outcome)
     requires { ⌜ 9 ≤ length (now area) ⌝ }
-    ensures { λ r. ⌜ now (area .exit) ≡ over (encodeResult o) (now (area .entry)) ⌝ }
+    ensures { λ r. ⌜ last area ≡ over (encodeResult o) (was area) ⌝ }
 {
     numbers::write_u8(area, o.code);
     numbers::write_u64(&mut area[1..], o.total);

@@ -6,6 +6,7 @@ ghost use Rattle.frames.specs.Kinds.{kindOf};
 ghost use Rattle.frames.specs.Messages.{parseFrame, carriedOf, carriedBytes};
 ghost use Rattle.frames.specs.Refusals.{refusalOf, checkFrame};
 ghost use Rattle.frames.specs.Looks.{looksAt};
+ghost use Rattle.numbers.specs.Lending.{was};
 use config::Setup;
 use entries::Entry;
 use numbers::Op;
@@ -113,14 +114,14 @@ pub enum Checked {
 // The kind that a frame names, whether or not it is well formed.
 pub fn kind_of(frame: &[u8]) -> u8
     requires { ⌜ 6 ≤ length (now frame) ⌝ }
-    ensures { λ r. ⌜ r ≡ kindOf (now (frame .entry)) ⌝ }
+    ensures { λ r. ⌜ r ≡ kindOf (was frame) ⌝ }
 {
     numbers::read_u8(frame, 5)
 }
 
 // The addressee and the message of a frame, or that it is malformed: refusal 2.
 pub fn parse(frame: &[u8]) -> Parsed
-    ensures { λ r. ⌜ r ≡ parseFrame (now (frame .entry)) ⌝ }
+    ensures { λ r. ⌜ r ≡ parseFrame (was frame) ⌝ }
 {
     if !shape::well_formed(frame) {
         return Parsed::Malformed;
@@ -134,7 +135,7 @@ pub fn parse(frame: &[u8]) -> Parsed
 // Refusals 3, 4, 5, 6 of a well-formed frame, in this order; 0: none.
 fn refusal(u: Setup, to: u8, x: Carried, frame: &[u8]) -> u8
     requires { ⌜ x .start + 32 * x .whole ≤ length (now frame) ⌝ }
-    ensures { λ r. ⌜ r ≡ refusalOf u to x (now (frame .entry)) ⌝ }
+    ensures { λ r. ⌜ r ≡ refusalOf u to x (was frame) ⌝ }
 {
     if to != u.id {
         return 3;
@@ -157,7 +158,7 @@ fn refusal(u: Setup, to: u8, x: Carried, frame: &[u8]) -> u8
 
 // The message of a frame that a replica of this setup may look at, or the refusal that the frame alone earns.
 pub fn check(u: Setup, frame: &[u8]) -> Checked
-    ensures { λ r. ⌜ r ≡ checkFrame u (now (frame .entry)) ⌝ }
+    ensures { λ r. ⌜ r ≡ checkFrame u (was frame) ⌝ }
 {
     match parse(frame) {
         Parsed::Malformed => Checked::Refused { number: 2 },
@@ -173,7 +174,7 @@ pub fn check(u: Setup, frame: &[u8]) -> Checked
 
 // The entries of a message's frame, as bytes; nothing where the frame ends before its fields do.
 pub fn carried_bytes(m: Message, frame: &[u8]) -> &[u8]
-    ensures { λ r. ⌜ now r ≡ carriedBytes m (now (frame .entry)) ⌝ }
+    ensures { λ r. ⌜ now r ≡ carriedBytes m (was frame) ⌝ }
 {
     let x = row::carried(m);
     let at = x.start;

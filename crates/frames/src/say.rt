@@ -6,12 +6,13 @@ ghost use Rattle.numbers.specs.Numbers.{num, viewAt, opAt};
 ghost use Rattle.entries.specs.Entries.{entryOf};
 ghost use Rattle.frames.specs.Kinds.{fieldsEnd, roomOf, countOf};
 ghost use Rattle.frames.specs.Messages.{responseState, messageOf};
+ghost use Rattle.numbers.specs.Lending.{was};
 use crate::Message;
 use crate::RecoveryState;
 
 fn request(frame: &[u8]) -> Message
     requires { ⌜ fieldsEnd 1 + 32 ≤ length (now frame) ⌝ }
-    ensures { λ r. ⌜ r ≡ Message.Request (entryOf (drop (fieldsEnd 1) (now (frame .entry)))) ⌝ }
+    ensures { λ r. ⌜ r ≡ Message.Request (entryOf (drop (fieldsEnd 1) (was frame))) ⌝ }
 {
     Message::Request {
         entry: entries::entry_at(frame, 7),
@@ -20,7 +21,7 @@ fn request(frame: &[u8]) -> Message
 
 fn prepare(frame: &[u8]) -> Message
     requires { ⌜ fieldsEnd 2 + 32 ≤ length (now frame) ⌝ }
-    ensures { λ r. ⌜ r ≡ Message.Prepare (viewAt 7 (now (frame .entry))) (opAt 11 (now (frame .entry))) (opAt 15 (now (frame .entry))) (entryOf (drop (fieldsEnd 2) (now (frame .entry)))) ⌝ }
+    ensures { λ r. ⌜ r ≡ Message.Prepare (viewAt 7 (was frame)) (opAt 11 (was frame)) (opAt 15 (was frame)) (entryOf (drop (fieldsEnd 2) (was frame))) ⌝ }
 {
     Message::Prepare {
         view: numbers::read_view(frame, 7),
@@ -32,7 +33,7 @@ fn prepare(frame: &[u8]) -> Message
 
 fn prepare_ok(frame: &[u8]) -> Message
     requires { ⌜ fieldsEnd 3 ≤ length (now frame) ⌝ }
-    ensures { λ r. ⌜ r ≡ Message.PrepareOk (viewAt 7 (now (frame .entry))) (opAt 11 (now (frame .entry))) (num 1 15 (now (frame .entry))) ⌝ }
+    ensures { λ r. ⌜ r ≡ Message.PrepareOk (viewAt 7 (was frame)) (opAt 11 (was frame)) (num 1 15 (was frame)) ⌝ }
 {
     Message::PrepareOk {
         view: numbers::read_view(frame, 7),
@@ -43,7 +44,7 @@ fn prepare_ok(frame: &[u8]) -> Message
 
 fn commit(frame: &[u8]) -> Message
     requires { ⌜ fieldsEnd 4 ≤ length (now frame) ⌝ }
-    ensures { λ r. ⌜ r ≡ Message.Commit (viewAt 7 (now (frame .entry))) (opAt 11 (now (frame .entry))) ⌝ }
+    ensures { λ r. ⌜ r ≡ Message.Commit (viewAt 7 (was frame)) (opAt 11 (was frame)) ⌝ }
 {
     Message::Commit {
         view: numbers::read_view(frame, 7),
@@ -53,7 +54,7 @@ fn commit(frame: &[u8]) -> Message
 
 fn get_state(frame: &[u8]) -> Message
     requires { ⌜ fieldsEnd 5 ≤ length (now frame) ⌝ }
-    ensures { λ r. ⌜ r ≡ Message.GetState (num 1 7 (now (frame .entry))) (viewAt 8 (now (frame .entry))) (opAt 12 (now (frame .entry))) ⌝ }
+    ensures { λ r. ⌜ r ≡ Message.GetState (num 1 7 (was frame)) (viewAt 8 (was frame)) (opAt 12 (was frame)) ⌝ }
 {
     Message::GetState {
         from: numbers::read_u8(frame, 7),
@@ -64,7 +65,7 @@ fn get_state(frame: &[u8]) -> Message
 
 fn new_state(frame: &[u8]) -> Message
     requires { ⌜ fieldsEnd 6 ≤ length (now frame) ⌝ }
-    ensures { λ r. ⌜ r ≡ Message.NewState (viewAt 7 (now (frame .entry))) (opAt 11 (now (frame .entry))) (opAt 15 (now (frame .entry))) (opAt 19 (now (frame .entry))) ⌝ }
+    ensures { λ r. ⌜ r ≡ Message.NewState (viewAt 7 (was frame)) (opAt 11 (was frame)) (opAt 15 (was frame)) (opAt 19 (was frame)) ⌝ }
 {
     Message::NewState {
         view: numbers::read_view(frame, 7),
@@ -76,7 +77,7 @@ fn new_state(frame: &[u8]) -> Message
 
 fn start_view_change(frame: &[u8]) -> Message
     requires { ⌜ fieldsEnd 7 ≤ length (now frame) ⌝ }
-    ensures { λ r. ⌜ r ≡ Message.StartViewChange (viewAt 7 (now (frame .entry))) (num 1 11 (now (frame .entry))) ⌝ }
+    ensures { λ r. ⌜ r ≡ Message.StartViewChange (viewAt 7 (was frame)) (num 1 11 (was frame)) ⌝ }
 {
     Message::StartViewChange {
         view: numbers::read_view(frame, 7),
@@ -86,7 +87,7 @@ fn start_view_change(frame: &[u8]) -> Message
 
 fn do_view_change(frame: &[u8]) -> Message
     requires { ⌜ fieldsEnd 8 ≤ length (now frame) ⌝ }
-    ensures { λ r. ⌜ r ≡ Message.DoViewChange (viewAt 7 (now (frame .entry))) (num 1 11 (now (frame .entry))) (viewAt 12 (now (frame .entry))) (opAt 16 (now (frame .entry))) (opAt 20 (now (frame .entry))) ⌝ }
+    ensures { λ r. ⌜ r ≡ Message.DoViewChange (viewAt 7 (was frame)) (num 1 11 (was frame)) (viewAt 12 (was frame)) (opAt 16 (was frame)) (opAt 20 (was frame)) ⌝ }
 {
     Message::DoViewChange {
         view: numbers::read_view(frame, 7),
@@ -99,7 +100,7 @@ fn do_view_change(frame: &[u8]) -> Message
 
 fn start_view(frame: &[u8]) -> Message
     requires { ⌜ fieldsEnd 9 ≤ length (now frame) ⌝ }
-    ensures { λ r. ⌜ r ≡ Message.StartView (viewAt 7 (now (frame .entry))) (opAt 11 (now (frame .entry))) (opAt 15 (now (frame .entry))) ⌝ }
+    ensures { λ r. ⌜ r ≡ Message.StartView (viewAt 7 (was frame)) (opAt 11 (was frame)) (opAt 15 (was frame)) ⌝ }
 {
     Message::StartView {
         view: numbers::read_view(frame, 7),
@@ -110,7 +111,7 @@ fn start_view(frame: &[u8]) -> Message
 
 fn recovery(frame: &[u8]) -> Message
     requires { ⌜ fieldsEnd 10 ≤ length (now frame) ⌝ }
-    ensures { λ r. ⌜ r ≡ Message.Recovery (num 1 7 (now (frame .entry))) (num 8 8 (now (frame .entry))) (viewAt 16 (now (frame .entry))) ⌝ }
+    ensures { λ r. ⌜ r ≡ Message.Recovery (num 1 7 (was frame)) (num 8 8 (was frame)) (viewAt 16 (was frame)) ⌝ }
 {
     Message::Recovery {
         from: numbers::read_u8(frame, 7),
@@ -121,7 +122,7 @@ fn recovery(frame: &[u8]) -> Message
 
 fn state(frame: &[u8]) -> RecoveryState
     requires { ⌜ roomOf 11 (now frame) ≤ length (now frame) ⌝ }
-    ensures { λ r. ⌜ r ≡ responseState (now (frame .entry)) ⌝ }
+    ensures { λ r. ⌜ r ≡ responseState (was frame) ⌝ }
 {
     if numbers::read_u8(frame, 20) == 1 {
         return RecoveryState::Present {
@@ -134,7 +135,7 @@ fn state(frame: &[u8]) -> RecoveryState
 
 fn recovery_response(frame: &[u8]) -> Message
     requires { ⌜ roomOf 11 (now frame) ≤ length (now frame) ⌝ }
-    ensures { λ r. ⌜ r ≡ Message.RecoveryResponse (viewAt 7 (now (frame .entry))) (num 8 11 (now (frame .entry))) (num 1 19 (now (frame .entry))) (responseState (now (frame .entry))) ⌝ }
+    ensures { λ r. ⌜ r ≡ Message.RecoveryResponse (viewAt 7 (was frame)) (num 8 11 (was frame)) (num 1 19 (was frame)) (responseState (was frame)) ⌝ }
 {
     Message::RecoveryResponse {
         view: numbers::read_view(frame, 7),
@@ -147,7 +148,7 @@ fn recovery_response(frame: &[u8]) -> Message
 // The message of a well-formed frame of this kind.
 pub fn said(frame: &[u8], kind: u8) -> Message
     requires { ⌜ (1 ≤ kind) × ((kind ≤ 11) × (roomOf kind (now frame) + 32 * countOf kind (now frame) ≤ length (now frame))) ⌝ }
-    ensures { λ r. ⌜ r ≡ messageOf kind (now (frame .entry)) ⌝ }
+    ensures { λ r. ⌜ r ≡ messageOf kind (was frame) ⌝ }
 {
     match kind {
         1 => request(frame),

@@ -7,6 +7,7 @@ ghost use lib.ListN.{length};
 ghost use Rattle.numbers.specs.Words.{if_then_else_};
 ghost use Rattle.numbers.specs.Numbers.{num};
 ghost use Rattle.frames.specs.Kinds.{fieldsEnd, responseMark, stateEnd, roomOf, fieldsOk, countOf, headOk, bodyOk, wellFormed};
+ghost use Rattle.numbers.specs.Lending.{was};
 
 // By kind, where the fields end and the entries begin; of kind 11 without a log.
 const FIELDS_END: [usize; 12] = [0, 7, 19, 16, 15, 16, 23, 12, 24, 19, 20, 21];
@@ -24,7 +25,7 @@ pub fn fields_end(kind: u8) -> usize
 
 fn room(frame: &[u8], kind: u8) -> usize
     requires { ⌜ (kind ≤ 11) × (fieldsEnd kind ≤ length (now frame)) ⌝ }
-    ensures { λ r. ⌜ r ≡ roomOf kind (now (frame .entry)) ⌝ }
+    ensures { λ r. ⌜ r ≡ roomOf kind (was frame) ⌝ }
 {
     if kind == 11 {
         if numbers::read_u8(frame, 20) == 1 {
@@ -37,7 +38,7 @@ fn room(frame: &[u8], kind: u8) -> usize
 
 fn fields_ok(frame: &[u8], kind: u8) -> bool
     requires { ⌜ fieldsEnd kind ≤ length (now frame) ⌝ }
-    ensures { λ r. ⌜ r ≡ fieldsOk kind (now (frame .entry)) ⌝ }
+    ensures { λ r. ⌜ r ≡ fieldsOk kind (was frame) ⌝ }
 {
     match kind {
         6 => numbers::read_u32(frame, 11) <= numbers::read_u32(frame, 15),
@@ -48,14 +49,14 @@ fn fields_ok(frame: &[u8], kind: u8) -> bool
 
 fn count_new_state(frame: &[u8]) -> u32
     requires { ⌜ (fieldsEnd 6 ≤ length (now frame)) × (num 4 11 (now frame) ≤ num 4 15 (now frame)) ⌝ }
-    ensures { λ r. ⌜ r ≡ num 4 15 (now (frame .entry)) - num 4 11 (now (frame .entry)) ⌝ }
+    ensures { λ r. ⌜ r ≡ num 4 15 (was frame) - num 4 11 (was frame) ⌝ }
 {
     numbers::read_u32(frame, 15) - numbers::read_u32(frame, 11)
 }
 
 fn count_response(frame: &[u8]) -> u32
     requires { ⌜ (fieldsEnd 11 ≤ length (now frame)) × (responseMark (now frame) ≡ 1 → stateEnd ≤ length (now frame)) ⌝ }
-    ensures { λ r. ⌜ r ≡ (if eqb (responseMark (now (frame .entry))) 1 then num 4 21 (now (frame .entry)) else 0) ⌝ }
+    ensures { λ r. ⌜ r ≡ (if eqb (responseMark (was frame)) 1 then num 4 21 (was frame) else 0) ⌝ }
 {
     if numbers::read_u8(frame, 20) == 1 {
         return numbers::read_u32(frame, 21);
@@ -65,7 +66,7 @@ fn count_response(frame: &[u8]) -> u32
 
 fn count(frame: &[u8], kind: u8) -> u32
     requires { ⌜ (roomOf kind (now frame) ≤ length (now frame)) × (fieldsOk kind (now frame) ≡ true) ⌝ }
-    ensures { λ r. ⌜ r ≡ countOf kind (now (frame .entry)) ⌝ }
+    ensures { λ r. ⌜ r ≡ countOf kind (was frame) ⌝ }
 {
     match kind {
         1 => 1,
@@ -79,7 +80,7 @@ fn count(frame: &[u8], kind: u8) -> u32
 }
 
 fn head_ok(frame: &[u8]) -> bool
-    ensures { λ r. ⌜ r ≡ headOk (now (frame .entry)) ⌝ }
+    ensures { λ r. ⌜ r ≡ headOk (was frame) ⌝ }
 {
     let n = frame.len();
     if n < 7 {
@@ -92,7 +93,7 @@ fn head_ok(frame: &[u8]) -> bool
 }
 
 fn body_ok(frame: &[u8], kind: u8) -> bool
-    ensures { λ r. ⌜ r ≡ bodyOk kind (now (frame .entry)) ⌝ }
+    ensures { λ r. ⌜ r ≡ bodyOk kind (was frame) ⌝ }
 {
     let n = frame.len();
     if !numbers::within(1, 11, kind as u64) {
@@ -117,7 +118,7 @@ fn body_ok(frame: &[u8], kind: u8) -> bool
 
 // Refusal 2 is given exactly where this is false.
 pub fn well_formed(frame: &[u8]) -> bool
-    ensures { λ r. ⌜ r ≡ wellFormed (now (frame .entry)) ⌝ }
+    ensures { λ r. ⌜ r ≡ wellFormed (was frame) ⌝ }
 {
     if !head_ok(frame) {
         return false;

@@ -5,9 +5,10 @@ ghost use lib.ListN.{length};
 ghost use Rattle.config.specs.Setup.{setupOk};
 ghost use Rattle.steps.specs.Steps.{spoke};
 ghost use Rattle.normal.specs.Tick.{Leading};
-ghost use Rattle.do_view_change.specs.Record.{recorded, Gathering};
-ghost use Rattle.book.specs.Memory.{memory};
+ghost use Rattle.do_view_change.specs.Record.{Gathering, Does};
+ghost use Rattle.book.specs.Memory.{memoryHeld};
 ghost use Rattle.handlers.specs.Handlers.{followTick, normalTick, askTick, idleStep};
+ghost use Rattle.numbers.specs.Lending.{was, last};
 use clock::Duty;
 use clock::Ticked;
 use state::Replica;
@@ -16,7 +17,7 @@ use state::Returned;
 // A backup's: it waits, and then asks for the next view. `t` is what its clock's tick gave.
 fn tick_follow(s: Replica, t: Ticked, out: &mut [u8]) -> Returned
     requires { ⌜ setupOk (s .setup) ≡ true ⌝ }
-    ensures { λ a. ⌜ spoke a (now (out .exit)) ≡ followTick s t (now (out .entry)) ⌝ }
+    ensures { λ a. ⌜ spoke a (last out) ≡ followTick s t (was out) ⌝ }
 {
     let c = t.clock;
     if t.up {
@@ -28,7 +29,7 @@ fn tick_follow(s: Replica, t: Ticked, out: &mut [u8]) -> Returned
 // In Normal.
 fn tick_normal(s: Replica, log: &[u8], out: &mut [u8]) -> Returned
     requires { ⌜ Leading s (length (now log)) ⌝ }
-    ensures { λ a. ⌜ spoke a (now (out .exit)) ≡ normalTick s (now (log .entry)) (now (out .entry)) ⌝ }
+    ensures { λ a. ⌜ spoke a (last out) ≡ normalTick s (was log) (was out) ⌝ }
 {
     if state::is_primary(s) {
         return normal::tick::tick_primary(s, log, out);
@@ -40,7 +41,7 @@ fn tick_normal(s: Replica, log: &[u8], out: &mut [u8]) -> Returned
 // In StateTransfer: GetState on each tick, before a view change too.
 fn tick_asking(s: Replica, t: Ticked, out: &mut [u8]) -> Returned
     requires { ⌜ setupOk (s .setup) ≡ true ⌝ }
-    ensures { λ a. ⌜ spoke a (now (out .exit)) ≡ askTick s t (now (out .entry)) ⌝ }
+    ensures { λ a. ⌜ spoke a (last out) ≡ askTick s t (was out) ⌝ }
 {
     let c = t.clock;
     if t.up {
@@ -60,8 +61,8 @@ pub fn on_idle(
     out: &mut [u8],
     reps: &mut [u8],
 ) -> Returned
-    requires { ⌜ Gathering s (memory (now log) (now results) (now totals) (now acks) (now stored) (now out) (now reps)) ⌝ }
-    ensures { λ a. ⌜ recorded a (memory (now (log .exit)) (now (results .exit)) (now (totals .exit)) (now (acks .exit)) (now (stored .exit)) (now (out .exit)) (now (reps .exit))) ≡ idleStep s (memory (now (log .entry)) (now (results .entry)) (now (totals .entry)) (now (acks .entry)) (now (stored .entry)) (now (out .entry)) (now (reps .entry))) ⌝ }
+    requires { ⌜ Gathering s (memoryHeld log results totals acks stored out reps) ⌝ }
+    ensures { λ a. ⌜ Does (idleStep s) a log results totals acks stored out reps ⌝ }
 {
     let status = s.status;
     if state::is_normal(status) {

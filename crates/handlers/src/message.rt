@@ -2,9 +2,10 @@
 ghost use mathlib.Core.Path.{_≡_};
 ghost use Rattle.frames.specs.Refusals.{checkFrame};
 ghost use Rattle.frames.specs.declared.Checked.the-variants.{Passed};
-ghost use Rattle.book.specs.Memory.{memory};
-ghost use Rattle.do_view_change.specs.Record.{recorded, Gathering};
+ghost use Rattle.book.specs.Memory.{memoryHeld};
+ghost use Rattle.do_view_change.specs.Record.{Gathering, Does};
 ghost use Rattle.handlers.specs.Handlers.{handled, messageStep};
+ghost use Rattle.numbers.specs.Lending.{was};
 use client_table::Latest;
 use frames::Message;
 use normal::prepare::Prepared;
@@ -26,8 +27,8 @@ fn handle(
     out: &mut [u8],
     reps: &mut [u8],
 ) -> Returned
-    requires { ⌜ Gathering s (memory (now log) (now results) (now totals) (now acks) (now stored) (now out) (now reps)) × (checkFrame (s .setup) (now frame) ≡ Passed m) ⌝ }
-    ensures { λ a. ⌜ recorded a (memory (now (log .exit)) (now (results .exit)) (now (totals .exit)) (now (acks .exit)) (now (stored .exit)) (now (out .exit)) (now (reps .exit))) ≡ handled m s latest (now (frame .entry)) (memory (now (log .entry)) (now (results .entry)) (now (totals .entry)) (now (acks .entry)) (now (stored .entry)) (now (out .entry)) (now (reps .entry))) ⌝ }
+    requires { ⌜ Gathering s (memoryHeld log results totals acks stored out reps) × (checkFrame (s .setup) (now frame) ≡ Passed m) ⌝ }
+    ensures { λ a. ⌜ Does (handled m s latest (was frame)) a log results totals acks stored out reps ⌝ }
 {
     match m {
         Message::Request { entry } => {
@@ -168,8 +169,8 @@ pub fn on_message(
     out: &mut [u8],
     reps: &mut [u8],
 ) -> Returned
-    requires { ⌜ Gathering s (memory (now log) (now results) (now totals) (now acks) (now stored) (now out) (now reps)) × (checkFrame (s .setup) (now frame) ≡ Passed m) ⌝ }
-    ensures { λ a. ⌜ recorded a (memory (now (log .exit)) (now (results .exit)) (now (totals .exit)) (now (acks .exit)) (now (stored .exit)) (now (out .exit)) (now (reps .exit))) ≡ messageStep m s latest (now (frame .entry)) (memory (now (log .entry)) (now (results .entry)) (now (totals .entry)) (now (acks .entry)) (now (stored .entry)) (now (out .entry)) (now (reps .entry))) ⌝ }
+    requires { ⌜ Gathering s (memoryHeld log results totals acks stored out reps) × (checkFrame (s .setup) (now frame) ≡ Passed m) ⌝ }
+    ensures { λ a. ⌜ Does (messageStep m s latest (was frame)) a log results totals acks stored out reps ⌝ }
 {
     let status = s.status;
     if !frames::looks(status, m) {

@@ -1,8 +1,9 @@
 // on_commit
 ghost use mathlib.Core.Path.{_≡_};
 ghost use Rattle.steps.specs.Steps.{Sound, left};
-ghost use Rattle.book.specs.Memory.{runs};
+ghost use Rattle.book.specs.Memory.{runsBefore, runsAfter, runsHeld};
 ghost use Rattle.normal.specs.Commit.{takenCommit, commitStep};
+ghost use Rattle.numbers.specs.Lending.{was, last};
 use numbers::Op;
 use numbers::View;
 use state::Replica;
@@ -17,8 +18,8 @@ fn take_commit(
     totals: &mut [u8],
     out: &mut [u8],
 ) -> Returned
-    requires { ⌜ Sound s (runs (now log) (now results) (now totals)) ⌝ }
-    ensures { λ r. ⌜ left r (runs (now (log .entry)) (now (results .exit)) (now (totals .exit))) (now (out .exit)) ≡ takenCommit s c (runs (now (log .entry)) (now (results .entry)) (now (totals .entry))) (now (out .entry)) ⌝ }
+    requires { ⌜ Sound s (runsHeld log results totals) ⌝ }
+    ensures { λ r. ⌜ left r (runsAfter log results totals) (last out) ≡ takenCommit s c (runsBefore log results totals) (was out) ⌝ }
 {
     if s.op.0 < c.0 {
         return steps::state_transfer(s, out);
@@ -37,8 +38,8 @@ pub fn on_commit(
     totals: &mut [u8],
     out: &mut [u8],
 ) -> Returned
-    requires { ⌜ Sound s (runs (now log) (now results) (now totals)) ⌝ }
-    ensures { λ r. ⌜ left r (runs (now (log .entry)) (now (results .exit)) (now (totals .exit))) (now (out .exit)) ≡ commitStep s v c (runs (now (log .entry)) (now (results .entry)) (now (totals .entry))) (now (out .entry)) ⌝ }
+    requires { ⌜ Sound s (runsHeld log results totals) ⌝ }
+    ensures { λ r. ⌜ left r (runsAfter log results totals) (last out) ≡ commitStep s v c (runsBefore log results totals) (was out) ⌝ }
 {
     let a = steps::accept_from_primary(s, v);
     if steps::takes(a) {

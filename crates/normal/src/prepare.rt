@@ -2,8 +2,9 @@
 ghost use mathlib.Core.Path.{_≡_};
 ghost use Prim.Native.Nat.{_≤_, _<_};
 ghost use Rattle.steps.specs.Steps.{Sound, left};
-ghost use Rattle.book.specs.Memory.{runs};
+ghost use Rattle.book.specs.Memory.{runsBefore, runsAfter, runsHeld};
 ghost use Rattle.normal.specs.Prepare.{lowerOf, appendVerdict, prepareVerdict, appendedBy, takenPrepare, prepareStep};
+ghost use Rattle.numbers.specs.Lending.{was, last};
 use client_table::Latest;
 use entries::Entry;
 use numbers::Op;
@@ -77,8 +78,8 @@ fn append(
     totals: &mut [u8],
     out: &mut [u8],
 ) -> Returned
-    requires { ⌜ Sound s (runs (now log) (now results) (now totals)) × (s .op .0 < s .setup .room) ⌝ }
-    ensures { λ r. ⌜ left r (runs (now (log .exit)) (now (results .exit)) (now (totals .exit))) (now (out .exit)) ≡ appendedBy s p (runs (now (log .entry)) (now (results .entry)) (now (totals .entry))) (now (out .entry)) ⌝ }
+    requires { ⌜ Sound s (runsHeld log results totals) × (s .op .0 < s .setup .room) ⌝ }
+    ensures { λ r. ⌜ left r (runsAfter log results totals) (last out) ≡ appendedBy s p (runsBefore log results totals) (was out) ⌝ }
 {
     if out.len() < 16 {
         return state::refused(9, s);
@@ -100,8 +101,8 @@ fn take_prepare(
     totals: &mut [u8],
     out: &mut [u8],
 ) -> Returned
-    requires { ⌜ Sound s (runs (now log) (now results) (now totals)) ⌝ }
-    ensures { λ r. ⌜ left r (runs (now (log .exit)) (now (results .exit)) (now (totals .exit))) (now (out .exit)) ≡ takenPrepare s p (runs (now (log .entry)) (now (results .entry)) (now (totals .entry))) (now (out .entry)) ⌝ }
+    requires { ⌜ Sound s (runsHeld log results totals) ⌝ }
+    ensures { λ r. ⌜ left r (runsAfter log results totals) (last out) ≡ takenPrepare s p (runsBefore log results totals) (was out) ⌝ }
 {
     let c = p.commit;
     let op = s.op;
@@ -126,8 +127,8 @@ pub fn on_prepare(
     totals: &mut [u8],
     out: &mut [u8],
 ) -> Returned
-    requires { ⌜ Sound s (runs (now log) (now results) (now totals)) ⌝ }
-    ensures { λ r. ⌜ left r (runs (now (log .exit)) (now (results .exit)) (now (totals .exit))) (now (out .exit)) ≡ prepareStep s v p (runs (now (log .entry)) (now (results .entry)) (now (totals .entry))) (now (out .entry)) ⌝ }
+    requires { ⌜ Sound s (runsHeld log results totals) ⌝ }
+    ensures { λ r. ⌜ left r (runsAfter log results totals) (last out) ≡ prepareStep s v p (runsBefore log results totals) (was out) ⌝ }
 {
     let a = steps::accept_from_primary(s, v);
     if steps::takes(a) {

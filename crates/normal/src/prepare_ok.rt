@@ -2,9 +2,10 @@
 ghost use mathlib.Core.Path.{_≡_};
 ghost use Prim.Native.Nat.{_-_, _*_, _≤_, _<_};
 ghost use lib.ListN.{length};
-ghost use Rattle.book.specs.Memory.{money, runs};
+ghost use Rattle.book.specs.Memory.{runsHeld, moneyBefore, moneyAfter};
 ghost use Rattle.steps.specs.Steps.{Sound};
 ghost use Rattle.normal.specs.PrepareOk.{listens, ackVerdict, counted, committedBy, prepareOkStep};
+ghost use Rattle.numbers.specs.Lending.{was, last};
 use numbers::Op;
 use numbers::View;
 use state::Replica;
@@ -70,8 +71,8 @@ fn commit_with_replies(
     acks: &mut [u8],
     reps: &mut [u8],
 ) -> Returned
-    requires { ⌜ Sound s (runs (now log) (now results) (now totals)) × ((s .commit .0 < op .0) × ((op .0 ≤ s .op .0) × ((length (now acks) ≡ s .setup .room) × (36 * (op .0 - s .commit .0) ≤ length (now reps))))) ⌝ }
-    ensures { λ r. ⌜ counted r (money (now (results .exit)) (now (totals .exit))) (now (acks .exit)) (now (reps .exit)) ≡ committedBy s op (now (log .entry)) (money (now (results .entry)) (now (totals .entry))) (now (acks .entry)) (now (reps .entry)) ⌝ }
+    requires { ⌜ Sound s (runsHeld log results totals) × ((s .commit .0 < op .0) × ((op .0 ≤ s .op .0) × ((length (now acks) ≡ s .setup .room) × (36 * (op .0 - s .commit .0) ≤ length (now reps))))) ⌝ }
+    ensures { λ r. ⌜ counted r (moneyAfter results totals) (last acks) (last reps) ≡ committedBy s op (was log) (moneyBefore results totals) (was acks) (was reps) ⌝ }
 {
     let from = s.commit.0 as usize;
     let count = (op.0 - s.commit.0) as usize;
@@ -94,8 +95,8 @@ pub fn on_prepare_ok(
     acks: &mut [u8],
     reps: &mut [u8],
 ) -> Returned
-    requires { ⌜ Sound s (runs (now log) (now results) (now totals)) × ((length (now acks) ≡ s .setup .room) × ((from < s .setup .n) × (op .0 ≤ s .setup .room))) ⌝ }
-    ensures { λ r. ⌜ counted r (money (now (results .exit)) (now (totals .exit))) (now (acks .exit)) (now (reps .exit)) ≡ prepareOkStep s v op from (now (log .entry)) (money (now (results .entry)) (now (totals .entry))) (now (acks .entry)) (now (reps .entry)) ⌝ }
+    requires { ⌜ Sound s (runsHeld log results totals) × ((length (now acks) ≡ s .setup .room) × ((from < s .setup .n) × (op .0 ≤ s .setup .room))) ⌝ }
+    ensures { λ r. ⌜ counted r (moneyAfter results totals) (last acks) (last reps) ≡ prepareOkStep s v op from (was log) (moneyBefore results totals) (was acks) (was reps) ⌝ }
 {
     if !hears(s, v, op) {
         return state::done(s, 0, 0, false);

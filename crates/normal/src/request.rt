@@ -4,6 +4,7 @@ ghost use Prim.Native.Nat.{_+_, _*_, _≤_, _<_};
 ghost use lib.ListN.{length};
 ghost use Rattle.state.specs.Lengths.{logLength};
 ghost use Rattle.normal.specs.Request.{Ready, sendsOf, knownVerdict, newVerdict, clientVerdict, requestVerdict, served, took, answered, resent, accepted, requestStep};
+ghost use Rattle.numbers.specs.Lending.{was, last};
 use client_table::Latest;
 use entries::Entry;
 use fees::Outcome;
@@ -88,7 +89,7 @@ fn weigh(s: Replica, e: Entry, latest: Latest, out: usize, reps: usize) -> Reque
 // The entry is appended, acknowledged by ourselves, and sent to all others.
 fn accept(s: Replica, e: Entry, log: &mut [u8], acks: &mut [u8], out: &mut [u8]) -> Returned
     requires { ⌜ Ready s (length (now log)) (length (now acks)) × ((s .op .0 < s .setup .room) × (sendsOf s ≤ length (now out))) ⌝ }
-    ensures { λ r. ⌜ took r (now (log .exit)) (now (acks .exit)) (now (out .exit)) ≡ accepted s e (now (log .entry)) (now (acks .entry)) (now (out .entry)) ⌝ }
+    ensures { λ r. ⌜ took r (last log) (last acks) (last out) ≡ accepted s e (was log) (was acks) (was out) ⌝ }
 {
     let i = s.op.0 as usize;
     let op = Op(s.op.0 + 1);
@@ -109,7 +110,7 @@ fn accept(s: Replica, e: Entry, log: &mut [u8], acks: &mut [u8], out: &mut [u8])
 // The reply again, with the current view.
 fn resend(s: Replica, e: Entry, o: Outcome, reps: &mut [u8]) -> Returned
     requires { ⌜ 36 ≤ length (now reps) ⌝ }
-    ensures { λ r. ⌜ answered r (now (reps .exit)) ≡ resent s e o (now (reps .entry)) ⌝ }
+    ensures { λ r. ⌜ answered r (last reps) ≡ resent s e o (was reps) ⌝ }
 {
     let v = s.view;
     let w = writers::write_reply(reps, v, e.client, e.request, o.code, o.total);
@@ -127,7 +128,7 @@ pub fn on_request(
     reps: &mut [u8],
 ) -> Returned
     requires { ⌜ Ready s (length (now log)) (length (now acks)) ⌝ }
-    ensures { λ r. ⌜ served r (now (log .exit)) (now (acks .exit)) (now (out .exit)) (now (reps .exit)) ≡ requestStep s e latest (now (log .entry)) (now (acks .entry)) (now (out .entry)) (now (reps .entry)) ⌝ }
+    ensures { λ r. ⌜ served r (last log) (last acks) (last out) (last reps) ≡ requestStep s e latest (was log) (was acks) (was out) (was reps) ⌝ }
 {
     let o = latest.reply;
     match weigh(s, e, latest, out.len(), reps.len()) {

@@ -5,6 +5,7 @@ ghost use lib.ListN.{length};
 ghost use Rattle.numbers.specs.Numbers.{Wrote};
 ghost use Rattle.steps.specs.Steps.{spoke};
 ghost use Rattle.normal.specs.Tick.{Leading, heartbeatLength, preparesLength, preparesTo, preparesOf, primaryTick, backupTick};
+ghost use Rattle.numbers.specs.Lending.{was, last};
 use clock::Clock;
 use clock::Duty;
 use frames::Message;
@@ -15,7 +16,7 @@ use state::Returned;
 // The Prepare of the op after the first i, to all others.
 fn send_prepare(s: Replica, i: u32, log: &[u8], out: &mut [u8]) -> usize
     requires { ⌜ Leading s (length (now log)) × ((i < s .op .0) × (preparesLength s 1 ≤ length (now out))) ⌝ }
-    ensures { λ k. ⌜ Wrote (preparesTo s i (now (log .entry))) (now (out .entry)) (now (out .exit)) k ⌝ }
+    ensures { λ k. ⌜ Wrote (preparesTo s i (was log)) (was out) (last out) k ⌝ }
 {
     let view = s.view;
     let commit = s.commit;
@@ -31,7 +32,7 @@ fn send_prepare(s: Replica, i: u32, log: &[u8], out: &mut [u8]) -> usize
 // The Prepares of all ops that aren't committed, in order.
 fn send_prepares(s: Replica, log: &[u8], out: &mut [u8]) -> usize
     requires { ⌜ Leading s (length (now log)) × (preparesLength s (s .op .0 - s .commit .0) ≤ length (now out)) ⌝ }
-    ensures { λ k. ⌜ Wrote (preparesOf s (now (log .entry)) (s .op .0 - s .commit .0)) (now (out .entry)) (now (out .exit)) k ⌝ }
+    ensures { λ k. ⌜ Wrote (preparesOf s (was log) (s .op .0 - s .commit .0)) (was out) (last out) k ⌝ }
 {
     let mut at = 0;
     let mut i = s.commit.0;
@@ -55,7 +56,7 @@ fn tick_len(s: Replica) -> usize
 // The heartbeat, then a Prepare for every op that isn't committed.
 pub fn tick_primary(s: Replica, log: &[u8], out: &mut [u8]) -> Returned
     requires { ⌜ Leading s (length (now log)) ⌝ }
-    ensures { λ r. ⌜ spoke r (now (out .exit)) ≡ primaryTick s (now (log .entry)) (now (out .entry)) ⌝ }
+    ensures { λ r. ⌜ spoke r (last out) ≡ primaryTick s (was log) (was out) ⌝ }
 {
     if out.len() < tick_len(s) {
         return state::refused(9, s);

@@ -3,6 +3,7 @@ ghost use mathlib.Core.Path.{_≡_};
 ghost use Prim.Native.Nat.{_+_, _≤_, _<_, _^_};
 ghost use lib.ListN.{length, take, replicate};
 ghost use Rattle.numbers.specs.Numbers.{num, big, within, over, viewAt, opAt};
+ghost use Rattle.numbers.specs.Lending.{was, last};
 
 // A view number. It is never compared with an op number: the two count unlike things.
 pub struct View(pub u32);
@@ -23,7 +24,7 @@ pub fn within(low: u64, high: u64, x: u64) -> bool
 // The k-byte number at place `at`.
 pub fn read_be(s: &[u8], at: usize, k: usize) -> u64
     requires { ⌜ (at + k ≤ length (now s)) × (k ≤ 8) ⌝ }
-    ensures { λ r. ⌜ (r ≡ num k at (now (s .entry))) × (r < 256 ^ k) ⌝ }
+    ensures { λ r. ⌜ (r ≡ num k at (was s)) × (r < 256 ^ k) ⌝ }
 {
     let mut x: u64 = 0;
     let mut i = 0;
@@ -36,42 +37,42 @@ pub fn read_be(s: &[u8], at: usize, k: usize) -> u64
 
 pub fn read_u8(s: &[u8], at: usize) -> u8
     requires { ⌜ at + 1 ≤ length (now s) ⌝ }
-    ensures { λ r. ⌜ r ≡ num 1 at (now (s .entry)) ⌝ }
+    ensures { λ r. ⌜ r ≡ num 1 at (was s) ⌝ }
 {
     read_be(s, at, 1) as u8
 }
 
 pub fn read_u16(s: &[u8], at: usize) -> u16
     requires { ⌜ at + 2 ≤ length (now s) ⌝ }
-    ensures { λ r. ⌜ r ≡ num 2 at (now (s .entry)) ⌝ }
+    ensures { λ r. ⌜ r ≡ num 2 at (was s) ⌝ }
 {
     read_be(s, at, 2) as u16
 }
 
 pub fn read_u32(s: &[u8], at: usize) -> u32
     requires { ⌜ at + 4 ≤ length (now s) ⌝ }
-    ensures { λ r. ⌜ r ≡ num 4 at (now (s .entry)) ⌝ }
+    ensures { λ r. ⌜ r ≡ num 4 at (was s) ⌝ }
 {
     read_be(s, at, 4) as u32
 }
 
 pub fn read_u64(s: &[u8], at: usize) -> u64
     requires { ⌜ at + 8 ≤ length (now s) ⌝ }
-    ensures { λ r. ⌜ r ≡ num 8 at (now (s .entry)) ⌝ }
+    ensures { λ r. ⌜ r ≡ num 8 at (was s) ⌝ }
 {
     read_be(s, at, 4) * 4294967296 + read_be(s, at + 4, 4)
 }
 
 pub fn read_view(s: &[u8], at: usize) -> View
     requires { ⌜ at + 4 ≤ length (now s) ⌝ }
-    ensures { λ r. ⌜ r ≡ viewAt at (now (s .entry)) ⌝ }
+    ensures { λ r. ⌜ r ≡ viewAt at (was s) ⌝ }
 {
     View(read_u32(s, at))
 }
 
 pub fn read_op(s: &[u8], at: usize) -> Op
     requires { ⌜ at + 4 ≤ length (now s) ⌝ }
-    ensures { λ r. ⌜ r ≡ opAt at (now (s .entry)) ⌝ }
+    ensures { λ r. ⌜ r ≡ opAt at (was s) ⌝ }
 {
     Op(read_u32(s, at))
 }
@@ -79,7 +80,7 @@ pub fn read_op(s: &[u8], at: usize) -> Op
 // The k lowest bytes of x over the front of `area`.
 pub fn write_be(area: &mut [u8], k: usize, x: u64)
     requires { ⌜ k ≤ length (now area) ⌝ }
-    ensures { λ r. ⌜ now (area .exit) ≡ over (big k x) (now (area .entry)) ⌝ }
+    ensures { λ r. ⌜ last area ≡ over (big k x) (was area) ⌝ }
 {
     let mut y = x;
     let mut i = k;
@@ -92,28 +93,28 @@ pub fn write_be(area: &mut [u8], k: usize, x: u64)
 
 pub fn write_u8(area: &mut [u8], x: u8)
     requires { ⌜ 1 ≤ length (now area) ⌝ }
-    ensures { λ r. ⌜ now (area .exit) ≡ over (big 1 x) (now (area .entry)) ⌝ }
+    ensures { λ r. ⌜ last area ≡ over (big 1 x) (was area) ⌝ }
 {
     write_be(area, 1, x as u64)
 }
 
 pub fn write_u16(area: &mut [u8], x: u16)
     requires { ⌜ 2 ≤ length (now area) ⌝ }
-    ensures { λ r. ⌜ now (area .exit) ≡ over (big 2 x) (now (area .entry)) ⌝ }
+    ensures { λ r. ⌜ last area ≡ over (big 2 x) (was area) ⌝ }
 {
     write_be(area, 2, x as u64)
 }
 
 pub fn write_u32(area: &mut [u8], x: u32)
     requires { ⌜ 4 ≤ length (now area) ⌝ }
-    ensures { λ r. ⌜ now (area .exit) ≡ over (big 4 x) (now (area .entry)) ⌝ }
+    ensures { λ r. ⌜ last area ≡ over (big 4 x) (was area) ⌝ }
 {
     write_be(area, 4, x as u64)
 }
 
 pub fn write_u64(area: &mut [u8], x: u64)
     requires { ⌜ 8 ≤ length (now area) ⌝ }
-    ensures { λ r. ⌜ now (area .exit) ≡ over (big 8 x) (now (area .entry)) ⌝ }
+    ensures { λ r. ⌜ last area ≡ over (big 8 x) (was area) ⌝ }
 {
     write_be(area, 8, x)
 }
@@ -121,7 +122,7 @@ pub fn write_u64(area: &mut [u8], x: u64)
 // The first n bytes of `src` over the front of `area`.
 pub fn copy(area: &mut [u8], src: &[u8], n: usize)
     requires { ⌜ (n ≤ length (now area)) × (n ≤ length (now src)) ⌝ }
-    ensures { λ r. ⌜ now (area .exit) ≡ over (take n (now (src .entry))) (now (area .entry)) ⌝ }
+    ensures { λ r. ⌜ last area ≡ over (take n (was src)) (was area) ⌝ }
 {
     let mut i = 0;
     while i < n {
@@ -133,7 +134,7 @@ pub fn copy(area: &mut [u8], src: &[u8], n: usize)
 // n times the byte b over the front of `area`.
 pub fn fill(area: &mut [u8], n: usize, b: u8)
     requires { ⌜ n ≤ length (now area) ⌝ }
-    ensures { λ r. ⌜ now (area .exit) ≡ over (replicate n b) (now (area .entry)) ⌝ }
+    ensures { λ r. ⌜ last area ≡ over (replicate n b) (was area) ⌝ }
 {
     let mut i = 0;
     while i < n {

@@ -8,6 +8,7 @@ ghost use Rattle.config.specs.Setup.{setupOk};
 ghost use Rattle.state.specs.Lengths.{totalsLength, acksLength};
 ghost use Rattle.outside.specs.Sound.{noReplica};
 ghost use Rattle.outside.specs.Creation.{started, createStep, recoverStep};
+ghost use Rattle.numbers.specs.Lending.{was, last};
 use crate::Lengths;
 use crate::sound;
 use clock::Clock;
@@ -40,7 +41,7 @@ pub fn no_replica() -> Replica
 // Totals and acks are zeroed.
 fn empty(u: Setup, totals: &mut [u8], acks: &mut [u8])
     requires { ⌜ (setupOk u ≡ true) × ((length (now totals) ≡ totalsLength u) × (length (now acks) ≡ acksLength u)) ⌝ }
-    ensures { λ r. ⌜ (now (totals .exit) ≡ over (replicate (totalsLength u) 0) (now (totals .entry))) × (now (acks .exit) ≡ over (replicate (acksLength u) 0) (now (acks .entry))) ⌝ }
+    ensures { λ r. ⌜ (last totals ≡ over (replicate (totalsLength u) 0) (was totals)) × (last acks ≡ over (replicate (acksLength u) 0) (was acks)) ⌝ }
 {
     numbers::fill(totals, 8 * (u.members as usize), 0);
     numbers::fill(acks, u.room as usize, 0);
@@ -49,7 +50,7 @@ fn empty(u: Setup, totals: &mut [u8], acks: &mut [u8])
 // new: in Normal, in view 0, with an empty log. Refusal 1.
 pub fn create(u: Setup, l: Lengths, totals: &mut [u8], acks: &mut [u8]) -> Returned
     requires { ⌜ (l .totals ≡ length (now totals)) × (l .acks ≡ length (now acks)) ⌝ }
-    ensures { λ a. ⌜ started a (now (totals .exit)) (now (acks .exit)) [] ≡ createStep u l (now (totals .entry)) (now (acks .entry)) [] ⌝ }
+    ensures { λ a. ⌜ started a (last totals) (last acks) [] ≡ createStep u l (was totals) (was acks) [] ⌝ }
 {
     if !sound::is_creatable(u, l) {
         return state::refused(1, no_replica());
@@ -69,7 +70,7 @@ pub fn recover(
     out: &mut [u8],
 ) -> Returned
     requires { ⌜ (l .totals ≡ length (now totals)) × (l .acks ≡ length (now acks)) ⌝ }
-    ensures { λ a. ⌜ started a (now (totals .exit)) (now (acks .exit)) (now (out .exit)) ≡ recoverStep u v nonce l (now (totals .entry)) (now (acks .entry)) (now (out .entry)) ⌝ }
+    ensures { λ a. ⌜ started a (last totals) (last acks) (last out) ≡ recoverStep u v nonce l (was totals) (was acks) (was out) ⌝ }
 {
     if !sound::is_creatable(u, l) {
         return state::refused(1, no_replica());

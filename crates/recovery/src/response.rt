@@ -4,8 +4,9 @@ ghost use Prim.Native.Nat.{_≤_};
 ghost use lib.ListN.{length};
 ghost use Rattle.reports.specs.Judge.{Lies};
 ghost use Rattle.steps.specs.Steps.{Sound};
-ghost use Rattle.book.specs.Memory.{runs};
+ghost use Rattle.book.specs.Memory.{runsBefore, runsAfter, runsHeld};
 ghost use Rattle.recovery.specs.Recovery.{responseOf, Collecting, ResponsePassed, collected, recoveredBy, collectedBy, responseStep};
+ghost use Rattle.numbers.specs.Lending.{was, last};
 use frames::RecoveryState;
 use numbers::Op;
 use numbers::View;
@@ -49,8 +50,8 @@ fn come_back<'a>(
     totals: &mut [u8],
     stored: &'a [u8],
 ) -> Returned
-    requires { ⌜ Sound s (runs (now log) (now results) (now totals)) × (Lies b r (s .setup .room) (now stored) (now fresh) × ((s .commit .0 ≤ b .report .op .0) × (g .0 ≤ b .report .op .0))) ⌝ }
-    ensures { λ a. ⌜ collected a (runs (now (log .exit)) (now (results .exit)) (now (totals .exit))) (now (stored .entry)) ≡ recoveredBy s b g r (now (fresh .entry)) (runs (now (log .entry)) (now (results .entry)) (now (totals .entry))) (now (stored .entry)) ⌝ }
+    requires { ⌜ Sound s (runsHeld log results totals) × (Lies b r (s .setup .room) (now stored) (now fresh) × ((s .commit .0 ≤ b .report .op .0) × (g .0 ≤ b .report .op .0))) ⌝ }
+    ensures { λ a. ⌜ collected a (runsAfter log results totals) (was stored) ≡ recoveredBy s b g r (was fresh) (runsBefore log results totals) (was stored) ⌝ }
 {
     let v = b.report.view;
     let o = b.report.op;
@@ -72,8 +73,8 @@ fn collect(
     totals: &mut [u8],
     stored: &mut [u8],
 ) -> Returned
-    requires { ⌜ Collecting s (runs (now log) (now results) (now totals)) (length (now stored)) × ResponsePassed s r d (length (now fresh)) ⌝ }
-    ensures { λ a. ⌜ collected a (runs (now (log .exit)) (now (results .exit)) (now (totals .exit))) (now (stored .exit)) ≡ collectedBy s r d (now (fresh .entry)) (runs (now (log .entry)) (now (results .entry)) (now (totals .entry))) (now (stored .entry)) ⌝ }
+    requires { ⌜ Collecting s (runsHeld log results totals) (length (now stored)) × ResponsePassed s r d (length (now fresh)) ⌝ }
+    ensures { λ a. ⌜ collected a (runsAfter log results totals) (last stored) ≡ collectedBy s r d (was fresh) (runsBefore log results totals) (was stored) ⌝ }
 {
     let n = s.setup.n;
     let room = s.setup.room;
@@ -107,8 +108,8 @@ pub fn on_recovery_response(
     totals: &mut [u8],
     stored: &mut [u8],
 ) -> Returned
-    requires { ⌜ Collecting s (runs (now log) (now results) (now totals)) (length (now stored)) × ResponsePassed s r (responseOf v state) (length (now part)) ⌝ }
-    ensures { λ a. ⌜ collected a (runs (now (log .exit)) (now (results .exit)) (now (totals .exit))) (now (stored .exit)) ≡ responseStep s v x r state (now (part .entry)) (runs (now (log .entry)) (now (results .entry)) (now (totals .entry))) (now (stored .entry)) ⌝ }
+    requires { ⌜ Collecting s (runsHeld log results totals) (length (now stored)) × ResponsePassed s r (responseOf v state) (length (now part)) ⌝ }
+    ensures { λ a. ⌜ collected a (runsAfter log results totals) (last stored) ≡ responseStep s v x r state (was part) (runsBefore log results totals) (was stored) ⌝ }
 {
     if x != s.nonce {
         return state::done(s, 0, 0, false);

@@ -9,11 +9,12 @@ ghost use Rattle.client_table_bytes.specs.Layout.{rowsOf};
 ghost use Rattle.client_table_bytes.specs.Steps.{foundIn, latestOf, AppendsFor};
 ghost use Rattle.state.specs.Lengths.{tableLength};
 ghost use Rattle.do_view_change.specs.Record.{Gathering};
-ghost use Rattle.book.specs.Memory.{memory};
+ghost use Rattle.book.specs.Memory.{memoryHeld};
 ghost use Rattle.outside.specs.Calls.{nobody, changeBy};
 ghost use Rattle.replica.specs.Calls.{KnownFor, Following, tabled, followedBy, checkedCall};
-ghost use Rattle.replica.specs.Lent.{lent, called};
+ghost use Rattle.replica.specs.Lent.{called, Keeps, lentBefore, lentAfter};
 ghost use Rattle.replica.specs.Promise.{MessagePromise, IdlePromise};
+ghost use Rattle.numbers.specs.Lending.{was, last};
 use client_table::Latest;
 use client_table_bytes::Found;
 use client_table_bytes::MarkedRow;
@@ -54,7 +55,7 @@ fn nothing() -> Known
 // Of a client, among the first n rows.
 fn known_of(client: u64, n: u32, table: &[u8]) -> Known
     requires { ⌜ 25 * n ≤ length (now table) ⌝ }
-    ensures { λ r. ⌜ (r .carries ≡ true) × ((r .found ≡ foundIn (rowsOf n (now (table .entry))) client) × (r .latest ≡ latestOf (foundIn (rowsOf n (now (table .entry))) client))) ⌝ }
+    ensures { λ r. ⌜ (r .carries ≡ true) × ((r .found ≡ foundIn (rowsOf n (was table)) client) × (r .latest ≡ latestOf (foundIn (rowsOf n (was table)) client))) ⌝ }
 {
     let f = client_table_bytes::find(table, n as usize, client);
     Known {
@@ -66,7 +67,7 @@ fn known_of(client: u64, n: u32, table: &[u8]) -> Known
 
 fn known_for(m: Message, n: u32, table: &[u8]) -> Known
     requires { ⌜ 25 * n ≤ length (now table) ⌝ }
-    ensures { λ r. ⌜ KnownFor m n (now (table .entry)) r ⌝ }
+    ensures { λ r. ⌜ KnownFor m n (was table) r ⌝ }
 {
     let c = outside::call::carried_by(m);
     if c.carries {
@@ -85,7 +86,7 @@ fn follow(
     old: &mut [u8],
 ) -> Returned
     requires { ⌜ Following s a (length (now log)) (length (now results)) (length (now table)) (length (now old)) ⌝ }
-    ensures { λ r. ⌜ tabled r (now (table .exit)) (now (old .exit)) ≡ followedBy s a (now (log .entry)) (now (results .entry)) (now (table .entry)) (now (old .entry)) ⌝ }
+    ensures { λ r. ⌜ tabled r (last table) (last old) ≡ followedBy s a (was log) (was results) (was table) (was old) ⌝ }
 {
     if a.code != 0 {
         return a;
@@ -106,7 +107,7 @@ fn follow_found(
     old: &[u8],
 ) -> Returned
     requires { ⌜ Following s a (length (now log)) (length (now results)) (length (now table)) (length (now old)) × (a .code ≡ 0 → AppendsFor (s .setup .room) (changeBy s a) f (now table) (now log)) ⌝ }
-    ensures { λ r. ⌜ tabled r (now (table .exit)) (now (old .entry)) ≡ followedBy s a (now (log .entry)) (now (results .entry)) (now (table .entry)) (now (old .entry)) ⌝ }
+    ensures { λ r. ⌜ tabled r (last table) (was old) ≡ followedBy s a (was log) (was results) (was table) (was old) ⌝ }
 {
     if a.code != 0 {
         return a;
@@ -131,8 +132,8 @@ fn take(
     out: &mut [u8],
     reps: &mut [u8],
 ) -> Returned
-    requires { ⌜ Gathering s (memory (now log) (now results) (now totals) (now acks) (now stored) (now out) (now reps)) × ((checkFrame (s .setup) (now frame) ≡ Passed m) × ((length (now table) ≡ tableLength (s .setup)) × (length (now old) ≡ tableLength (s .setup)))) ⌝ }
-    ensures { λ a. ⌜ called a (lent (now (log .exit)) (now (results .exit)) (now (totals .exit)) (now (acks .exit)) (now (stored .exit)) (now (table .exit)) (now (old .exit)) (now (out .exit)) (now (reps .exit))) ≡ checkedCall (Passed m) s (now (frame .entry)) (lent (now (log .entry)) (now (results .entry)) (now (totals .entry)) (now (acks .entry)) (now (stored .entry)) (now (table .entry)) (now (old .entry)) (now (out .entry)) (now (reps .entry))) ⌝ }
+    requires { ⌜ Gathering s (memoryHeld log results totals acks stored out reps) × ((checkFrame (s .setup) (now frame) ≡ Passed m) × ((length (now table) ≡ tableLength (s .setup)) × (length (now old) ≡ tableLength (s .setup)))) ⌝ }
+    ensures { λ a. ⌜ called a (lentAfter log results totals acks stored table old out reps) ≡ checkedCall (Passed m) s (was frame) (lentBefore log results totals acks stored table old out reps) ⌝ }
 {
     let k = known_for(m, s.setup.room, table);
     let latest = k.latest;
@@ -169,7 +170,7 @@ pub fn on_message(
     out: &mut [u8],
     reps: &mut [u8],
 ) -> Returned
-    ensures { λ a. ⌜ MessagePromise s (now (frame .entry)) (lent (now (log .entry)) (now (results .entry)) (now (totals .entry)) (now (acks .entry)) (now (stored .entry)) (now (table .entry)) (now (old .entry)) (now (out .entry)) (now (reps .entry))) (called a (lent (now (log .exit)) (now (results .exit)) (now (totals .exit)) (now (acks .exit)) (now (stored .exit)) (now (table .exit)) (now (old .exit)) (now (out .exit)) (now (reps .exit)))) ⌝ }
+    ensures { λ a. ⌜ Keeps (MessagePromise s (was frame)) a log results totals acks stored table old out reps ⌝ }
 {
     let l = Lengths {
         log: log.len(),
@@ -212,7 +213,7 @@ pub fn on_idle(
     out: &mut [u8],
     reps: &mut [u8],
 ) -> Returned
-    ensures { λ a. ⌜ IdlePromise s (lent (now (log .entry)) (now (results .entry)) (now (totals .entry)) (now (acks .entry)) (now (stored .entry)) (now (table .entry)) (now (old .entry)) (now (out .entry)) (now (reps .entry))) (called a (lent (now (log .exit)) (now (results .exit)) (now (totals .exit)) (now (acks .exit)) (now (stored .exit)) (now (table .exit)) (now (old .exit)) (now (out .exit)) (now (reps .exit)))) ⌝ }
+    ensures { λ a. ⌜ Keeps (IdlePromise s) a log results totals acks stored table old out reps ⌝ }
 {
     let l = Lengths {
         log: log.len(),

@@ -1,7 +1,8 @@
 // Creation: `new`, and `recover` for a replica that is back from a crash; the client table is zeroed where it wasn't refused.
 ghost use mathlib.Core.List.{[]};
-ghost use Rattle.replica.specs.Lent.{lent, called};
+ghost use Rattle.replica.specs.Lent.{Keeps};
 ghost use Rattle.replica.specs.Promise.{CreatePromise, RecoverPromise};
+ghost use Rattle.book.specs.Memory.{unlent};
 use config::Setup;
 use numbers::View;
 use outside::Lengths;
@@ -18,7 +19,7 @@ pub fn create(
     table: &mut [u8],
     old: &[u8],
 ) -> Returned
-    ensures { λ a. ⌜ CreatePromise u (lent (now (log .entry)) (now (results .entry)) (now (totals .entry)) (now (acks .entry)) (now (stored .entry)) (now (table .entry)) (now (old .entry)) [] []) (called a (lent (now (log .entry)) (now (results .entry)) (now (totals .exit)) (now (acks .exit)) (now (stored .entry)) (now (table .exit)) (now (old .entry)) [] [])) ⌝ }
+    ensures { λ a. ⌜ Keeps (CreatePromise u) a log results totals acks stored table old unlent unlent ⌝ }
 {
     let l = Lengths {
         log: log.len(),
@@ -51,7 +52,7 @@ pub fn recover(
     old: &[u8],
     out: &mut [u8],
 ) -> Returned
-    ensures { λ a. ⌜ RecoverPromise u v nonce (lent (now (log .entry)) (now (results .entry)) (now (totals .entry)) (now (acks .entry)) (now (stored .entry)) (now (table .entry)) (now (old .entry)) (now (out .entry)) []) (called a (lent (now (log .entry)) (now (results .entry)) (now (totals .exit)) (now (acks .exit)) (now (stored .entry)) (now (table .exit)) (now (old .entry)) (now (out .exit)) [])) ⌝ }
+    ensures { λ a. ⌜ Keeps (RecoverPromise u v nonce) a log results totals acks stored table old out unlent ⌝ }
 {
     let l = Lengths {
         log: log.len(),

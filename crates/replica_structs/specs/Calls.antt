@@ -15,10 +15,11 @@ use Rattle.client_table_structs.specs.Shape.{unusedRow, structRow, latestAmong,
 use Rattle.client_table_structs.specs.declared.Row.{Row}
 use Rattle.state.specs.declared.Returned.{Returned}
 use Rattle.state.specs.declared.Replica.{Replica}
-use Rattle.book.specs.Memory.{Memory, memory}
+use Rattle.book.specs.Memory.{Memory, memory, Run}
 use Rattle.do_view_change.specs.Record.{Recorded}
 use Rattle.outside.specs.Calls.{checkedOf}
 use Rattle.replica_structs.specs.Core.{lengthsIn, clientIn, checkedCore, idleCore, createCore, recoverCore, changeAfter}
+use Rattle.numbers.specs.Lending.{Lending, was, last}
 
 -- everything that a call is lent
 pub record LentRows : Type 0 where
@@ -30,6 +31,15 @@ abbrev pub lentRows : (log results totals acks stored : List ℕ) (table old : L
 lentRows log results totals acks stored table old out reps =
     record { core = memory log results totals acks stored out reps; table = table; old = old }
 
+-- of the runs as an `ensures` sees them: when the call begins, and as it leaves them
+abbrev pub lentRowsBefore : (log results totals acks stored : Run) (table old : Lending (List Row)) (out reps : Run) → LentRows
+lentRowsBefore log results totals acks stored table old out reps =
+    lentRows (was log) (was results) (was totals) (was acks) (was stored) (was table) (was old) (was out) (was reps)
+
+abbrev pub lentRowsAfter : (log results totals acks stored : Run) (table old : Lending (List Row)) (out reps : Run) → LentRows
+lentRowsAfter log results totals acks stored table old out reps =
+    lentRows (last log) (last results) (last totals) (last acks) (last stored) (last table) (last old) (last out) (last reps)
+
 -- what a call leaves
 pub record CalledRows : Type 0 where
   pub answer : Returned
@@ -37,6 +47,12 @@ pub record CalledRows : Type 0 where
 
 abbrev pub calledRows : Returned → LentRows → CalledRows
 calledRows a x = record { answer = a; lent = x }
+
+-- a call that answers a, on these runs, keeps a promise
+abbrev pub KeepsRows : (promise : LentRows → CalledRows → Type 0) → Returned → (log results totals acks stored : Run) (table old : Lending (List Row)) (out reps : Run) → Type 0
+KeepsRows promise a log results totals acks stored table old out reps =
+    promise (lentRowsBefore log results totals acks stored table old out reps)
+    (calledRows a (lentRowsAfter log results totals acks stored table old out reps))
 
 -- the rows after a change, by the log and the results that the call left
 unfoldable pub rowsAfter : Change → List Row → Memory → List Row

@@ -1,10 +1,11 @@
 // The outside calls but for the client table, of which they are told its length and a client's latest request.
 ghost use mathlib.Core.Path.{_≡_};
 ghost use mathlib.Core.List.{[]};
-ghost use Rattle.book.specs.Memory.{memory};
-ghost use Rattle.do_view_change.specs.Record.{recorded};
+ghost use Rattle.book.specs.Memory.{memoryHeld, unlent};
+ghost use Rattle.do_view_change.specs.Record.{Does};
 ghost use Rattle.outside.specs.Calls.{checkedOf};
 ghost use Rattle.replica_structs.specs.Core.{lengthsBy, clientIn, Passes, checkedCore, idleCore, createCore, recoverCore, changeAfter, rowBytes};
+ghost use Rattle.numbers.specs.Lending.{was};
 use client_table::Change;
 use client_table::Latest;
 use config::Setup;
@@ -37,7 +38,7 @@ pub fn checked(
     old: usize,
     frame: &[u8],
 ) -> Checked
-    ensures { λ r. ⌜ r ≡ checkedOf s (lengthsBy log results totals acks stored rows old) (now (frame .entry)) ⌝ }
+    ensures { λ r. ⌜ r ≡ checkedOf s (lengthsBy log results totals acks stored rows old) (was frame) ⌝ }
 {
     let l = Lengths {
         log,
@@ -75,8 +76,8 @@ pub fn on_message(
     out: &mut [u8],
     reps: &mut [u8],
 ) -> Returned
-    requires { ⌜ Passes c s (now frame) (memory (now log) (now results) (now totals) (now acks) (now stored) (now out) (now reps)) ⌝ }
-    ensures { λ a. ⌜ recorded a (memory (now (log .exit)) (now (results .exit)) (now (totals .exit)) (now (acks .exit)) (now (stored .exit)) (now (out .exit)) (now (reps .exit))) ≡ checkedCore c s latest (now (frame .entry)) (memory (now (log .entry)) (now (results .entry)) (now (totals .entry)) (now (acks .entry)) (now (stored .entry)) (now (out .entry)) (now (reps .entry))) ⌝ }
+    requires { ⌜ Passes c s (now frame) (memoryHeld log results totals acks stored out reps) ⌝ }
+    ensures { λ a. ⌜ Does (checkedCore c s latest (was frame)) a log results totals acks stored out reps ⌝ }
 {
     match c {
         Checked::Refused { number } => state::refused(number, s),
@@ -109,7 +110,7 @@ pub fn on_idle(
     out: &mut [u8],
     reps: &mut [u8],
 ) -> Returned
-    ensures { λ a. ⌜ recorded a (memory (now (log .exit)) (now (results .exit)) (now (totals .exit)) (now (acks .exit)) (now (stored .exit)) (now (out .exit)) (now (reps .exit))) ≡ idleCore s rows old (memory (now (log .entry)) (now (results .entry)) (now (totals .entry)) (now (acks .entry)) (now (stored .entry)) (now (out .entry)) (now (reps .entry))) ⌝ }
+    ensures { λ a. ⌜ Does (idleCore s rows old) a log results totals acks stored out reps ⌝ }
 {
     let l = Lengths {
         log: log.len(),
@@ -137,7 +138,7 @@ pub fn create(
     acks: &mut [u8],
     stored: &[u8],
 ) -> Returned
-    ensures { λ a. ⌜ recorded a (memory (now (log .entry)) (now (results .entry)) (now (totals .exit)) (now (acks .exit)) (now (stored .entry)) [] []) ≡ createCore u rows old (memory (now (log .entry)) (now (results .entry)) (now (totals .entry)) (now (acks .entry)) (now (stored .entry)) [] []) ⌝ }
+    ensures { λ a. ⌜ Does (createCore u rows old) a log results totals acks stored unlent unlent ⌝ }
 {
     let l = Lengths {
         log: log.len(),
@@ -165,7 +166,7 @@ pub fn recover(
     stored: &[u8],
     out: &mut [u8],
 ) -> Returned
-    ensures { λ a. ⌜ recorded a (memory (now (log .entry)) (now (results .entry)) (now (totals .exit)) (now (acks .exit)) (now (stored .entry)) (now (out .exit)) []) ≡ recoverCore u v nonce rows old (memory (now (log .entry)) (now (results .entry)) (now (totals .entry)) (now (acks .entry)) (now (stored .entry)) (now (out .entry)) []) ⌝ }
+    ensures { λ a. ⌜ Does (recoverCore u v nonce rows old) a log results totals acks stored out unlent ⌝ }
 {
     let l = Lengths {
         log: log.len(),

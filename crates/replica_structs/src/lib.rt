@@ -2,8 +2,10 @@
 // refusals 1 to 6, the row that the core asks for, the core, and the table brought up to what it did.
 ghost use mathlib.Core.Path.{_≡_};
 ghost use mathlib.Core.List.{[]};
-ghost use Rattle.replica_structs.specs.Calls.{lentRows, calledRows};
+ghost use Rattle.replica_structs.specs.Calls.{KeepsRows};
 ghost use Rattle.replica_structs.specs.Promise.{MessageRowsPromise, IdleRowsPromise, CreateRowsPromise, RecoverRowsPromise};
+ghost use Rattle.numbers.specs.Lending.{was};
+ghost use Rattle.book.specs.Memory.{unlent};
 use client_table_structs::Row;
 use config::Setup;
 use numbers::View;
@@ -23,7 +25,7 @@ pub fn create(
     table: &mut [Row],
     old: &[Row],
 ) -> Returned
-    ensures { λ a. ⌜ CreateRowsPromise u (lentRows (now (log .entry)) (now (results .entry)) (now (totals .entry)) (now (acks .entry)) (now (stored .entry)) (now (table .entry)) (now (old .entry)) [] []) (calledRows a (lentRows (now (log .entry)) (now (results .entry)) (now (totals .exit)) (now (acks .exit)) (now (stored .entry)) (now (table .exit)) (now (old .entry)) [] [])) ⌝ }
+    ensures { λ a. ⌜ KeepsRows (CreateRowsPromise u) a log results totals acks stored table old unlent unlent ⌝ }
 {
     let a = core::create(
         u,
@@ -56,7 +58,7 @@ pub fn recover(
     old: &[Row],
     out: &mut [u8],
 ) -> Returned
-    ensures { λ a. ⌜ RecoverRowsPromise u v nonce (lentRows (now (log .entry)) (now (results .entry)) (now (totals .entry)) (now (acks .entry)) (now (stored .entry)) (now (table .entry)) (now (old .entry)) (now (out .entry)) []) (calledRows a (lentRows (now (log .entry)) (now (results .entry)) (now (totals .exit)) (now (acks .exit)) (now (stored .entry)) (now (table .exit)) (now (old .entry)) (now (out .exit)) [])) ⌝ }
+    ensures { λ a. ⌜ KeepsRows (RecoverRowsPromise u v nonce) a log results totals acks stored table old out unlent ⌝ }
 {
     let a = core::recover(
         u,
@@ -92,7 +94,7 @@ pub fn on_message(
     out: &mut [u8],
     reps: &mut [u8],
 ) -> Returned
-    ensures { λ a. ⌜ MessageRowsPromise s (now (frame .entry)) (lentRows (now (log .entry)) (now (results .entry)) (now (totals .entry)) (now (acks .entry)) (now (stored .entry)) (now (table .entry)) (now (old .entry)) (now (out .entry)) (now (reps .entry))) (calledRows a (lentRows (now (log .exit)) (now (results .exit)) (now (totals .exit)) (now (acks .exit)) (now (stored .exit)) (now (table .exit)) (now (old .exit)) (now (out .exit)) (now (reps .exit)))) ⌝ }
+    ensures { λ a. ⌜ KeepsRows (MessageRowsPromise s (was frame)) a log results totals acks stored table old out reps ⌝ }
 {
     let c = core::checked(
         s,
@@ -136,7 +138,7 @@ pub fn on_idle(
     out: &mut [u8],
     reps: &mut [u8],
 ) -> Returned
-    ensures { λ a. ⌜ IdleRowsPromise s (lentRows (now (log .entry)) (now (results .entry)) (now (totals .entry)) (now (acks .entry)) (now (stored .entry)) (now (table .entry)) (now (old .entry)) (now (out .entry)) (now (reps .entry))) (calledRows a (lentRows (now (log .exit)) (now (results .exit)) (now (totals .exit)) (now (acks .exit)) (now (stored .exit)) (now (table .exit)) (now (old .exit)) (now (out .exit)) (now (reps .exit)))) ⌝ }
+    ensures { λ a. ⌜ KeepsRows (IdleRowsPromise s) a log results totals acks stored table old out reps ⌝ }
 {
     let a = core::on_idle(
         s,

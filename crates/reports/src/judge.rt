@@ -6,6 +6,7 @@ ghost use Prim.Native.Nat.{_+_, _*_, _≤_};
 ghost use lib.ListN.{length};
 ghost use Rattle.state.specs.Lengths.{storedPlace};
 ghost use Rattle.reports.specs.Judge.{logFrom, chosenLog, weighed, judged, answeredByPrimary, responded, Lies, Fits};
+ghost use Rattle.numbers.specs.Lending.{was};
 use crate::Best;
 use crate::Judged;
 use crate::rows;
@@ -24,7 +25,7 @@ pub fn place(room: u32, id: u8) -> usize
 // The first k bytes of `fresh`, or k bytes of `stored` from a place on: lent, not copied.
 fn log_of<'a>(stored: &'a [u8], fresh: &'a [u8], new: bool, at: usize, k: usize) -> &'a [u8]
     requires { ⌜ (new ≡ true → k ≤ length (now fresh)) × (new ≡ false → at + k ≤ length (now stored)) ⌝ }
-    ensures { λ r. ⌜ now r ≡ logFrom new at k (now (stored .entry)) (now (fresh .entry)) ⌝ }
+    ensures { λ r. ⌜ now r ≡ logFrom new at k (was stored) (was fresh) ⌝ }
 {
     if new {
         return &fresh[..k];
@@ -36,7 +37,7 @@ fn log_of<'a>(stored: &'a [u8], fresh: &'a [u8], new: bool, at: usize, k: usize)
 // The log of a report, where it lies.
 pub fn chosen_log<'a>(b: Best, id: u8, room: u32, stored: &'a [u8], fresh: &'a [u8]) -> &'a [u8]
     requires { ⌜ Lies b id room (now stored) (now fresh) ⌝ }
-    ensures { λ r. ⌜ now r ≡ chosenLog b id room (now (stored .entry)) (now (fresh .entry)) ⌝ }
+    ensures { λ r. ⌜ now r ≡ chosenLog b id room (was stored) (was fresh) ⌝ }
 {
     let from = b.id;
     let k = 32 * (b.report.op.0 as usize);
@@ -56,7 +57,7 @@ pub fn weigh<'a>(
     fresh: &'a [u8],
 ) -> Judged
     requires { ⌜ (Lies b id room (now stored) (now fresh)) × (32 * c .0 ≤ length (now ours)) ⌝ }
-    ensures { λ r. ⌜ r ≡ weighed b g id room (c .0) (now (ours .entry)) (now (stored .entry)) (now (fresh .entry)) ⌝ }
+    ensures { λ r. ⌜ r ≡ weighed b g id room (c .0) (was ours) (was stored) (was fresh) ⌝ }
 {
     if b.report.op.0 < g.0 {
         return Judged::Refuse;
@@ -84,7 +85,7 @@ pub fn judge<'a>(
     fresh: &'a [u8],
 ) -> Judged
     requires { ⌜ (Fits t n id room (now stored) (now fresh)) × (32 * c .0 ≤ length (now ours)) ⌝ }
-    ensures { λ r. ⌜ r ≡ judged t n id room (c .0) (now (ours .entry)) (now (stored .entry)) (now (fresh .entry)) ⌝ }
+    ensures { λ r. ⌜ r ≡ judged t n id room (c .0) (was ours) (was stored) (was fresh) ⌝ }
 {
     if rows::filled(t, n) < config::quorum(n) {
         return Judged::Wait;
@@ -106,7 +107,7 @@ fn judge_primary<'a>(
     fresh: &'a [u8],
 ) -> Judged
     requires { ⌜ (b .report .there ≡ true → Lies b id room (now stored) (now fresh)) × (32 * c .0 ≤ length (now ours)) ⌝ }
-    ensures { λ r. ⌜ r ≡ answeredByPrimary b (v .0) id room (c .0) (now (ours .entry)) (now (stored .entry)) (now (fresh .entry)) ⌝ }
+    ensures { λ r. ⌜ r ≡ answeredByPrimary b (v .0) id room (c .0) (was ours) (was stored) (was fresh) ⌝ }
 {
     if !b.report.there {
         return Judged::Wait;
@@ -134,7 +135,7 @@ pub fn judge_response<'a>(
     fresh: &'a [u8],
 ) -> Judged
     requires { ⌜ (Fits t n id room (now stored) (now fresh)) × (32 * c .0 ≤ length (now ours)) ⌝ }
-    ensures { λ r. ⌜ r ≡ responded t n id room (view .0) (c .0) (now (ours .entry)) (now (stored .entry)) (now (fresh .entry)) ⌝ }
+    ensures { λ r. ⌜ r ≡ responded t n id room (view .0) (c .0) (was ours) (was stored) (was fresh) ⌝ }
 {
     if rows::filled(t, n) < config::quorum(n) {
         return Judged::Wait;

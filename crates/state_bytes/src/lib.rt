@@ -5,6 +5,7 @@ ghost use Prim.Native.Nat.{_≤_};
 ghost use lib.ListN.{length};
 ghost use Rattle.numbers.specs.Numbers.{over};
 ghost use Rattle.state_bytes.specs.Layout.{stateOf, encodePlace, encodeVotes, Onward, Clocked, stateOk, HoldsState};
+ghost use Rattle.numbers.specs.Lending.{was, last};
 use state::Replica;
 
 mod part; // setup, clock, reports
@@ -13,7 +14,7 @@ mod flag; // flags and the status
 // The state that the run holds.
 pub fn read_state(run: &[u8]) -> Replica
     requires { ⌜ 146 ≤ length (now run) ⌝ }
-    ensures { λ r. ⌜ r ≡ stateOf (now (run .entry)) ⌝ }
+    ensures { λ r. ⌜ r ≡ stateOf (was run) ⌝ }
 {
     Replica {
         setup: part::setup_at(run, 0),
@@ -34,7 +35,7 @@ pub fn read_state(run: &[u8]) -> Replica
 // Where the replica stands: 18 bytes.
 fn write_place(area: &mut [u8], s: Replica)
     requires { ⌜ 18 ≤ length (now area) ⌝ }
-    ensures { λ r. ⌜ now (area .exit) ≡ over (encodePlace s) (now (area .entry)) ⌝ }
+    ensures { λ r. ⌜ last area ≡ over (encodePlace s) (was area) ⌝ }
 {
     let status = s.status;
     numbers::write_u8(area, flag::status_number(status));
@@ -48,7 +49,7 @@ fn write_place(area: &mut [u8], s: Replica)
 // What a view change or a recovery has gathered, but for the reports: 10 bytes.
 fn write_votes(area: &mut [u8], s: Replica)
     requires { ⌜ 10 ≤ length (now area) ⌝ }
-    ensures { λ r. ⌜ now (area .exit) ≡ over (encodeVotes s) (now (area .entry)) ⌝ }
+    ensures { λ r. ⌜ last area ≡ over (encodeVotes s) (was area) ⌝ }
 {
     numbers::write_u8(area, s.starts);
     flag::write_flag(&mut area[1..], s.sent);
@@ -58,7 +59,7 @@ fn write_votes(area: &mut [u8], s: Replica)
 // The run holds the state.
 pub fn write_state(run: &mut [u8], s: Replica)
     requires { ⌜ length (now run) ≡ 146 ⌝ }
-    ensures { λ r. ⌜ HoldsState s (now (run .exit)) ⌝ }
+    ensures { λ r. ⌜ HoldsState s (last run) ⌝ }
 {
     let setup = s.setup;
     part::write_setup(run, setup);
@@ -73,7 +74,7 @@ pub fn write_state(run: &mut [u8], s: Replica)
 // The run goes from the state that it holds to one that is further on in the same view: 19 bytes.
 pub fn write_onward(run: &mut [u8], s: Replica)
     requires { ⌜ (stateOk (now run) ≡ true) × Onward (stateOf (now run)) s ⌝ }
-    ensures { λ r. ⌜ HoldsState s (now (run .exit)) ⌝ }
+    ensures { λ r. ⌜ HoldsState s (last run) ⌝ }
 {
     write_place(&mut run[12..], s);
     let clock = s.clock;
@@ -83,7 +84,7 @@ pub fn write_onward(run: &mut [u8], s: Replica)
 // The same where only the clock is another: 8 bytes.
 pub fn write_clocked(run: &mut [u8], s: Replica)
     requires { ⌜ (stateOk (now run) ≡ true) × Clocked (stateOf (now run)) s ⌝ }
-    ensures { λ r. ⌜ HoldsState s (now (run .exit)) ⌝ }
+    ensures { λ r. ⌜ HoldsState s (last run) ⌝ }
 {
     let clock = s.clock;
     part::write_clock(&mut run[30..], clock);
@@ -91,7 +92,7 @@ pub fn write_clocked(run: &mut [u8], s: Replica)
 
 // Whether the run is one that holds a state: its length, and no byte without meaning.
 pub fn state_ok(run: &[u8]) -> bool
-    ensures { λ r. ⌜ r ≡ stateOk (now (run .entry)) ⌝ }
+    ensures { λ r. ⌜ r ≡ stateOk (was run) ⌝ }
 {
     if run.len() != 146 {
         return false;

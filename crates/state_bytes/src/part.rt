@@ -4,6 +4,7 @@ ghost use Prim.Native.Nat.{_+_, _≤_};
 ghost use lib.ListN.{length, drop};
 ghost use Rattle.numbers.specs.Numbers.{over};
 ghost use Rattle.state_bytes.specs.Layout.{setupOf, encodeSetup, clockOf, encodeClock, reportIn, encodeReport, ReportFits, reportsOf, encodeReports, ReportsFit, allReportsOk};
+ghost use Rattle.numbers.specs.Lending.{was, last};
 use crate::flag;
 use clock::Clock;
 use config::Setup;
@@ -13,7 +14,7 @@ use state::Reports;
 // The setup, 12 bytes.
 pub fn setup_at(run: &[u8], at: usize) -> Setup
     requires { ⌜ at + 12 ≤ length (now run) ⌝ }
-    ensures { λ r. ⌜ r ≡ setupOf (drop at (now (run .entry))) ⌝ }
+    ensures { λ r. ⌜ r ≡ setupOf (drop at (was run)) ⌝ }
 {
     Setup {
         n: numbers::read_u8(run, at),
@@ -26,7 +27,7 @@ pub fn setup_at(run: &[u8], at: usize) -> Setup
 
 pub fn write_setup(area: &mut [u8], u: Setup)
     requires { ⌜ 12 ≤ length (now area) ⌝ }
-    ensures { λ r. ⌜ now (area .exit) ≡ over (encodeSetup u) (now (area .entry)) ⌝ }
+    ensures { λ r. ⌜ last area ≡ over (encodeSetup u) (was area) ⌝ }
 {
     numbers::write_u8(area, u.n);
     numbers::write_u8(&mut area[1..], u.id);
@@ -38,7 +39,7 @@ pub fn write_setup(area: &mut [u8], u: Setup)
 // The clock, 8 bytes.
 pub fn clock_at(run: &[u8], at: usize) -> Clock
     requires { ⌜ at + 8 ≤ length (now run) ⌝ }
-    ensures { λ r. ⌜ r ≡ clockOf (drop at (now (run .entry))) ⌝ }
+    ensures { λ r. ⌜ r ≡ clockOf (drop at (was run)) ⌝ }
 {
     Clock {
         heard: flag::flag_at(run, at),
@@ -50,7 +51,7 @@ pub fn clock_at(run: &[u8], at: usize) -> Clock
 
 pub fn write_clock(area: &mut [u8], c: Clock)
     requires { ⌜ 8 ≤ length (now area) ⌝ }
-    ensures { λ r. ⌜ now (area .exit) ≡ over (encodeClock c) (now (area .entry)) ⌝ }
+    ensures { λ r. ⌜ last area ≡ over (encodeClock c) (was area) ⌝ }
 {
     flag::write_flag(area, c.heard);
     numbers::write_u32(&mut area[1..], c.waiting);
@@ -61,7 +62,7 @@ pub fn write_clock(area: &mut [u8], c: Clock)
 // A report, 14 bytes.
 fn report_at(run: &[u8], at: usize) -> Report
     requires { ⌜ at + 14 ≤ length (now run) ⌝ }
-    ensures { λ r. ⌜ r ≡ reportIn (drop at (now (run .entry))) ⌝ }
+    ensures { λ r. ⌜ r ≡ reportIn (drop at (was run)) ⌝ }
 {
     Report {
         there: flag::flag_at(run, at),
@@ -75,7 +76,7 @@ fn report_at(run: &[u8], at: usize) -> Report
 // What the types of its fields say is told to whoever writes it: it is why the report is read back.
 fn write_report(area: &mut [u8], d: Report)
     requires { ⌜ 14 ≤ length (now area) ⌝ }
-    ensures { λ r. ⌜ (now (area .exit) ≡ over (encodeReport d) (now (area .entry))) × ReportFits d ⌝ }
+    ensures { λ r. ⌜ (last area ≡ over (encodeReport d) (was area)) × ReportFits d ⌝ }
 {
     flag::write_flag(area, d.there);
     flag::write_flag(&mut area[1..], d.full);
@@ -87,7 +88,7 @@ fn write_report(area: &mut [u8], d: Report)
 // Whether the two flags of each of seven reports have a meaning.
 pub fn reports_ok(run: &[u8], at: usize) -> bool
     requires { ⌜ at + 98 ≤ length (now run) ⌝ }
-    ensures { λ r. ⌜ r ≡ allReportsOk 7 (drop at (now (run .entry))) ⌝ }
+    ensures { λ r. ⌜ r ≡ allReportsOk 7 (drop at (was run)) ⌝ }
 {
     let mut i: usize = 0;
     let mut p = at;
@@ -107,7 +108,7 @@ pub fn reports_ok(run: &[u8], at: usize) -> bool
 // Seven reports, one for each replica id.
 pub fn reports_at(run: &[u8], at: usize) -> Reports
     requires { ⌜ at + 98 ≤ length (now run) ⌝ }
-    ensures { λ r. ⌜ r ≡ reportsOf (drop at (now (run .entry))) ⌝ }
+    ensures { λ r. ⌜ r ≡ reportsOf (drop at (was run)) ⌝ }
 {
     Reports {
         rows: [
@@ -125,7 +126,7 @@ pub fn reports_at(run: &[u8], at: usize) -> Reports
 // And that there are seven rows.
 pub fn write_reports(area: &mut [u8], t: Reports)
     requires { ⌜ 98 ≤ length (now area) ⌝ }
-    ensures { λ r. ⌜ (now (area .exit) ≡ over (encodeReports t) (now (area .entry))) × ReportsFit t ⌝ }
+    ensures { λ r. ⌜ (last area ≡ over (encodeReports t) (was area)) × ReportsFit t ⌝ }
 {
     let mut i = 0;
     while i < 7 {

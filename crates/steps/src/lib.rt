@@ -4,7 +4,8 @@ ghost use Prim.Native.Nat.{_≤_, _<_};
 ghost use lib.ListN.{length};
 ghost use Rattle.numbers.specs.Numbers.{over};
 ghost use Rattle.steps.specs.Steps.{Sound, spoke, left, acceptChanging, acceptOf, isTake, committedTo, settled, askedForState, deferred, transferred, prepareOkOf, committedAndAcked};
-ghost use Rattle.book.specs.Memory.{runs};
+ghost use Rattle.book.specs.Memory.{runsBefore, runsAfter, runsHeld};
+ghost use Rattle.numbers.specs.Lending.{was, last};
 use frames::Status;
 use numbers::Op;
 use numbers::View;
@@ -69,8 +70,8 @@ pub fn takes(a: Accept) -> bool
 
 // commit_up_to: the ops after the commit number, up to k.
 pub fn commit_up_to(s: Replica, k: Op, log: &[u8], results: &mut [u8], totals: &mut [u8]) -> Replica
-    requires { ⌜ Sound s (runs (now log) (now results) (now totals)) × (k .0 ≤ s .op .0) ⌝ }
-    ensures { λ r. ⌜ (r ≡ committedTo s k) × (runs (now (log .entry)) (now (results .exit)) (now (totals .exit)) ≡ settled s k (runs (now (log .entry)) (now (results .entry)) (now (totals .entry)))) ⌝ }
+    requires { ⌜ Sound s (runsHeld log results totals) × (k .0 ≤ s .op .0) ⌝ }
+    ensures { λ r. ⌜ (r ≡ committedTo s k) × (runsAfter log results totals ≡ settled s k (runsBefore log results totals)) ⌝ }
 {
     if k.0 <= s.commit.0 {
         return s;
@@ -92,7 +93,7 @@ pub fn commit_up_to(s: Replica, k: Op, log: &[u8], results: &mut [u8], totals: &
 // send_get_state from op `at` on, to the primary of the view of `t`, which is the state after it; `s` is the state as it was, for refusal 9.
 pub fn ask_state(s: Replica, t: Replica, at: Op, out: &mut [u8]) -> Returned
     requires { ⌜ 0 < t .setup .n ⌝ }
-    ensures { λ r. ⌜ spoke r (now (out .exit)) ≡ askedForState s t at (now (out .entry)) ⌝ }
+    ensures { λ r. ⌜ spoke r (last out) ≡ askedForState s t at (was out) ⌝ }
 {
     if out.len() < 16 {
         return state::refused(9, s);
@@ -106,7 +107,7 @@ pub fn ask_state(s: Replica, t: Replica, at: Op, out: &mut [u8]) -> Returned
 // state_transfer
 pub fn state_transfer(s: Replica, out: &mut [u8]) -> Returned
     requires { ⌜ 0 < s .setup .n ⌝ }
-    ensures { λ r. ⌜ spoke r (now (out .exit)) ≡ transferred s (now (out .entry)) ⌝ }
+    ensures { λ r. ⌜ spoke r (last out) ≡ transferred s (was out) ⌝ }
 {
     let at = s.op;
     ask_state(
@@ -120,7 +121,7 @@ pub fn state_transfer(s: Replica, out: &mut [u8]) -> Returned
 // What is done with a message from the primary that isn't taken: catch_up_with_view, or nothing but to hear it.
 pub fn defer(a: Accept, s: Replica, v: View, out: &mut [u8]) -> Returned
     requires { ⌜ 0 < s .setup .n ⌝ }
-    ensures { λ r. ⌜ spoke r (now (out .exit)) ≡ deferred a s v (now (out .entry)) ⌝ }
+    ensures { λ r. ⌜ spoke r (last out) ≡ deferred a s v (was out) ⌝ }
 {
     let at = s.commit;
     match a {
@@ -135,7 +136,7 @@ pub fn defer(a: Accept, s: Replica, v: View, out: &mut [u8]) -> Returned
 // send_prepare_ok, with our own op number
 fn send_prepare_ok(s: Replica, out: &mut [u8]) -> usize
     requires { ⌜ (0 < s .setup .n) × (16 ≤ length (now out)) ⌝ }
-    ensures { λ r. ⌜ (r ≡ 16) × (now (out .exit) ≡ over (prepareOkOf s) (now (out .entry))) ⌝ }
+    ensures { λ r. ⌜ (r ≡ 16) × (last out ≡ over (prepareOkOf s) (was out)) ⌝ }
 {
     let v = s.view;
     let o = s.op;
@@ -154,8 +155,8 @@ pub fn acknowledge(
     totals: &mut [u8],
     out: &mut [u8],
 ) -> Returned
-    requires { ⌜ Sound t (runs (now log) (now results) (now totals)) × (k .0 ≤ t .op .0) ⌝ }
-    ensures { λ r. ⌜ left r (runs (now (log .entry)) (now (results .exit)) (now (totals .exit))) (now (out .exit)) ≡ committedAndAcked s t k installed (runs (now (log .entry)) (now (results .entry)) (now (totals .entry))) (now (out .entry)) ⌝ }
+    requires { ⌜ Sound t (runsHeld log results totals) × (k .0 ≤ t .op .0) ⌝ }
+    ensures { λ r. ⌜ left r (runsAfter log results totals) (last out) ≡ committedAndAcked s t k installed (runsBefore log results totals) (was out) ⌝ }
 {
     if out.len() < 16 {
         return state::refused(9, s);

@@ -3,6 +3,7 @@ ghost use mathlib.Core.Path.{_≡_};
 ghost use lib.ListN.{length};
 ghost use Rattle.steps.specs.Steps.{spoke};
 ghost use Rattle.transfer.specs.GetState.{Reading, answers, getStateStep};
+ghost use Rattle.numbers.specs.Lending.{was, last};
 use numbers::Op;
 use numbers::View;
 use state::Replica;
@@ -25,7 +26,7 @@ fn answers(s: Replica, v: View, o: Op) -> bool
 // on_get_state: our log from op o on, to the replica that asked
 pub fn on_get_state(s: Replica, from: u8, v: View, o: Op, log: &[u8], out: &mut [u8]) -> Returned
     requires { ⌜ Reading s (length (now log)) ⌝ }
-    ensures { λ r. ⌜ spoke r (now (out .exit)) ≡ getStateStep s from v o (now (log .entry)) (now (out .entry)) ⌝ }
+    ensures { λ r. ⌜ spoke r (last out) ≡ getStateStep s from v o (was log) (was out) ⌝ }
 {
     if !answers(s, v, o) {
         return state::done(s, 0, 0, false);

@@ -3,6 +3,7 @@ ghost use mathlib.Core.Path.{_≡_};
 ghost use Prim.Native.Nat.{_<_};
 ghost use Rattle.steps.specs.Steps.{spoke};
 ghost use Rattle.transfer.specs.Tick.{transferTick};
+ghost use Rattle.numbers.specs.Lending.{was, last};
 use clock::Clock;
 use numbers::Op;
 use state::Replica;
@@ -29,7 +30,7 @@ pub enum Use {
 // on_idle in StateTransfer, of a tick after which the wait isn't over: GetState again. `c` is the clock after it.
 pub fn tick_transfer(s: Replica, c: Clock, out: &mut [u8]) -> Returned
     requires { ⌜ 0 < s .setup .n ⌝ }
-    ensures { λ r. ⌜ spoke r (now (out .exit)) ≡ transferTick s c (now (out .entry)) ⌝ }
+    ensures { λ r. ⌜ spoke r (last out) ≡ transferTick s c (was out) ⌝ }
 {
     let at = s.op;
     steps::ask_state(s, state::with_clock(s, c), at, out)

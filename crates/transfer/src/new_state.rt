@@ -3,8 +3,9 @@ ghost use mathlib.Core.Path.{_≡_};
 ghost use Prim.Native.Nat.{_-_, _*_, _≤_, _<_};
 ghost use lib.ListN.{length};
 ghost use Rattle.steps.specs.Steps.{Sound, left};
-ghost use Rattle.book.specs.Memory.{runs};
+ghost use Rattle.book.specs.Memory.{runsBefore, runsAfter, runsHeld};
 ghost use Rattle.transfer.specs.NewState.{PartPassed, transferUse, changeUse, useOf, gapFilled, installed, newStateStep};
+ghost use Rattle.numbers.specs.Lending.{was, last};
 use crate::Part;
 use crate::Use;
 use frames::Status;
@@ -64,8 +65,8 @@ fn fill(
     totals: &mut [u8],
     out: &mut [u8],
 ) -> Returned
-    requires { ⌜ Sound s (runs (now log) (now results) (now totals)) × ((s .op .0 < p .end .0) × (PartPassed s p × (32 * (p .end .0 - s .op .0) ≤ length (now rest)))) ⌝ }
-    ensures { λ r. ⌜ left r (runs (now (log .exit)) (now (results .exit)) (now (totals .exit))) (now (out .exit)) ≡ gapFilled s p (now (rest .entry)) (runs (now (log .entry)) (now (results .entry)) (now (totals .entry))) (now (out .entry)) ⌝ }
+    requires { ⌜ Sound s (runsHeld log results totals) × ((s .op .0 < p .end .0) × (PartPassed s p × (32 * (p .end .0 - s .op .0) ≤ length (now rest)))) ⌝ }
+    ensures { λ r. ⌜ left r (runsAfter log results totals) (last out) ≡ gapFilled s p (was rest) (runsBefore log results totals) (was out) ⌝ }
 {
     let n = s.op.0 as usize;
     let k = (p.end.0 - s.op.0) as usize;
@@ -97,8 +98,8 @@ fn install(
     totals: &mut [u8],
     out: &mut [u8],
 ) -> Returned
-    requires { ⌜ Sound s (runs (now log) (now results) (now totals)) × ((p .start .0 ≡ s .commit .0) × (PartPassed s p × (32 * (p .end .0 - p .start .0) ≤ length (now part)))) ⌝ }
-    ensures { λ r. ⌜ left r (runs (now (log .exit)) (now (results .exit)) (now (totals .exit))) (now (out .exit)) ≡ installed s p (now (part .entry)) (runs (now (log .entry)) (now (results .entry)) (now (totals .entry))) (now (out .entry)) ⌝ }
+    requires { ⌜ Sound s (runsHeld log results totals) × ((p .start .0 ≡ s .commit .0) × (PartPassed s p × (32 * (p .end .0 - p .start .0) ≤ length (now part)))) ⌝ }
+    ensures { λ r. ⌜ left r (runsAfter log results totals) (last out) ≡ installed s p (was part) (runsBefore log results totals) (was out) ⌝ }
 {
     let n = s.commit.0 as usize;
     let k = (p.end.0 - p.start.0) as usize;
@@ -128,8 +129,8 @@ pub fn on_new_state(
     totals: &mut [u8],
     out: &mut [u8],
 ) -> Returned
-    requires { ⌜ Sound s (runs (now log) (now results) (now totals)) × (PartPassed s p × (32 * (p .end .0 - p .start .0) ≤ length (now part))) ⌝ }
-    ensures { λ r. ⌜ left r (runs (now (log .exit)) (now (results .exit)) (now (totals .exit))) (now (out .exit)) ≡ newStateStep s v p (now (part .entry)) (runs (now (log .entry)) (now (results .entry)) (now (totals .entry))) (now (out .entry)) ⌝ }
+    requires { ⌜ Sound s (runsHeld log results totals) × (PartPassed s p × (32 * (p .end .0 - p .start .0) ≤ length (now part))) ⌝ }
+    ensures { λ r. ⌜ left r (runsAfter log results totals) (last out) ≡ newStateStep s v p (was part) (runsBefore log results totals) (was out) ⌝ }
 {
     match use_of(s, v, p) {
         Use::Ignore => state::done(s, 0, 0, false),

@@ -2,11 +2,12 @@
 // but status, op and commit number and the clock, so that who keeps it in bytes needs to write no more.
 ghost use mathlib.Core.Path.{_≡_};
 ghost use Rattle.usual.specs.Usual.{isUsual, isLeading};
+ghost use Rattle.numbers.specs.Lending.{was};
 use state::Replica;
 
 // Whether a frame is a usual one for this state, by its kind and view alone: it may still be refused.
 pub fn is_usual(s: Replica, frame: &[u8]) -> bool
-    ensures { λ r. ⌜ r ≡ isUsual s (now (frame .entry)) ⌝ }
+    ensures { λ r. ⌜ r ≡ isUsual s (was frame) ⌝ }
 {
     let status = s.status;
     if !state::is_normal(status) {

@@ -4,8 +4,9 @@ ghost use Prim.Native.Nat.{_*_, _≤_};
 ghost use lib.ListN.{length};
 ghost use Rattle.state.specs.Lengths.{acksLength};
 ghost use Rattle.steps.specs.Steps.{Sound, spoke};
-ghost use Rattle.book.specs.Memory.{runs};
+ghost use Rattle.book.specs.Memory.{runsBefore, runsAfter, runsHeld};
 ghost use Rattle.view_change.specs.StartView.{LogHeld, LogPassed, startViewLength, sentStartView, keepVerdict, startViewVerdict, joined, joinedBy, startViewStep};
+ghost use Rattle.numbers.specs.Lending.{was, last};
 use crate::StartViewVerdict;
 use numbers::Op;
 use numbers::View;
@@ -15,7 +16,7 @@ use state::Returned;
 // send_start_view, to one replica
 pub fn send_start_view(s: Replica, to: u8, log: &[u8], out: &mut [u8]) -> Returned
     requires { ⌜ LogHeld s (length (now log)) ⌝ }
-    ensures { λ r. ⌜ spoke r (now (out .exit)) ≡ sentStartView s to (now (log .entry)) (now (out .entry)) ⌝ }
+    ensures { λ r. ⌜ spoke r (last out) ≡ sentStartView s to (was log) (was out) ⌝ }
 {
     if out.len() < 19 + 32 * (s.op.0 as usize) {
         return state::refused(9, s);
@@ -30,7 +31,7 @@ pub fn send_start_view(s: Replica, to: u8, log: &[u8], out: &mut [u8]) -> Return
 // Refusal 7: the log of o entries in `part` must keep our committed entries.
 fn weigh_log(s: Replica, o: Op, part: &[u8], log: &[u8]) -> StartViewVerdict
     requires { ⌜ LogHeld s (length (now log)) × ((s .commit .0 ≤ s .op .0) × (32 * o .0 ≤ length (now part))) ⌝ }
-    ensures { λ r. ⌜ r ≡ keepVerdict s o (now (part .entry)) (now (log .entry)) ⌝ }
+    ensures { λ r. ⌜ r ≡ keepVerdict s o (was part) (was log) ⌝ }
 {
     if book::keeps(log, s.commit.0 as usize, part, o.0 as usize) {
         return StartViewVerdict::Join;
@@ -41,7 +42,7 @@ fn weigh_log(s: Replica, o: Op, part: &[u8], log: &[u8]) -> StartViewVerdict
 // One of our own view is new only while we are changing to it.
 fn weigh(s: Replica, v: View, o: Op, part: &[u8], log: &[u8]) -> StartViewVerdict
     requires { ⌜ LogHeld s (length (now log)) × ((s .commit .0 ≤ s .op .0) × (32 * o .0 ≤ length (now part))) ⌝ }
-    ensures { λ r. ⌜ r ≡ startViewVerdict s v o (now (part .entry)) (now (log .entry)) ⌝ }
+    ensures { λ r. ⌜ r ≡ startViewVerdict s v o (was part) (was log) ⌝ }
 {
     if v.0 < s.view.0 {
         return StartViewVerdict::Ignore;
@@ -69,8 +70,8 @@ fn join(
     acks: &mut [u8],
     out: &mut [u8],
 ) -> Returned
-    requires { ⌜ Sound s (runs (now log) (now results) (now totals)) × (LogPassed s o c × ((s .commit .0 ≤ o .0) × ((32 * o .0 ≤ length (now part)) × (length (now acks) ≡ acksLength (s .setup))))) ⌝ }
-    ensures { λ r. ⌜ joined r (runs (now (log .exit)) (now (results .exit)) (now (totals .exit))) (now (acks .exit)) (now (out .exit)) ≡ joinedBy s v o c (now (part .entry)) (runs (now (log .entry)) (now (results .entry)) (now (totals .entry))) (now (acks .entry)) (now (out .entry)) ⌝ }
+    requires { ⌜ Sound s (runsHeld log results totals) × (LogPassed s o c × ((s .commit .0 ≤ o .0) × ((32 * o .0 ≤ length (now part)) × (length (now acks) ≡ acksLength (s .setup))))) ⌝ }
+    ensures { λ r. ⌜ joined r (runsAfter log results totals) (last acks) (last out) ≡ joinedBy s v o c (was part) (runsBefore log results totals) (was acks) (was out) ⌝ }
 {
     if out.len() < 16 {
         return state::refused(9, s);
@@ -95,8 +96,8 @@ pub fn on_start_view(
     acks: &mut [u8],
     out: &mut [u8],
 ) -> Returned
-    requires { ⌜ Sound s (runs (now log) (now results) (now totals)) × (LogPassed s o c × ((32 * o .0 ≤ length (now part)) × (length (now acks) ≡ acksLength (s .setup)))) ⌝ }
-    ensures { λ r. ⌜ joined r (runs (now (log .exit)) (now (results .exit)) (now (totals .exit))) (now (acks .exit)) (now (out .exit)) ≡ startViewStep s v o c (now (part .entry)) (runs (now (log .entry)) (now (results .entry)) (now (totals .entry))) (now (acks .entry)) (now (out .entry)) ⌝ }
+    requires { ⌜ Sound s (runsHeld log results totals) × (LogPassed s o c × ((32 * o .0 ≤ length (now part)) × (length (now acks) ≡ acksLength (s .setup)))) ⌝ }
+    ensures { λ r. ⌜ joined r (runsAfter log results totals) (last acks) (last out) ≡ startViewStep s v o c (was part) (runsBefore log results totals) (was acks) (was out) ⌝ }
 {
     match weigh(s, v, o, part, log) {
         StartViewVerdict::Ignore => state::done(s, 0, 0, false),

@@ -4,9 +4,10 @@ ghost use mathlib.Core.Bool.{true, false};
 ghost use Prim.Native.Nat.{_+_};
 ghost use Rattle.config.specs.Setup.{setupOk};
 ghost use Rattle.steps.specs.Steps.{spoke};
-ghost use Rattle.do_view_change.specs.Record.{recorded, Gathering};
-ghost use Rattle.book.specs.Memory.{memory};
+ghost use Rattle.do_view_change.specs.Record.{Gathering, Does};
+ghost use Rattle.book.specs.Memory.{memoryHeld};
 ghost use Rattle.voting.specs.Tick.{inLastView, nextView, nextViewAsking, repeated, changeTick};
+ghost use Rattle.numbers.specs.Lending.{was, last};
 use clock::Clock;
 use numbers::View;
 use state::Replica;
@@ -22,7 +23,7 @@ fn in_last_view(s: Replica) -> bool
 // The wait is over, in Normal and in ViewChange: the next view, or refusal 8.
 pub fn next_view(s: Replica, c: Clock, out: &mut [u8]) -> Returned
     requires { ⌜ setupOk (s .setup) ≡ true ⌝ }
-    ensures { λ a. ⌜ spoke a (now (out .exit)) ≡ nextView s c (now (out .entry)) ⌝ }
+    ensures { λ a. ⌜ spoke a (last out) ≡ nextView s c (was out) ⌝ }
 {
     if in_last_view(s) {
         return state::refused(8, s);
@@ -34,7 +35,7 @@ pub fn next_view(s: Replica, c: Clock, out: &mut [u8]) -> Returned
 // The wait is over, in StateTransfer: GetState first, in the view that is left.
 pub fn next_view_asking(s: Replica, c: Clock, out: &mut [u8]) -> Returned
     requires { ⌜ setupOk (s .setup) ≡ true ⌝ }
-    ensures { λ a. ⌜ spoke a (now (out .exit)) ≡ nextViewAsking s c (now (out .entry)) ⌝ }
+    ensures { λ a. ⌜ spoke a (last out) ≡ nextViewAsking s c (was out) ⌝ }
 {
     if in_last_view(s) {
         return state::refused(8, s);
@@ -68,8 +69,8 @@ fn repeat(
     out: &mut [u8],
     reps: &mut [u8],
 ) -> Returned
-    requires { ⌜ Gathering s (memory (now log) (now results) (now totals) (now acks) (now stored) (now out) (now reps)) ⌝ }
-    ensures { λ a. ⌜ recorded a (memory (now (log .exit)) (now (results .exit)) (now (totals .exit)) (now (acks .exit)) (now (stored .exit)) (now (out .exit)) (now (reps .exit))) ≡ repeated s c (memory (now (log .entry)) (now (results .entry)) (now (totals .entry)) (now (acks .entry)) (now (stored .entry)) (now (out .entry)) (now (reps .entry))) ⌝ }
+    requires { ⌜ Gathering s (memoryHeld log results totals acks stored out reps) ⌝ }
+    ensures { λ a. ⌜ Does (repeated s c) a log results totals acks stored out reps ⌝ }
 {
     let t = state::with_clock(s, c);
     let at = s.commit;
@@ -106,8 +107,8 @@ pub fn tick_change(
     out: &mut [u8],
     reps: &mut [u8],
 ) -> Returned
-    requires { ⌜ Gathering s (memory (now log) (now results) (now totals) (now acks) (now stored) (now out) (now reps)) ⌝ }
-    ensures { λ a. ⌜ recorded a (memory (now (log .exit)) (now (results .exit)) (now (totals .exit)) (now (acks .exit)) (now (stored .exit)) (now (out .exit)) (now (reps .exit))) ≡ changeTick s c up (memory (now (log .entry)) (now (results .entry)) (now (totals .entry)) (now (acks .entry)) (now (stored .entry)) (now (out .entry)) (now (reps .entry))) ⌝ }
+    requires { ⌜ Gathering s (memoryHeld log results totals acks stored out reps) ⌝ }
+    ensures { λ a. ⌜ Does (changeTick s c up) a log results totals acks stored out reps ⌝ }
 {
     if up {
         return next_view(s, c, out);

@@ -4,9 +4,10 @@ ghost use mathlib.Core.Bool.{true};
 ghost use Prim.Native.Nat.{_<_};
 ghost use Rattle.config.specs.Setup.{setupOk};
 ghost use Rattle.steps.specs.Steps.{spoke};
-ghost use Rattle.do_view_change.specs.Record.{recorded, Gathering};
-ghost use Rattle.book.specs.Memory.{memory};
+ghost use Rattle.do_view_change.specs.Record.{Gathering, Does};
+ghost use Rattle.book.specs.Memory.{memoryHeld};
 ghost use Rattle.voting.specs.Votes.{sentFirst, reportDue, maybeStep, sameView, startViewChangeStep};
+ghost use Rattle.numbers.specs.Lending.{was, last};
 use numbers::View;
 use state::Replica;
 use state::Returned;
@@ -14,7 +15,7 @@ use state::Returned;
 // Only what goes out first, from state t; `s` is the state as it was, for refusal 9.
 pub fn call(s: Replica, t: Replica, first: bool, out: &mut [u8]) -> Returned
     requires { ⌜ setupOk (t .setup) ≡ true ⌝ }
-    ensures { λ a. ⌜ spoke a (now (out .exit)) ≡ sentFirst s t first (now (out .entry)) ⌝ }
+    ensures { λ a. ⌜ spoke a (last out) ≡ sentFirst s t first (was out) ⌝ }
 {
     if out.len() < do_view_change::begin::first_len(first, t) {
         return state::refused(9, s);
@@ -53,8 +54,8 @@ fn maybe_send_do_view_change(
     out: &mut [u8],
     reps: &mut [u8],
 ) -> Returned
-    requires { ⌜ Gathering t (memory (now log) (now results) (now totals) (now acks) (now stored) (now out) (now reps)) ⌝ }
-    ensures { λ a. ⌜ recorded a (memory (now (log .exit)) (now (results .exit)) (now (totals .exit)) (now (acks .exit)) (now (stored .exit)) (now (out .exit)) (now (reps .exit))) ≡ maybeStep s t first (memory (now (log .entry)) (now (results .entry)) (now (totals .entry)) (now (acks .entry)) (now (stored .entry)) (now (out .entry)) (now (reps .entry))) ⌝ }
+    requires { ⌜ Gathering t (memoryHeld log results totals acks stored out reps) ⌝ }
+    ensures { λ a. ⌜ Does (maybeStep s t first) a log results totals acks stored out reps ⌝ }
 {
     if !is_due(t) {
         return call(s, t, first, out);
@@ -85,8 +86,8 @@ fn on_same_view(
     out: &mut [u8],
     reps: &mut [u8],
 ) -> Returned
-    requires { ⌜ Gathering s (memory (now log) (now results) (now totals) (now acks) (now stored) (now out) (now reps)) × (r < s .setup .n) ⌝ }
-    ensures { λ a. ⌜ recorded a (memory (now (log .exit)) (now (results .exit)) (now (totals .exit)) (now (acks .exit)) (now (stored .exit)) (now (out .exit)) (now (reps .exit))) ≡ sameView s r (memory (now (log .entry)) (now (results .entry)) (now (totals .entry)) (now (acks .entry)) (now (stored .entry)) (now (out .entry)) (now (reps .entry))) ⌝ }
+    requires { ⌜ Gathering s (memoryHeld log results totals acks stored out reps) × (r < s .setup .n) ⌝ }
+    ensures { λ a. ⌜ Does (sameView s r) a log results totals acks stored out reps ⌝ }
 {
     let status = s.status;
     if state::is_changing(status) {
@@ -126,8 +127,8 @@ pub fn on_start_view_change(
     out: &mut [u8],
     reps: &mut [u8],
 ) -> Returned
-    requires { ⌜ Gathering s (memory (now log) (now results) (now totals) (now acks) (now stored) (now out) (now reps)) × (r < s .setup .n) ⌝ }
-    ensures { λ a. ⌜ recorded a (memory (now (log .exit)) (now (results .exit)) (now (totals .exit)) (now (acks .exit)) (now (stored .exit)) (now (out .exit)) (now (reps .exit))) ≡ startViewChangeStep s v r (memory (now (log .entry)) (now (results .entry)) (now (totals .entry)) (now (acks .entry)) (now (stored .entry)) (now (out .entry)) (now (reps .entry))) ⌝ }
+    requires { ⌜ Gathering s (memoryHeld log results totals acks stored out reps) × (r < s .setup .n) ⌝ }
+    ensures { λ a. ⌜ Does (startViewChangeStep s v r) a log results totals acks stored out reps ⌝ }
 {
     if v.0 < s.view.0 {
         return state::done(s, 0, 0, false);

@@ -12,9 +12,11 @@ use Rattle.config.specs.declared.Setup.{Setup}
 use Rattle.state.specs.declared.Returned.{Returned}
 use Rattle.state.specs.declared.Replica.{Replica}
 use Rattle.replica.specs.Calls.{messageCall, idleCall, createCall, recoverCall}
-use Rattle.replica.specs.Lent.{Lent, Called}
+use Rattle.replica.specs.Lent.{Lent, Called, lentBefore, lentAfter}
 use Rattle.replica.specs.Promise.{MessagePromise, IdlePromise, CreatePromise, RecoverPromise}
 use Rattle.state_bytes.specs.Layout.{stateOf, encodeState, stateOk, HoldsState}
+use Rattle.numbers.specs.Lending.{last}
+use Rattle.book.specs.Memory.{Run}
 
 -- what a call returns and leaves: its number, the counts of message and reply bytes, the state run, everything else that was lent
 pub record Ran : Type 0 where
@@ -25,6 +27,12 @@ pub record Ran : Type 0 where
 
 abbrev pub ran : (code : ℕ) (counts state : List ℕ) → Lent → Ran
 ran k counts state x = record { code = k; counts = counts; state = state; lent = x }
+
+-- a call that returns a number and counts, on these runs, keeps a promise
+abbrev pub Ends : (promise : Lent → Ran → Type 0) (code : ℕ) (counts : List ℕ) (state : Run) → (log results totals acks stored table old out reps : Run) → Type 0
+Ends promise code counts state log results totals acks stored table old out reps =
+    promise (lentBefore log results totals acks stored table old out reps)
+    (ran code counts (last state) (lentAfter log results totals acks stored table old out reps))
 
 -- the state run after a call
 unfoldable pub keptState : Returned → (state : List ℕ) → List ℕ

@@ -2,6 +2,7 @@
 ghost use mathlib.Core.Path.{_≡_};
 ghost use Rattle.client.specs.Replies.{outcomeNumber};
 ghost use Rattle.whitherhaul.specs.Clients.{ClientCreateRan, RequestRan, ReplyRan, clientIdleRun, readRun};
+ghost use Rattle.numbers.specs.Lending.{was, last};
 use client::Read;
 use client::ReplyOutcome;
 use numbers::View;
@@ -9,7 +10,7 @@ use numbers::View;
 // create
 #[no_mangle]
 pub extern "C" fn whitherhaul_client_create(n: u8, id: u64, held: &mut [u8]) -> u8
-    ensures { λ r. ⌜ ClientCreateRan n id (now (held .entry)) (record { code = r; run = now (held .exit) }) ⌝ }
+    ensures { λ r. ⌜ ClientCreateRan n id (was held) (record { code = r; run = last held }) ⌝ }
 {
     if held.len() != 54 {
         return 1;
@@ -33,7 +34,7 @@ pub extern "C" fn whitherhaul_client_request(
     area: &mut [u8],
     answers: &mut [u64; 2],
 ) -> u8
-    ensures { λ r. ⌜ RequestRan (now (held .entry)) operation member cents (now (area .entry)) (record { code = r; answers = now (answers .exit); run = now (held .exit); area = now (area .exit) }) ⌝ }
+    ensures { λ r. ⌜ RequestRan (was held) operation member cents (was area) (record { code = r; answers = last answers; run = last held; area = last area }) ⌝ }
 {
     *answers = [0, 0];
     if !client_bytes::client_ok(held) {
@@ -63,7 +64,7 @@ pub extern "C" fn whitherhaul_client_reply(
     view: u32,
     answers: &mut [u64; 1],
 ) -> u8
-    ensures { λ r. ⌜ ReplyRan (now (held .entry)) number (record { 0 = view }) (record { code = r; answers = now (answers .exit); run = now (held .exit) }) ⌝ }
+    ensures { λ r. ⌜ ReplyRan (was held) number (record { 0 = view }) (record { code = r; answers = last answers; run = last held }) ⌝ }
 {
     *answers = [0];
     if !client_bytes::client_ok(held) {
@@ -86,7 +87,7 @@ pub extern "C" fn whitherhaul_client_idle(
     area: &mut [u8],
     answers: &mut [u64; 1],
 ) -> u8
-    ensures { λ r. ⌜ (record { code = r; answers = now (answers .exit); area = now (area .exit) }) ≡ clientIdleRun (now (held .entry)) (now (area .entry)) ⌝ }
+    ensures { λ r. ⌜ (record { code = r; answers = last answers; area = last area }) ≡ clientIdleRun (was held) (was area) ⌝ }
 {
     *answers = [0];
     if !client_bytes::client_ok(held) {
@@ -114,7 +115,7 @@ fn outcome_number(o: ReplyOutcome) -> u8
 // A Reply, read: view, client, request, outcome and total, or all are 0 where it is malformed.
 #[no_mangle]
 pub extern "C" fn whitherhaul_read_reply(frame: &[u8], answers: &mut [u64; 5]) -> u8
-    ensures { λ r. ⌜ (record { code = r; answers = now (answers .exit) }) ≡ readRun (now (frame .entry)) ⌝ }
+    ensures { λ r. ⌜ (record { code = r; answers = last answers }) ≡ readRun (was frame) ⌝ }
 {
     *answers = [0, 0, 0, 0, 0];
     match client::read_reply(frame) {

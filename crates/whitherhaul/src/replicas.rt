@@ -3,9 +3,10 @@ ghost use mathlib.Core.Path.{_≡_};
 ghost use mathlib.Core.Bool.{true};
 ghost use mathlib.Core.List.{[], _∷_};
 ghost use lib.ListN.{length};
-ghost use Rattle.replica.specs.Lent.{lent};
 ghost use Rattle.state_bytes.specs.Layout.{stateOf, Onward, Clocked, stateOk};
-ghost use Rattle.whitherhaul.specs.Replicas.{KeptIn, ran, CreateRan, RecoverRan, MessageRan, IdleRan};
+ghost use Rattle.whitherhaul.specs.Replicas.{KeptIn, CreateRan, RecoverRan, MessageRan, IdleRan, Ends};
+ghost use Rattle.numbers.specs.Lending.{was, last};
+ghost use Rattle.book.specs.Memory.{unlent};
 use config::Setup;
 use numbers::View;
 use state::Returned;
@@ -13,7 +14,7 @@ use state::Returned;
 // The state after a call that wasn't refused; a refused one leaves the run as it was.
 fn keep(a: Returned, state: &mut [u8]) -> u8
     requires { ⌜ length (now state) ≡ 146 ⌝ }
-    ensures { λ r. ⌜ KeptIn a (now (state .entry)) (now (state .exit)) r ⌝ }
+    ensures { λ r. ⌜ KeptIn a (was state) (last state) r ⌝ }
 {
     if a.code != 0 {
         return a.code;
@@ -26,7 +27,7 @@ fn keep(a: Returned, state: &mut [u8]) -> u8
 // The same of an answer that is further on in the view of the state that the run holds.
 fn keep_onward(a: Returned, state: &mut [u8]) -> u8
     requires { ⌜ (stateOk (now state) ≡ true) × Onward (stateOf (now state)) (a .state) ⌝ }
-    ensures { λ r. ⌜ KeptIn a (now (state .entry)) (now (state .exit)) r ⌝ }
+    ensures { λ r. ⌜ KeptIn a (was state) (last state) r ⌝ }
 {
     if a.code != 0 {
         return a.code;
@@ -39,7 +40,7 @@ fn keep_onward(a: Returned, state: &mut [u8]) -> u8
 // And of one that has another clock only.
 fn keep_clocked(a: Returned, state: &mut [u8]) -> u8
     requires { ⌜ (stateOk (now state) ≡ true) × Clocked (stateOf (now state)) (a .state) ⌝ }
-    ensures { λ r. ⌜ KeptIn a (now (state .entry)) (now (state .exit)) r ⌝ }
+    ensures { λ r. ⌜ KeptIn a (was state) (last state) r ⌝ }
 {
     if a.code != 0 {
         return a.code;
@@ -66,7 +67,7 @@ pub extern "C" fn whitherhaul_create(
     table: &mut [u8],
     old: &[u8],
 ) -> u8
-    ensures { λ r. ⌜ CreateRan (record { n = n; id = id; timeout = timeout; room = room; members = members }) (now (state .entry)) (lent (now (log .entry)) (now (results .entry)) (now (totals .entry)) (now (acks .entry)) (now (stored .entry)) (now (table .entry)) (now (old .entry)) [] []) (ran r (0 ∷ 0 ∷ []) (now (state .exit)) (lent (now (log .entry)) (now (results .entry)) (now (totals .exit)) (now (acks .exit)) (now (stored .entry)) (now (table .exit)) (now (old .entry)) [] [])) ⌝ }
+    ensures { λ r. ⌜ Ends (CreateRan (record { n = n; id = id; timeout = timeout; room = room; members = members }) (was state)) r (0 ∷ 0 ∷ []) state log results totals acks stored table old unlent unlent ⌝ }
 {
     if state.len() != 146 {
         return 1;
@@ -105,7 +106,7 @@ pub extern "C" fn whitherhaul_recover(
     out: &mut [u8],
     counts: &mut [u64; 2],
 ) -> u8
-    ensures { λ r. ⌜ RecoverRan (record { n = n; id = id; timeout = timeout; room = room; members = members }) (record { 0 = view }) nonce (now (state .entry)) (lent (now (log .entry)) (now (results .entry)) (now (totals .entry)) (now (acks .entry)) (now (stored .entry)) (now (table .entry)) (now (old .entry)) (now (out .entry)) []) (ran r (now (counts .exit)) (now (state .exit)) (lent (now (log .entry)) (now (results .entry)) (now (totals .exit)) (now (acks .exit)) (now (stored .entry)) (now (table .exit)) (now (old .entry)) (now (out .exit)) [])) ⌝ }
+    ensures { λ r. ⌜ Ends (RecoverRan (record { n = n; id = id; timeout = timeout; room = room; members = members }) (record { 0 = view }) nonce (was state)) r (last counts) state log results totals acks stored table old out unlent ⌝ }
 {
     *counts = [0, 0];
     if state.len() != 146 {
@@ -151,7 +152,7 @@ fn message_whole(
     counts: &mut [u64; 2],
 ) -> u8
     requires { ⌜ stateOk (now state) ≡ true ⌝ }
-    ensures { λ r. ⌜ MessageRan (now (state .entry)) (now (frame .entry)) (lent (now (log .entry)) (now (results .entry)) (now (totals .entry)) (now (acks .entry)) (now (stored .entry)) (now (table .entry)) (now (old .entry)) (now (out .entry)) (now (reps .entry))) (ran r (now (counts .exit)) (now (state .exit)) (lent (now (log .exit)) (now (results .exit)) (now (totals .exit)) (now (acks .exit)) (now (stored .exit)) (now (table .exit)) (now (old .exit)) (now (out .exit)) (now (reps .exit)))) ⌝ }
+    ensures { λ r. ⌜ Ends (MessageRan (was state) (was frame)) r (last counts) state log results totals acks stored table old out reps ⌝ }
 {
     let a = replica::call::on_message(
         state_bytes::read_state(state),
@@ -186,7 +187,7 @@ fn message_usual(
     counts: &mut [u64; 2],
 ) -> u8
     requires { ⌜ stateOk (now state) ≡ true ⌝ }
-    ensures { λ r. ⌜ MessageRan (now (state .entry)) (now (frame .entry)) (lent (now (log .entry)) (now (results .entry)) (now (totals .entry)) (now (acks .entry)) (now (stored .entry)) (now (table .entry)) (now (old .entry)) (now (out .entry)) (now (reps .entry))) (ran r (now (counts .exit)) (now (state .exit)) (lent (now (log .exit)) (now (results .exit)) (now (totals .exit)) (now (acks .exit)) (now (stored .exit)) (now (table .exit)) (now (old .exit)) (now (out .exit)) (now (reps .exit)))) ⌝ }
+    ensures { λ r. ⌜ Ends (MessageRan (was state) (was frame)) r (last counts) state log results totals acks stored table old out reps ⌝ }
 {
     let s = state_bytes::read_state(state);
     if !usual::is_usual(s, frame) {
@@ -238,7 +239,7 @@ pub extern "C" fn whitherhaul_on_message(
     reps: &mut [u8],
     counts: &mut [u64; 2],
 ) -> u8
-    ensures { λ r. ⌜ MessageRan (now (state .entry)) (now (frame .entry)) (lent (now (log .entry)) (now (results .entry)) (now (totals .entry)) (now (acks .entry)) (now (stored .entry)) (now (table .entry)) (now (old .entry)) (now (out .entry)) (now (reps .entry))) (ran r (now (counts .exit)) (now (state .exit)) (lent (now (log .exit)) (now (results .exit)) (now (totals .exit)) (now (acks .exit)) (now (stored .exit)) (now (table .exit)) (now (old .exit)) (now (out .exit)) (now (reps .exit)))) ⌝ }
+    ensures { λ r. ⌜ Ends (MessageRan (was state) (was frame)) r (last counts) state log results totals acks stored table old out reps ⌝ }
 {
     *counts = [0, 0];
     if !state_bytes::state_ok(state) {
@@ -349,7 +350,7 @@ fn tick_whole(
     counts: &mut [u64; 2],
 ) -> u8
     requires { ⌜ stateOk (now state) ≡ true ⌝ }
-    ensures { λ r. ⌜ IdleRan (now (state .entry)) (lent (now (log .entry)) (now (results .entry)) (now (totals .entry)) (now (acks .entry)) (now (stored .entry)) (now (table .entry)) (now (old .entry)) (now (out .entry)) (now (reps .entry))) (ran r (now (counts .exit)) (now (state .exit)) (lent (now (log .exit)) (now (results .exit)) (now (totals .exit)) (now (acks .exit)) (now (stored .exit)) (now (table .exit)) (now (old .exit)) (now (out .exit)) (now (reps .exit)))) ⌝ }
+    ensures { λ r. ⌜ Ends (IdleRan (was state)) r (last counts) state log results totals acks stored table old out reps ⌝ }
 {
     let a = replica::call::on_idle(
         state_bytes::read_state(state),
@@ -382,7 +383,7 @@ pub extern "C" fn whitherhaul_on_idle(
     reps: &mut [u8],
     counts: &mut [u64; 2],
 ) -> u8
-    ensures { λ r. ⌜ IdleRan (now (state .entry)) (lent (now (log .entry)) (now (results .entry)) (now (totals .entry)) (now (acks .entry)) (now (stored .entry)) (now (table .entry)) (now (old .entry)) (now (out .entry)) (now (reps .entry))) (ran r (now (counts .exit)) (now (state .exit)) (lent (now (log .exit)) (now (results .exit)) (now (totals .exit)) (now (acks .exit)) (now (stored .exit)) (now (table .exit)) (now (old .exit)) (now (out .exit)) (now (reps .exit)))) ⌝ }
+    ensures { λ r. ⌜ Ends (IdleRan (was state)) r (last counts) state log results totals acks stored table old out reps ⌝ }
 {
     *counts = [0, 0];
     if !state_bytes::state_ok(state) {

@@ -5,6 +5,7 @@ ghost use lib.ListN.{length, take};
 ghost use Rattle.numbers.specs.Numbers.{Wrote};
 ghost use Rattle.frames.specs.Kinds.{fieldsEnd, stateEnd};
 ghost use Rattle.writers.specs.Writers.{encode};
+ghost use Rattle.numbers.specs.Lending.{was, last};
 use crate::parts;
 use entries::Entry;
 use frames::Message;
@@ -14,7 +15,7 @@ use numbers::View;
 
 pub fn prepare(area: &mut [u8], to: u8, v: View, o: Op, c: Op, e: Entry) -> usize
     requires { ⌜ fieldsEnd 2 + 32 ≤ length (now area) ⌝ }
-    ensures { λ k. ⌜ Wrote (encode to (Message.Prepare v o c e) []) (now (area .entry)) (now (area .exit)) k ⌝ }
+    ensures { λ k. ⌜ Wrote (encode to (Message.Prepare v o c e) []) (was area) (last area) k ⌝ }
 {
     parts::write_viewed(area, 47, 2, to, v);
     numbers::write_u32(&mut area[11..], o.0);
@@ -25,7 +26,7 @@ pub fn prepare(area: &mut [u8], to: u8, v: View, o: Op, c: Op, e: Entry) -> usiz
 
 pub fn prepare_ok(area: &mut [u8], to: u8, v: View, o: Op, r: u8) -> usize
     requires { ⌜ fieldsEnd 3 ≤ length (now area) ⌝ }
-    ensures { λ k. ⌜ Wrote (encode to (Message.PrepareOk v o r) []) (now (area .entry)) (now (area .exit)) k ⌝ }
+    ensures { λ k. ⌜ Wrote (encode to (Message.PrepareOk v o r) []) (was area) (last area) k ⌝ }
 {
     parts::write_viewed(area, 12, 3, to, v);
     numbers::write_u32(&mut area[11..], o.0);
@@ -35,7 +36,7 @@ pub fn prepare_ok(area: &mut [u8], to: u8, v: View, o: Op, r: u8) -> usize
 
 pub fn commit(area: &mut [u8], to: u8, v: View, c: Op) -> usize
     requires { ⌜ fieldsEnd 4 ≤ length (now area) ⌝ }
-    ensures { λ k. ⌜ Wrote (encode to (Message.Commit v c) []) (now (area .entry)) (now (area .exit)) k ⌝ }
+    ensures { λ k. ⌜ Wrote (encode to (Message.Commit v c) []) (was area) (last area) k ⌝ }
 {
     parts::write_viewed(area, 11, 4, to, v);
     numbers::write_u32(&mut area[11..], c.0);
@@ -44,7 +45,7 @@ pub fn commit(area: &mut [u8], to: u8, v: View, c: Op) -> usize
 
 pub fn get_state(area: &mut [u8], to: u8, r: u8, v: View, o: Op) -> usize
     requires { ⌜ fieldsEnd 5 ≤ length (now area) ⌝ }
-    ensures { λ k. ⌜ Wrote (encode to (Message.GetState r v o) []) (now (area .entry)) (now (area .exit)) k ⌝ }
+    ensures { λ k. ⌜ Wrote (encode to (Message.GetState r v o) []) (was area) (last area) k ⌝ }
 {
     parts::write_header(area, 12, 5, to);
     numbers::write_u8(&mut area[7..], r);
@@ -56,7 +57,7 @@ pub fn get_state(area: &mut [u8], to: u8, r: u8, v: View, o: Op) -> usize
 // The entries after op number a, up to z; `log` begins with them.
 pub fn new_state(area: &mut [u8], to: u8, v: View, a: Op, z: Op, c: Op, log: &[u8]) -> usize
     requires { ⌜ (z .0 - a .0 ≤ 4096) × ((32 * (z .0 - a .0) ≤ length (now log)) × (fieldsEnd 6 + 32 * (z .0 - a .0) ≤ length (now area))) ⌝ }
-    ensures { λ k. ⌜ Wrote (encode to (Message.NewState v a z c) (take (32 * (z .0 - a .0)) (now (log .entry)))) (now (area .entry)) (now (area .exit)) k ⌝ }
+    ensures { λ k. ⌜ Wrote (encode to (Message.NewState v a z c) (take (32 * (z .0 - a .0)) (was log))) (was area) (last area) k ⌝ }
 {
     let k = crate::span(a, z);
     let n = 32 * (k as usize);
@@ -68,7 +69,7 @@ pub fn new_state(area: &mut [u8], to: u8, v: View, a: Op, z: Op, c: Op, log: &[u
 
 pub fn start_view_change(area: &mut [u8], to: u8, v: View, r: u8) -> usize
     requires { ⌜ fieldsEnd 7 ≤ length (now area) ⌝ }
-    ensures { λ k. ⌜ Wrote (encode to (Message.StartViewChange v r) []) (now (area .entry)) (now (area .exit)) k ⌝ }
+    ensures { λ k. ⌜ Wrote (encode to (Message.StartViewChange v r) []) (was area) (last area) k ⌝ }
 {
     parts::write_viewed(area, 8, 7, to, v);
     numbers::write_u8(&mut area[11..], r);
@@ -86,7 +87,7 @@ pub fn do_view_change(
     log: &[u8],
 ) -> usize
     requires { ⌜ (o .0 ≤ 4096) × ((32 * o .0 ≤ length (now log)) × (fieldsEnd 8 + 32 * o .0 ≤ length (now area))) ⌝ }
-    ensures { λ k. ⌜ Wrote (encode to (Message.DoViewChange v r l o c) (take (32 * o .0) (now (log .entry)))) (now (area .entry)) (now (area .exit)) k ⌝ }
+    ensures { λ k. ⌜ Wrote (encode to (Message.DoViewChange v r l o c) (take (32 * o .0) (was log))) (was area) (last area) k ⌝ }
 {
     let n = 32 * (o.0 as usize);
     parts::write_report(area, 20 + 32 * o.0, to, v, r, l);
@@ -98,7 +99,7 @@ pub fn do_view_change(
 
 pub fn start_view(area: &mut [u8], to: u8, v: View, o: Op, c: Op, log: &[u8]) -> usize
     requires { ⌜ (o .0 ≤ 4096) × ((32 * o .0 ≤ length (now log)) × (fieldsEnd 9 + 32 * o .0 ≤ length (now area))) ⌝ }
-    ensures { λ k. ⌜ Wrote (encode to (Message.StartView v o c) (take (32 * o .0) (now (log .entry)))) (now (area .entry)) (now (area .exit)) k ⌝ }
+    ensures { λ k. ⌜ Wrote (encode to (Message.StartView v o c) (take (32 * o .0) (was log))) (was area) (last area) k ⌝ }
 {
     let n = 32 * (o.0 as usize);
     parts::write_viewed(area, 15 + 32 * o.0, 9, to, v);
@@ -110,7 +111,7 @@ pub fn start_view(area: &mut [u8], to: u8, v: View, o: Op, c: Op, log: &[u8]) ->
 
 pub fn recovery(area: &mut [u8], to: u8, r: u8, x: u64, v: View) -> usize
     requires { ⌜ fieldsEnd 10 ≤ length (now area) ⌝ }
-    ensures { λ k. ⌜ Wrote (encode to (Message.Recovery r x v) []) (now (area .entry)) (now (area .exit)) k ⌝ }
+    ensures { λ k. ⌜ Wrote (encode to (Message.Recovery r x v) []) (was area) (last area) k ⌝ }
 {
     parts::write_header(area, 16, 10, to);
     numbers::write_u8(&mut area[7..], r);
@@ -122,7 +123,7 @@ pub fn recovery(area: &mut [u8], to: u8, r: u8, x: u64, v: View) -> usize
 // A RecoveryResponse of a replica that does not lead.
 pub fn response_bare(area: &mut [u8], to: u8, v: View, x: u64, r: u8) -> usize
     requires { ⌜ fieldsEnd 11 ≤ length (now area) ⌝ }
-    ensures { λ k. ⌜ Wrote (encode to (Message.RecoveryResponse v x r RecoveryState.Absent) []) (now (area .entry)) (now (area .exit)) k ⌝ }
+    ensures { λ k. ⌜ Wrote (encode to (Message.RecoveryResponse v x r RecoveryState.Absent) []) (was area) (last area) k ⌝ }
 {
     parts::write_response(area, 17, to, v, x, r, 0);
     21
@@ -140,7 +141,7 @@ pub fn response_full(
     log: &[u8],
 ) -> usize
     requires { ⌜ (o .0 ≤ 4096) × ((32 * o .0 ≤ length (now log)) × (stateEnd + 32 * o .0 ≤ length (now area))) ⌝ }
-    ensures { λ k. ⌜ Wrote (encode to (Message.RecoveryResponse v x r (RecoveryState.Present o c)) (take (32 * o .0) (now (log .entry)))) (now (area .entry)) (now (area .exit)) k ⌝ }
+    ensures { λ k. ⌜ Wrote (encode to (Message.RecoveryResponse v x r (RecoveryState.Present o c)) (take (32 * o .0) (was log))) (was area) (last area) k ⌝ }
 {
     let n = 32 * (o.0 as usize);
     parts::write_response(area, 25 + 32 * o.0, to, v, x, r, 1);

@@ -8,6 +8,7 @@ ghost use lib.Dec.{eqb};
 ghost use Rattle.numbers.specs.Words.{if_then_else_};
 ghost use Rattle.frames.specs.Kinds.{fieldsEnd};
 ghost use Rattle.writers.specs.Writers.{encode, reply, stateSize, sizeOf, lengthOf, Room, toOthers};
+ghost use Rattle.numbers.specs.Lending.{was, last};
 use entries::Entry;
 use frames::Message;
 use frames::RecoveryState;
@@ -26,7 +27,7 @@ pub struct Size {
 // A Request to replica `to`.
 pub fn write_request(area: &mut [u8], to: u8, e: Entry) -> usize
     requires { ⌜ fieldsEnd 1 + 32 ≤ length (now area) ⌝ }
-    ensures { λ k. ⌜ Wrote (encode to (Message.Request e) []) (now (area .entry)) (now (area .exit)) k ⌝ }
+    ensures { λ k. ⌜ Wrote (encode to (Message.Request e) []) (was area) (last area) k ⌝ }
 {
     parts::write_header(area, 35, 1, to);
     entries::write_entry(&mut area[7..], e);
@@ -43,7 +44,7 @@ pub fn write_reply(
     total: u64,
 ) -> usize
     requires { ⌜ 36 ≤ length (now area) ⌝ }
-    ensures { λ k. ⌜ Wrote (reply v client request outcome total) (now (area .entry)) (now (area .exit)) k ⌝ }
+    ensures { λ k. ⌜ Wrote (reply v client request outcome total) (was area) (last area) k ⌝ }
 {
     parts::write_answered(area, v, client, request);
     numbers::write_u8(&mut area[27..], outcome);
@@ -112,7 +113,7 @@ fn write_state(
     log: &[u8],
 ) -> usize
     requires { ⌜ Room (Message.RecoveryResponse v x r state) (length (now log)) (length (now area)) ⌝ }
-    ensures { λ k. ⌜ Wrote (encode to (Message.RecoveryResponse v x r state) (take (32 * sizeOf (Message.RecoveryResponse v x r state) .entries) (now (log .entry)))) (now (area .entry)) (now (area .exit)) k ⌝ }
+    ensures { λ k. ⌜ Wrote (encode to (Message.RecoveryResponse v x r state) (take (32 * sizeOf (Message.RecoveryResponse v x r state) .entries) (was log))) (was area) (last area) k ⌝ }
 {
     match state {
         RecoveryState::Absent => kinds::response_bare(area, to, v, x, r),
@@ -132,7 +133,7 @@ fn write_state(
 // A message's frame to replica `to`. `log` begins with the entries that it carries.
 pub fn write_frame(area: &mut [u8], to: u8, m: Message, log: &[u8]) -> usize
     requires { ⌜ Room m (length (now log)) (length (now area)) ⌝ }
-    ensures { λ k. ⌜ Wrote (encode to m (take (32 * sizeOf m .entries) (now (log .entry)))) (now (area .entry)) (now (area .exit)) k ⌝ }
+    ensures { λ k. ⌜ Wrote (encode to m (take (32 * sizeOf m .entries) (was log))) (was area) (last area) k ⌝ }
 {
     match m {
         Message::Request { entry } => write_request(area, to, entry),
@@ -180,7 +181,7 @@ pub fn write_frame(area: &mut [u8], to: u8, m: Message, log: &[u8]) -> usize
 // A message's frame, or nothing where it would go to ourselves.
 fn write_other(area: &mut [u8], to: u8, me: u8, m: Message, log: &[u8]) -> usize
     requires { ⌜ ((to ≡ me → ⊥) → Room m (length (now log)) (length (now area))) ⌝ }
-    ensures { λ k. ⌜ Wrote (if eqb to me then [] else encode to m (take (32 * sizeOf m .entries) (now (log .entry)))) (now (area .entry)) (now (area .exit)) k ⌝ }
+    ensures { λ k. ⌜ Wrote (if eqb to me then [] else encode to m (take (32 * sizeOf m .entries) (was log))) (was area) (last area) k ⌝ }
 {
     if to == me {
         return 0;
@@ -191,7 +192,7 @@ fn write_other(area: &mut [u8], to: u8, me: u8, m: Message, log: &[u8]) -> usize
 // A message to each replica but ourselves, in id order: the rest of the area is lent to the next frame.
 pub fn broadcast(area: &mut [u8], n: u8, me: u8, m: Message, log: &[u8]) -> usize
     requires { ⌜ (me < n) × ((sizeOf m .entries ≤ 4096) × ((32 * sizeOf m .entries ≤ length (now log)) × ((n - 1) * lengthOf m ≤ length (now area)))) ⌝ }
-    ensures { λ k. ⌜ Wrote (toOthers n me m (take (32 * sizeOf m .entries) (now (log .entry)))) (now (area .entry)) (now (area .exit)) k ⌝ }
+    ensures { λ k. ⌜ Wrote (toOthers n me m (take (32 * sizeOf m .entries) (was log))) (was area) (last area) k ⌝ }
 {
     let mut at = 0;
     let mut to = 0;

@@ -11,7 +11,7 @@ returns c =
     let t = c .before .before .before .before .before .before .before .before .before .before .before .before in
     let a = t .args in
     let m = memory (a .log .now) (a .results .now) (a .totals .now) (a .acks .now) (a .stored .now) (a .out .now) (a .reps .now) in
-    too-old (a .s) (a .v) (a .r) (a .last) (a .o) (a .c) (a .part .now) m (c .before .if1 .taken) _ (c .done .ensures)
+    too-old (a .s) (a .v) (a .r) (a .normal) (a .o) (a .c) (a .part .now) m (c .before .if1 .taken) _ (c .done .ensures)
 
 returns-2 : tie.Need-returns-2
 returns-2 c =
@@ -20,7 +20,7 @@ returns-2 c =
     let t = c2 .before .before .before .before .before .before .before .before .before .before .before in
     let a = t .args in
     let m = memory (a .log .now) (a .results .now) (a .totals .now) (a .acks .now) (a .stored .now) (a .out .now) (a .reps .now) in
-    not-ours (a .s) (a .v) (a .r) (a .last) (a .o) (a .c) (a .part .now) m (c2 .if1 .left) _ (c1 .primary-id .ensures .0)
+    not-ours (a .s) (a .v) (a .r) (a .normal) (a .o) (a .c) (a .part .now) m (c2 .if1 .left) _ (c1 .primary-id .ensures .0)
     (c .before .if2 .taken) _ (c .done2 .ensures)
 
 record-frame-requires : tie.Need-record-frame-requires
@@ -32,7 +32,7 @@ record-frame-requires c κs =
     let a = t .args in
     let m = memory (a .log .now) (a .results .now) (a .totals .now) (a .acks .now) (a .stored .now) (a .out .now) (a .reps .now) in (
       moved-gathers (a .s) (a .v) m _ (c1 .changing-to .ensures) (t .pre .0),
-      report-told _ (a .r) (a .last) (a .o) (a .c) (a .part .now) _ (c2 .report .ensures)
+      report-told _ (a .r) (a .normal) (a .o) (a .c) (a .part .now) _ (c2 .report .ensures)
           (moved-told (a .s) (a .v) _ (a .r) (a .o) (a .c) (a .part .now) (c1 .changing-to .ensures) (t .pre .1)),
     )
 
@@ -48,7 +48,7 @@ returns-3 c =
     let t = c7 .before .before .before .before .before .before .before .before .before .before .before in
     let a = t .args in
     let m = memory (a .log .now) (a .results .now) (a .totals .now) (a .acks .now) (a .stored .now) (a .out .now) (a .reps .now) in
-    moves (a .s) (a .v) (a .r) (a .last) (a .o) (a .c) (a .part .now) m (c7 .if1 .left) _ (c6 .primary-id .ensures .0) (c5 .if2 .left)
+    moves (a .s) (a .v) (a .r) (a .normal) (a .o) (a .c) (a .part .now) m (c7 .if1 .left) _ (c6 .primary-id .ensures .0) (c5 .if2 .left)
     (c3 .if3 .taken) _ _ _ (c2 .changing-to .ensures) (c4 .report .ensures) (c1 .record-frame .ensures)
 
 send-start-view-requires : tie.Need-send-start-view-requires
@@ -70,7 +70,7 @@ returns-4 c =
     let t = c7 .before .before .before .before .before .before .before .before .before .before .before in
     let a = t .args in
     let m = memory (a .log .now) (a .results .now) (a .totals .now) (a .acks .now) (a .stored .now) (a .out .now) (a .reps .now) in
-    tells-view (a .s) (a .v) (a .r) (a .last) (a .o) (a .c) (a .part .now) m (c7 .if1 .left) _ (c6 .primary-id .ensures .0) (c5 .if2 .left)
+    tells-view (a .s) (a .v) (a .r) (a .normal) (a .o) (a .c) (a .part .now) m (c7 .if1 .left) _ (c6 .primary-id .ensures .0) (c5 .if2 .left)
     (c4 .if3 .left) _ (c3 .is-normal .ensures) (c2 .if4 .taken) _ _ (c1 .send-start-view .ensures)
 
 record-frame-requires-2 : tie.Need-record-frame-requires-2
@@ -79,7 +79,7 @@ record-frame-requires-2 c κs =
     let c2 = c1 .before .before .before .before .before .before .before .before .before .before .before .before in
     let t = c2 .before .before .before in
     let a = t .args in
-    (t .pre .0, report-told _ (a .r) (a .last) (a .o) (a .c) (a .part .now) _ (c1 .report .ensures) (t .pre .1))
+    (t .pre .0, report-told _ (a .r) (a .normal) (a .o) (a .c) (a .part .now) _ (c1 .report .ensures) (t .pre .1))
 
 returns-5 : tie.Need-returns-5
 returns-5 c =
@@ -94,7 +94,7 @@ returns-5 c =
     let t = c8 .before .before .before .before .before .before .before .before .before .before .before in
     let a = t .args in
     let m = memory (a .log .now) (a .results .now) (a .totals .now) (a .acks .now) (a .stored .now) (a .out .now) (a .reps .now) in
-    gathers (a .s) (a .v) (a .r) (a .last) (a .o) (a .c) (a .part .now) m (c8 .if1 .left) _ (c7 .primary-id .ensures .0) (c6 .if2 .left)
+    gathers (a .s) (a .v) (a .r) (a .normal) (a .o) (a .c) (a .part .now) m (c8 .if1 .left) _ (c7 .primary-id .ensures .0) (c6 .if2 .left)
     (c4 .if3 .left) _ (c3 .is-normal .ensures) (c2 .if4 .left) _ _ (c5 .report .ensures) (c1 .record-frame2 .ensures)
 
 pub on-do-view-change-spec : {M : Type 1} → statement M
