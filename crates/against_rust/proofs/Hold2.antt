@@ -1,8 +1,8 @@
 -- The definitions answer as recorded: antt computes it. By tools/model-replay. Assumes nothing.
 use mathlib.Core.Path.{refl}
 use Rattle.against_rust.specs.Shape.{RunHolds}
-use Rattle.against_rust.specs.Runs2.{run100, run101, run102, run103, run104, run105, run106, run107, run108, run109, run110, run111, run112}
 use Rattle.against_rust.proofs.OpenRuns.{open-runs}
+use Rattle.against_rust.specs.Runs2.{run100, run101, run102, run103, run104, run105, run106, run107, run108, run109, run110, run111, run112}
 
 pub hold100 : RunHolds run100
 unfolding open-runs run100

@@ -1,8 +1,8 @@
 -- The definitions answer as recorded: antt computes it. By tools/model-replay. Assumes nothing.
 use mathlib.Core.Path.{refl}
 use Rattle.against_rust.specs.Shape.{RunHolds}
-use Rattle.recorded.specs.Runs0.{run0, run1, run2, run3, run4, run5, run6, run7, run8, run9, run10, run11, run12, run13, run14, run15, run16}
 use Rattle.against_rust.proofs.OpenRuns.{open-runs}
+use Rattle.recorded.specs.Runs0.{run0, run1, run2, run3, run4, run5, run6, run7, run8, run9, run10, run11, run12, run13, run14, run15, run16}
 
 pub hold0 : RunHolds run0
 unfolding open-runs run0

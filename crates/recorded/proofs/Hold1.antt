@@ -1,8 +1,8 @@
 -- The definitions answer as recorded: antt computes it. By tools/model-replay. Assumes nothing.
 use mathlib.Core.Path.{refl}
 use Rattle.against_rust.specs.Shape.{RunHolds}
-use Rattle.recorded.specs.Runs1.{run17, run18, run19, run20, run21, run22, run23, run24, run25, run26, run27, run28, run29, run30, run31, run32, run33, run34, run35, run36, run37}
 use Rattle.against_rust.proofs.OpenRuns.{open-runs}
+use Rattle.recorded.specs.Runs1.{run17, run18, run19, run20, run21, run22, run23, run24, run25, run26, run27, run28, run29, run30, run31, run32, run33, run34, run35, run36, run37}
 
 pub hold17 : RunHolds run17
 unfolding open-runs run17

@@ -1,8 +1,8 @@
 -- The definitions answer as recorded: antt computes it. By tools/model-replay. Assumes nothing.
 use mathlib.Core.Path.{refl}
 use Rattle.against_rust.specs.Shape.{RunHolds}
-use Rattle.recorded.specs.Runs2.{run38, run39, run40, run41, run42, run43, run44, run45, run46, run47, run48, run49}
 use Rattle.against_rust.proofs.OpenRuns.{open-runs}
+use Rattle.recorded.specs.Runs2.{run38, run39, run40, run41, run42, run43, run44, run45, run46, run47, run48, run49}
 
 pub hold38 : RunHolds run38
 unfolding open-runs run38

@@ -1,8 +1,8 @@
 -- The definitions answer as recorded: antt computes it. By tools/model-replay. Assumes nothing.
 use mathlib.Core.Path.{refl}
 use Rattle.against_rust.specs.Shape.{RunHolds}
-use Rattle.recorded.specs.Runs3.{run50, run51, run52, run53, run54, run55, run56, run57, run58, run59, run60, run61, run62, run63, run64, run65, run66}
 use Rattle.against_rust.proofs.OpenRuns.{open-runs}
+use Rattle.recorded.specs.Runs3.{run50, run51, run52, run53, run54, run55, run56, run57, run58, run59, run60, run61, run62, run63, run64, run65, run66}
 
 pub hold50 : RunHolds run50
 unfolding open-runs run50
