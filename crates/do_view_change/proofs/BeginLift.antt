@@ -32,7 +32,8 @@ use Rattle.state.specs.Statuses.{isRecovering}
 use Rattle.state.specs.declared.Replica.{Replica}
 use Rattle.steps.specs.Steps.{committedTo}
 use Rattle.do_view_change.specs.Begin.{callsFirst, firstLength, startViewsLength, startViewsOf, ownAcks, entered, owed, begunIn, beginStep}
-use Rattle.do_view_change.specs.Record.{Recorded, Gathering, startedBy}
+use Rattle.steps.specs.Recorded.{Recorded, Gathering}
+use Rattle.do_view_change.specs.Record.{startedBy}
 use Rattle.model.specs.State.{opNumber, ClientEntry, Book, State, Sent, opOf}
 use Rattle.model.specs.Book.{dueEntries, commitUpTo, commitReplies, install}
 use Rattle.model.specs.Sending.{sentBytes, messagesOut, repliesOut, startViewOf, startViewToOthers}

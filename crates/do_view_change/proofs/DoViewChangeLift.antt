@@ -35,11 +35,12 @@ use Rattle.state.specs.Statuses.{isRecovering, noReport}
 use Rattle.state.specs.Answers.{refusal, completed}
 use Rattle.state.specs.declared.Replica.{Replica}
 use Rattle.steps.specs.Steps.{spoke}
-use Rattle.reports.specs.Sound.{reportOk, reportsOk}
+use Rattle.state.specs.Sound.{reportOk, reportsOk}
 use Rattle.view_change.specs.StartView.{LogHeld}
 use Rattle.view_change.proofs.StartViewChangeLaws.{calls-long}
 use Rattle.do_view_change.specs.Begin.{callsFirst, firstLength}
-use Rattle.do_view_change.specs.Record.{Recorded, Told, reportOf, recordStep, reportLength, reportTo, toldPrimary, sendStep, doViewChangeStep}
+use Rattle.steps.specs.Recorded.{Recorded}
+use Rattle.do_view_change.specs.Record.{Told, reportOf, recordStep, reportLength, reportTo, toldPrimary, sendStep, doViewChangeStep}
 use Rattle.model.specs.State.{ClientEntry, Book, State, Sent, Reported, Answer, opOf}
 use Rattle.model.specs.State.Answer.{done}
 use Rattle.model.specs.Sending.{sentBytes, messagesOut, primary, isPrimary, toPrimary, sendStartViewChange, doViewChangeToPrimary}

@@ -5,3 +5,6 @@ pub mod TellLaws
 pub mod BeginLift
 pub mod RecordLift
 pub mod DoViewChangeLift
+pub mod RecordStays
+pub mod RecordRuled
+pub mod RefusedRecord

@@ -32,12 +32,13 @@ use Rattle.reports.specs.Rows.{withReport}
 use Rattle.reports.specs.Judge.{Lies, Fits}
 use Rattle.reports.specs.Store.{keptLog, chosenOver}
 use Rattle.reports.specs.declared.Best.{Best}
-use Rattle.reports.proofs.RowLaws.{rows-ok-is}
+use Rattle.state.proofs.SoundLaws.{rows-ok-is}
 use Rattle.reports.proofs.JudgeLaws.{length-chosen, begin-lies}
 use Rattle.reports.proofs.StoreLaws.{install-fits}
 use Rattle.steps.specs.Steps.{Sound}
 use Rattle.do_view_change.specs.Begin.{callsFirst, firstLength, startViewsLength, entered, owed, begun, beginStep}
-use Rattle.do_view_change.specs.Record.{recorded, Gathering, Told}
+use Rattle.steps.specs.Recorded.{recorded, Gathering}
+use Rattle.do_view_change.specs.Record.{Told}
 use Rattle.do_view_change.specs.Record.{decided, keptBy, withBegun, startedBy, byDecision, recordStep}
 use Rattle.do_view_change.specs.declared.Decision.{Decision}
 use Rattle.do_view_change.specs.declared.Decision.the-variants.{Keep, No, Start}

@@ -35,7 +35,7 @@ use Rattle.reports.specs.Store.{chosenOver}
 use Rattle.reports.specs.declared.Best.{Best}
 use Rattle.reports.specs.declared.Judged.{Judged}
 use Rattle.reports.specs.declared.Judged.the-variants.{Wait, Refuse, Begin}
-use Rattle.reports.proofs.RowLaws.{rows-ok-is}
+use Rattle.state.proofs.SoundLaws.{rows-ok-is}
 use Rattle.reports.proofs.WholeLaws.{runOf, Whole, new-whole, chosen-whole, lent-is}
 use Rattle.do_view_change.specs.Begin.{callsFirst, firstLength}
 use Rattle.do_view_change.specs.Record.{Told, reportOf, decidedBy, decided, keptBy, startedBy, byDecision, recordStep}

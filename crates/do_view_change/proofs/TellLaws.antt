@@ -30,12 +30,13 @@ use Rattle.state.specs.Answers.{refusal, completed, quiet}
 use Rattle.state.specs.declared.Returned.{Returned}
 use Rattle.state.specs.declared.Replica.{Replica}
 use Rattle.state.specs.declared.Report.{Report}
-use Rattle.reports.specs.Sound.{reportOk, reportsOk}
+use Rattle.state.specs.Sound.{reportOk, reportsOk}
 use Rattle.steps.specs.Steps.{spoke}
 use Rattle.book.specs.Memory.{runs, Memory}
 use Rattle.view_change.specs.StartView.{LogHeld, sentStartView}
 use Rattle.do_view_change.specs.Begin.{callsFirst, firstLength}
-use Rattle.do_view_change.specs.Record.{Recorded, recorded, onlySent, Gathering, Told, reportOf, ownReport}
+use Rattle.steps.specs.Recorded.{Recorded, recorded, onlySent, Gathering}
+use Rattle.do_view_change.specs.Record.{Told, reportOf, ownReport}
 use Rattle.do_view_change.specs.Record.{recordStep}
 use Rattle.do_view_change.specs.Record.{reportLength, reportTo, toldPrimary, sendStep, doViewChangeStep}
 use Rattle.do_view_change.proofs.BeginLaws.{first-small, first-long}

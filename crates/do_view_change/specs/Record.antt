@@ -1,7 +1,6 @@
 -- record_do_view_change, send_do_view_change and on_do_view_change, on the state by value and the bytes of the lent runs. The quorum is judged
 -- before anything is stored: 7, then 9 and 10, and a refusal undoes the whole call. The report that completes a quorum is not stored.
 -- Assumes nothing.
-use mathlib.Core.Path.{_≡_}
 use mathlib.Core.Bool.{Bool, true, false, not}
 use mathlib.Core.List.{List, _++_}
 use Prim.Native.Nat.{ℕ, _+_, _*_, _≤_, _<_}
@@ -17,48 +16,21 @@ use Rattle.writers.specs.Writers.{encode}
 use Rattle.state.specs.State.{leads, changingTo, withReports}
 use Rattle.state.specs.Statuses.{isNormal}
 use Rattle.state.specs.Answers.{refusal, completed, quiet}
-use Rattle.state.specs.Lengths.{acksLength, storedLength}
-use Rattle.state.specs.declared.Returned.{Returned}
 use Rattle.state.specs.declared.Replica.{Replica}
 use Rattle.state.specs.declared.Report.{Report}
 use Rattle.state.specs.declared.Reports.{Reports}
 use Rattle.reports.specs.Rows.{withReport}
-use Rattle.reports.specs.Sound.{reportsOk}
 use Rattle.reports.specs.Judge.{judged}
 use Rattle.reports.specs.Store.{keptLog, chosenOver}
 use Rattle.reports.specs.declared.Judged.{Judged}
 use Rattle.reports.specs.declared.Judged.the-variants.{Wait, Refuse, Begin}
-use Rattle.steps.specs.Steps.{Sound, Spoke, spoke}
-use Rattle.book.specs.Memory.{Memory, memory, Run, memoryBefore, memoryAfter}
+use Rattle.steps.specs.Steps.{Spoke, spoke}
+use Rattle.steps.specs.Recorded.{Recorded, recorded, onlySent}
+use Rattle.book.specs.Memory.{Memory}
 use Rattle.view_change.specs.StartView.{sentStartView}
 use Rattle.do_view_change.specs.Begin.{callsFirst, firstLength, startViewsLength, entered, owed, Begun, beginStep}
 use Rattle.do_view_change.specs.declared.Decision.{Decision}
 use Rattle.do_view_change.specs.declared.Decision.the-variants.{Keep, No, Start}
-
--- what a call leaves
-pub record Recorded : Type 0 where
-  pub answer : Returned
-  pub memory : Memory
-
-abbrev pub recorded : Returned → Memory → Recorded
-recorded a m = record { answer = a; memory = m }
-
--- a call that answers a, on these runs, does this step
-abbrev pub Does : (Memory → Recorded) → Returned → (log results totals acks stored out reps : Run) → Type 0
-Does step a log results totals acks stored out reps =
-    recorded a (memoryAfter log results totals acks stored out reps) ≡ step (memoryBefore log results totals acks stored out reps)
-
--- a call that only sends
-abbrev pub onlySent : Memory → Spoke → Recorded
-onlySent m d =
-    recorded (d .answer) (record { runs = m .runs; acks = m .acks; stored = m .stored; out = d .out; reps = m .reps })
-
--- what refusal 1 leaves
-pub record Gathering (s : Replica) (m : Memory) : Type 0 where
-  pub sound : Sound s (m .runs)
-  pub reports : reportsOk (s .setup .room) (take (s .setup .n) (s .reports .rows)) ≡ true
-  pub acks-long : length (m .acks) ≡ acksLength (s .setup)
-  pub stored-long : length (m .stored) ≡ storedLength (s .setup)
 
 -- what refusals 3 to 5 leave of a report of replica r, whose log is in `fresh`
 pub record Told (s : Replica) (r : ℕ) (o c : Op) (fresh : List ℕ) : Type 0 where

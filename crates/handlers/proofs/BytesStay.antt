@@ -27,26 +27,29 @@ use Rattle.reports.specs.declared.Best.{Best}
 use Rattle.reports.specs.declared.Judged.{Judged}
 use Rattle.reports.specs.declared.Judged.the-variants.{Wait, Refuse, Begin}
 use Rattle.normal.specs.Request as Request
-use Rattle.normal.specs.Request.{requestStep}
+use Rattle.normal.specs.Request.{requestStep, ofServed}
 use Rattle.normal.specs.PrepareOk as PrepareOk
-use Rattle.normal.specs.PrepareOk.{Counted, prepareOkStep}
+use Rattle.normal.specs.PrepareOk.{Counted, prepareOkStep, ofCounted}
 use Rattle.normal.specs.declared.prepare_ok.Count.{Count}
 use Rattle.normal.specs.declared.prepare_ok.Count.the-variants as Counts
 use Rattle.normal.specs.declared.request.RequestVerdict.{RequestVerdict}
 use Rattle.normal.specs.declared.request.RequestVerdict.the-variants as Calls
 use Rattle.view_change.specs.StartView as StartView
-use Rattle.view_change.specs.StartView.{Joined, joinedBy, startViewStep}
+use Rattle.view_change.specs.StartView.{Joined, joinedBy, startViewStep, ofJoined}
 use Rattle.view_change.specs.declared.StartViewVerdict.{StartViewVerdict}
 use Rattle.view_change.specs.declared.StartViewVerdict.the-variants as Joins
 use Rattle.do_view_change.specs.Begin.{begunIn, beginStep}
-use Rattle.do_view_change.specs.Record.{Recorded, keptBy, startedBy, byDecision, recordStep, sendStep, doViewChangeStep}
+use Rattle.steps.specs.Recorded.{Recorded}
+use Rattle.do_view_change.specs.Record.{keptBy, startedBy, byDecision, recordStep, sendStep, doViewChangeStep}
 use Rattle.book.specs.Memory.{Memory}
 use Rattle.do_view_change.specs.declared.Decision.{Decision}
 use Rattle.do_view_change.specs.declared.Decision.the-variants.{Keep, No, Start}
 use Rattle.voting.specs.Votes.{maybeStep, sameView, startViewChangeStep}
 use Rattle.voting.specs.Tick.{repeated, changeTick}
-use Rattle.recovery.specs.Recovery.{Collected, byResponse, recoveredBy, collectedBy, responseStep}
-use Rattle.handlers.specs.Handlers.{ofServed, ofCounted, ofJoined, ofCollected, preparedBy, partOf, handled, messageStep, changingTick, idleStep}
+use Rattle.recovery.specs.Recovery.{Collected, byResponse, recoveredBy, collectedBy, responseStep, ofCollected}
+use Rattle.normal.specs.Prepare.{preparedBy}
+use Rattle.transfer.specs.NewState.{partOf}
+use Rattle.handlers.specs.Handlers.{handled, messageStep, changingTick, idleStep}
 use Rattle.handlers.proofs.RunBytes.{RunBytes, entry-bytes, with-bytes, with-log, committed-bytes, settled-bytes}
 use Rattle.handlers.proofs.RunBytes.{acked-bytes, commit-bytes, prepare-bytes, new-state-bytes}
 use Rattle.frames.proofs.MessageLaws.{carried-in-bytes}

@@ -24,16 +24,22 @@ use Rattle.steps.specs.Steps.{Spoke}
 use Rattle.normal.specs.Tick.{primaryTick}
 use Rattle.transfer.specs.GetState.{getStateStep}
 use Rattle.transfer.specs.Tick.{transferTick}
-use Rattle.do_view_change.specs.Record.{Recorded, Gathering, onlySent}
+use Rattle.steps.specs.Recorded.{Recorded, Gathering, onlySent}
 use Rattle.book.specs.Memory.{Memory}
 use Rattle.voting.specs.Tick.{nextView, nextViewAsking, repeated, changeTick}
 use Rattle.recovery.specs.Recovery.{recoveringTick, fullAnswer, bareAnswer, recoveryStep}
-use Rattle.handlers.specs.Handlers.{preparedBy, partOf, handled, messageStep, followTick, normalTick, askTick, changingTick, idleStep}
+use Rattle.normal.specs.Prepare.{preparedBy}
+use Rattle.transfer.specs.NewState.{partOf}
+use Rattle.handlers.specs.Handlers.{handled, messageStep, followTick, normalTick, askTick, changingTick, idleStep}
 use Rattle.handlers.proofs.FrameLaws.{request-ok, prepare-ok, new-state-fit, new-state-ok, report-fit, report-ok, start-view-fit, start-view-ok, response-fit, response-ok}
-use Rattle.handlers.proofs.Ruled.{Has, has, cleared, still, asked-has, started-has}
-use Rattle.handlers.proofs.NormalRuled.{request-ruled, prepare-ruled, prepare-ok-ruled, commit-ruled, new-state-ruled}
-use Rattle.handlers.proofs.ChangeRuled.{start-view-ruled, send-ruled, called-ruled, do-view-change-ruled, start-view-change-ruled, response-ruled}
-pub use Rattle.handlers.proofs.Ruled.{Ruled, RuledBy}
+use Rattle.steps.proofs.Ruled.{Has, has, cleared, still, asked-has}
+use Rattle.view_change.proofs.ChangeRuled.{started-has, start-view-ruled}
+use Rattle.normal.proofs.NormalRuled.{request-ruled, prepare-ruled, prepare-ok-ruled, commit-ruled}
+use Rattle.transfer.proofs.TransferRuled.{new-state-ruled}
+use Rattle.do_view_change.proofs.RecordRuled.{send-ruled, do-view-change-ruled}
+use Rattle.voting.proofs.VoteRuled.{called-ruled, start-view-change-ruled}
+use Rattle.recovery.proofs.RecoveryRuled.{response-ruled}
+pub use Rattle.steps.proofs.Ruled.{Ruled, RuledBy}
 
 module _ (s : Replica) (m : Memory) (h : Has s m) where
   abbrev SentRuled : Spoke → Type 0

@@ -30,20 +30,21 @@ use Rattle.state.specs.declared.Returned.{Returned}
 use Rattle.state.specs.declared.Replica.{Replica}
 use Rattle.book.specs.Memory.{money, runs, Memory, memory}
 use Rattle.steps.specs.Steps.{left, Spoke, spoke}
-use Rattle.normal.specs.Request.{served, requestStep}
-use Rattle.normal.specs.Prepare.{prepareStep}
-use Rattle.normal.specs.PrepareOk.{counted, prepareOkStep}
+use Rattle.normal.specs.Request.{served, requestStep, ofServed}
+use Rattle.normal.specs.Prepare.{prepareStep, preparedBy}
+use Rattle.normal.specs.PrepareOk.{counted, prepareOkStep, ofCounted}
 use Rattle.normal.specs.Commit.{commitStep}
 use Rattle.normal.specs.Tick.{primaryTick, backupTick}
 use Rattle.transfer.specs.GetState.{getStateStep}
-use Rattle.transfer.specs.NewState.{newStateStep}
+use Rattle.transfer.specs.NewState.{newStateStep, partOf}
 use Rattle.transfer.specs.Tick.{transferTick}
-use Rattle.view_change.specs.StartView.{joined, startViewStep}
-use Rattle.do_view_change.specs.Record.{Recorded, recorded, onlySent, doViewChangeStep}
+use Rattle.view_change.specs.StartView.{joined, startViewStep, ofJoined}
+use Rattle.steps.specs.Recorded.{Recorded, recorded, onlySent, ofLeft}
+use Rattle.do_view_change.specs.Record.{doViewChangeStep}
 use Rattle.voting.specs.Votes.{startViewChangeStep}
 use Rattle.voting.specs.Tick.{nextView, nextViewAsking, changeTick}
-use Rattle.recovery.specs.Recovery.{collected, recoveringTick, recoveryStep, responseStep}
-use Rattle.handlers.specs.Handlers.{ofServed, ofLeft, ofCounted, ofJoined, ofCollected, preparedBy, partOf, handled, messageStep, followTick, normalTick, askTick, changingTick, idleStep}
+use Rattle.recovery.specs.Recovery.{collected, recoveringTick, recoveryStep, responseStep, ofCollected}
+use Rattle.handlers.specs.Handlers.{handled, messageStep, followTick, normalTick, askTick, changingTick, idleStep}
 
 module _ (s : Replica) (x : Message) (latest : Latest) (frame log results totals acks stored out reps : List ℕ) where
   abbrev m : Memory

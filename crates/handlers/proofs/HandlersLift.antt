@@ -36,11 +36,13 @@ use Rattle.client_table.specs.declared.Latest.{Latest}
 use Rattle.state.specs.State.{leads}
 use Rattle.state.specs.Statuses.{isNormal, isTransfer, isChanging, isRecovering}
 use Rattle.steps.specs.Steps.{Sound, Spoke}
-use Rattle.do_view_change.specs.Record.{Recorded, Gathering}
+use Rattle.steps.specs.Recorded.{Recorded, Gathering}
 use Rattle.voting.specs.Tick.{nextView, nextViewAsking}
 use Rattle.recovery.specs.Recovery.{responseOf}
 use Rattle.handlers.specs.Handlers as H
-use Rattle.handlers.specs.Handlers.{preparedBy, partOf, handled, messageStep, normalTick, askTick, changingTick, idleStep}
+use Rattle.normal.specs.Prepare.{preparedBy}
+use Rattle.transfer.specs.NewState.{partOf}
+use Rattle.handlers.specs.Handlers.{handled, messageStep, normalTick, askTick, changingTick, idleStep}
 use Rattle.handlers.proofs.FrameLaws.{request-ok, prepare-ok, call-fit, new-state-fit, report-fit, report-ok, start-view-fit, start-view-ok, response-fit, response-ok}
 use Rattle.model.specs.State.{ClientEntry, Held, State, Answer, ignored, opOf}
 use Rattle.model.specs.Sending.{primary, isPrimary, sendGetState}

@@ -13,10 +13,16 @@ use Rattle.client_table.specs.declared.Latest.{Latest}
 use Rattle.state.specs.declared.Replica.{Replica}
 use Rattle.transfer.specs.Tick.{transferTick}
 use Rattle.book.specs.Memory.{Memory}
-use Rattle.handlers.specs.Handlers.{preparedBy, partOf, handled, messageStep, followTick, normalTick, askTick, changingTick, idleStep}
-use Rattle.handlers.proofs.RefusedSteps.{Untouched, Speaks, done, asked-untouched}
-use Rattle.handlers.proofs.RefusedNormal.{request-untouched, prepare-untouched, prepare-ok-untouched, commit-untouched, get-state-untouched, new-state-untouched, primary-tick-untouched}
-use Rattle.handlers.proofs.RefusedChange.{start-view-untouched, do-view-change-untouched, start-view-change-untouched, next-view-untouched, next-view-asking-untouched, change-tick-untouched, recovering-untouched, recovery-untouched, response-untouched}
+use Rattle.normal.specs.Prepare.{preparedBy}
+use Rattle.transfer.specs.NewState.{partOf}
+use Rattle.handlers.specs.Handlers.{handled, messageStep, followTick, normalTick, askTick, changingTick, idleStep}
+use Rattle.steps.proofs.RefusedSteps.{Untouched, Speaks, done, asked-untouched}
+use Rattle.normal.proofs.RefusedNormal.{request-untouched, prepare-untouched, prepare-ok-untouched, commit-untouched, primary-tick-untouched}
+use Rattle.transfer.proofs.RefusedTransfer.{get-state-untouched, new-state-untouched}
+use Rattle.view_change.proofs.RefusedChange.{start-view-untouched}
+use Rattle.do_view_change.proofs.RefusedRecord.{do-view-change-untouched}
+use Rattle.voting.proofs.RefusedVote.{start-view-change-untouched, next-view-untouched, next-view-asking-untouched, change-tick-untouched}
+use Rattle.recovery.proofs.RefusedRecovery.{recovering-untouched, recovery-untouched, response-untouched}
 
 -- ---- on_message
 

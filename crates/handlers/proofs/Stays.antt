@@ -22,20 +22,24 @@ use Rattle.client_table.specs.declared.Latest.{Latest}
 use Rattle.state.specs.State.{withClock}
 use Rattle.state.specs.Lengths.{acksLength, storedLength}
 use Rattle.state.specs.declared.Replica.{Replica}
-use Rattle.reports.specs.Sound.{reportsOk}
+use Rattle.state.specs.Sound.{reportsOk}
 use Rattle.steps.specs.Steps.{Spoke}
 use Rattle.normal.specs.Tick.{primaryTick}
 use Rattle.transfer.specs.GetState.{getStateStep}
 use Rattle.transfer.specs.Tick.{transferTick}
-use Rattle.do_view_change.specs.Record.{Recorded, Gathering}
+use Rattle.steps.specs.Recorded.{Recorded, Gathering}
 use Rattle.book.specs.Memory.{Memory}
-use Rattle.handlers.specs.Handlers.{preparedBy, partOf, handled, messageStep, followTick, normalTick, askTick, changingTick, idleStep}
+use Rattle.normal.specs.Prepare.{preparedBy}
+use Rattle.transfer.specs.NewState.{partOf}
+use Rattle.handlers.specs.Handlers.{handled, messageStep, followTick, normalTick, askTick, changingTick, idleStep}
 use Rattle.handlers.proofs.FrameLaws.{new-state-fit, report-fit, start-view-fit, response-fit}
-use Rattle.handlers.proofs.Held.{Held, Kept, as-it-was, moves, asked-held, sent-kept, left-kept, still-kept}
-use Rattle.handlers.proofs.NormalStays.{commit-held, prepare-held, new-state-held, request-kept, prepare-ok-kept}
-use Rattle.handlers.proofs.ChangeStays.{start-view-kept, do-view-change-kept}
-use Rattle.handlers.proofs.VoteStays.{start-view-change-kept, next-view-held, next-view-asking-held, change-tick-kept}
-use Rattle.handlers.proofs.RecoveryStays.{recovering-held, recovery-held, response-kept}
+use Rattle.steps.proofs.Held.{Held, Kept, as-it-was, moves, asked-held, sent-kept, left-kept, still-kept}
+use Rattle.normal.proofs.NormalStays.{commit-held, prepare-held, request-kept, prepare-ok-kept}
+use Rattle.transfer.proofs.TransferStays.{new-state-held}
+use Rattle.view_change.proofs.ChangeStays.{start-view-kept}
+use Rattle.do_view_change.proofs.RecordStays.{do-view-change-kept}
+use Rattle.voting.proofs.VoteStays.{start-view-change-kept, next-view-held, next-view-asking-held, change-tick-kept}
+use Rattle.recovery.proofs.RecoveryStays.{recovering-held, recovery-held, response-kept}
 
 pub record Stays (s : Replica) (d : Recorded) : Type 0 where
   pub gathering : Gathering (d .answer .state) (d .memory)

@@ -6,11 +6,9 @@ use mathlib.Core.List.{List}
 use Prim.Native.Nat.{ℕ}
 use Rattle.numbers.specs.Words.{if_then_else_}
 use Rattle.numbers.specs.declared.View.{View}
-use Rattle.numbers.specs.declared.Op.{Op}
 use Rattle.clock.specs.Clock.{tickOf}
 use Rattle.clock.specs.declared.Ticked.{Ticked}
 use Rattle.clock.specs.declared.Duty.the-variants.{Follow, Change}
-use Rattle.entries.specs.declared.Entry.{Entry}
 use Rattle.frames.specs.Messages.{carriedOf, carriedBytes}
 use Rattle.frames.specs.Looks.{looksAt}
 use Rattle.frames.specs.declared.Message.{Message}
@@ -20,65 +18,22 @@ use Rattle.state.specs.State.{leads}
 use Rattle.state.specs.Statuses.{isNormal, isTransfer, isChanging}
 use Rattle.state.specs.Answers.{quiet}
 use Rattle.state.specs.declared.Replica.{Replica}
-use Rattle.steps.specs.Steps.{Left, Spoke, spoke}
-use Rattle.normal.specs.Request.{Served, requestStep}
-use Rattle.normal.specs.Prepare.{prepareStep}
-use Rattle.normal.specs.PrepareOk.{Counted, prepareOkStep}
+use Rattle.steps.specs.Steps.{Spoke, spoke}
+use Rattle.steps.specs.Recorded.{Recorded, recorded, onlySent, ofLeft}
+use Rattle.normal.specs.Request.{ofServed, requestStep}
+use Rattle.normal.specs.Prepare.{preparedBy, prepareStep}
+use Rattle.normal.specs.PrepareOk.{ofCounted, prepareOkStep}
 use Rattle.normal.specs.Commit.{commitStep}
 use Rattle.normal.specs.Tick.{primaryTick, backupTick}
-use Rattle.normal.specs.declared.prepare.Prepared.{Prepared}
 use Rattle.transfer.specs.GetState.{getStateStep}
-use Rattle.transfer.specs.NewState.{newStateStep}
+use Rattle.transfer.specs.NewState.{partOf, newStateStep}
 use Rattle.transfer.specs.Tick.{transferTick}
-use Rattle.transfer.specs.declared.Part.{Part}
-use Rattle.view_change.specs.StartView.{Joined, startViewStep}
-use Rattle.do_view_change.specs.Record.{Recorded, recorded, onlySent, doViewChangeStep}
+use Rattle.view_change.specs.StartView.{ofJoined, startViewStep}
+use Rattle.do_view_change.specs.Record.{doViewChangeStep}
 use Rattle.book.specs.Memory.{Memory}
 use Rattle.voting.specs.Votes.{startViewChangeStep}
 use Rattle.voting.specs.Tick.{nextView, nextViewAsking, changeTick}
-use Rattle.recovery.specs.Recovery.{Collected, recoveringTick, recoveryStep, responseStep}
-
--- what a handler leaves, beside what it is not lent
-abbrev pub ofServed : Memory → Served → Recorded
-ofServed m d =
-    recorded
-    (d .answer)
-    (record {
-      runs = record { log = d .log; money = m .runs .money };
-      acks = d .acks;
-      stored = m .stored;
-      out = d .out;
-      reps = d .reps;
-    })
-
-abbrev pub ofLeft : Memory → Left → Recorded
-ofLeft m d = recorded (d .answer) (record { runs = d .runs; acks = m .acks; stored = m .stored; out = d .out; reps = m .reps })
-
-abbrev pub ofCounted : Memory → Counted → Recorded
-ofCounted m d =
-    recorded
-    (d .answer)
-    (record {
-      runs = record { log = m .runs .log; money = d .money };
-      acks = d .acks;
-      stored = m .stored;
-      out = m .out;
-      reps = d .reps;
-    })
-
-abbrev pub ofJoined : Memory → Joined → Recorded
-ofJoined m d = recorded (d .answer) (record { runs = d .runs; acks = d .acks; stored = m .stored; out = d .out; reps = m .reps })
-
-abbrev pub ofCollected : Memory → Collected → Recorded
-ofCollected m d = recorded (d .answer) (record { runs = d .runs; acks = m .acks; stored = d .stored; out = m .out; reps = m .reps })
-
--- the numbers of a Prepare beside its view, and the client's row
-abbrev pub preparedBy : (o c : Op) → Entry → Latest → Prepared
-preparedBy o c e latest = record { op = o; commit = c; entry = e; latest = latest }
-
--- those of a NewState
-abbrev pub partOf : (start end commit : Op) → Part
-partOf a z c = record { start = a; end = z; commit = c }
+use Rattle.recovery.specs.Recovery.{ofCollected, recoveringTick, recoveryStep, responseStep}
 
 -- on_message, its match
 unfoldable pub handled : Message → Replica → Latest → (frame : List ℕ) → Memory → Recorded

@@ -5,7 +5,7 @@ ghost use lib.ListN.{length};
 ghost use Rattle.config.specs.Setup.{setupOk};
 ghost use Rattle.steps.specs.Steps.{spoke};
 ghost use Rattle.normal.specs.Tick.{Leading};
-ghost use Rattle.do_view_change.specs.Record.{Gathering, Does};
+ghost use Rattle.steps.specs.Recorded.{Gathering, Does};
 ghost use Rattle.book.specs.Memory.{memoryHeld};
 ghost use Rattle.handlers.specs.Handlers.{followTick, normalTick, askTick, idleStep};
 ghost use Rattle.numbers.specs.Lending.{was, last};

@@ -3,7 +3,7 @@ ghost use mathlib.Core.Path.{_≡_};
 ghost use Rattle.frames.specs.Refusals.{checkFrame};
 ghost use Rattle.frames.specs.declared.Checked.the-variants.{Passed};
 ghost use Rattle.book.specs.Memory.{memoryHeld};
-ghost use Rattle.do_view_change.specs.Record.{Gathering, Does};
+ghost use Rattle.steps.specs.Recorded.{Gathering, Does};
 ghost use Rattle.handlers.specs.Handlers.{handled, messageStep};
 ghost use Rattle.numbers.specs.Lending.{was};
 use client_table::Latest;

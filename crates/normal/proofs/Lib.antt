@@ -8,3 +8,6 @@ pub mod RequestLift
 pub mod PrepareLift
 pub mod PrepareOkLift
 pub mod PrimaryTickLift
+pub mod NormalStays
+pub mod NormalRuled
+pub mod RefusedNormal

@@ -18,10 +18,16 @@ use Rattle.normal.specs.declared.prepare.PrepareVerdict.{PrepareVerdict}
 use Rattle.normal.specs.declared.prepare.PrepareVerdict.the-variants.{Transfer, Again, Refuse, Append}
 use Rattle.normal.specs.declared.prepare.Prepared.{Prepared}
 use Rattle.normal.specs.Request.{nextOp}
+use Rattle.entries.specs.declared.Entry.{Entry}
+use Rattle.client_table.specs.declared.Latest.{Latest}
 
 -- the lower of two op numbers
 abbrev pub lowerOf : Op → Op → Op
 lowerOf a b = record { 0 = min (a .0) (b .0) }
+
+-- the numbers of a Prepare beside its view, and the client's row
+abbrev pub preparedBy : (o c : Op) → Entry → Latest → Prepared
+preparedBy o c e latest = record { op = o; commit = c; entry = e; latest = latest }
 
 -- the next op: refusal 4 where the log has L entries; 6 where the client's row has this number or a later one
 unfoldable pub appendVerdict : Replica → Prepared → PrepareVerdict

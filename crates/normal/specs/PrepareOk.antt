@@ -13,7 +13,7 @@ use Rattle.numbers.specs.declared.Op.{Op}
 use Rattle.entries.specs.Places.{ackPlace}
 use Rattle.config.specs.Replicas.{bit, withMember, quorumOf}
 use Rattle.book.specs.Runs.{moneyCommitted, replies}
-use Rattle.book.specs.Memory.{Money}
+use Rattle.book.specs.Memory.{Money, Memory}
 use Rattle.state.specs.State.{leads}
 use Rattle.state.specs.Statuses.{isNormal}
 use Rattle.state.specs.Answers.{refusal, completed, quiet}
@@ -22,6 +22,7 @@ use Rattle.state.specs.declared.Replica.{Replica}
 use Rattle.steps.specs.Steps.{committedTo}
 use Rattle.normal.specs.declared.prepare_ok.Count.{Count}
 use Rattle.normal.specs.declared.prepare_ok.Count.the-variants.{Nothing, Note, Refuse, Commit}
+use Rattle.steps.specs.Recorded.{Recorded, recorded}
 
 -- what a PrepareOk leaves: the answer, results and totals, acks, and the area for replies
 pub record Counted : Type 0 where
@@ -32,6 +33,19 @@ pub record Counted : Type 0 where
 
 abbrev pub counted : Returned → Money → (acks reps : List ℕ) → Counted
 counted a x acks reps = record { answer = a; money = x; acks = acks; reps = reps }
+
+-- what a PrepareOk leaves, beside what it is not lent
+abbrev pub ofCounted : Memory → Counted → Recorded
+ofCounted m d =
+    recorded
+    (d .answer)
+    (record {
+      runs = record { log = m .runs .log; money = d .money };
+      acks = d .acks;
+      stored = m .stored;
+      out = m .out;
+      reps = d .reps;
+    })
 
 -- a Normal primary, in its view, for an op that isn't moneyCommitted
 unfoldable pub listens : Replica → View → Op → Bool

@@ -29,6 +29,8 @@ use Rattle.state.specs.declared.Returned.{Returned}
 use Rattle.state.specs.declared.Replica.{Replica}
 use Rattle.normal.specs.declared.request.RequestVerdict.{RequestVerdict}
 use Rattle.normal.specs.declared.request.RequestVerdict.the-variants.{Nothing, Resend, Refuse, Append}
+use Rattle.steps.specs.Recorded.{Recorded, recorded}
+use Rattle.book.specs.Memory.{Memory}
 
 -- what refusal 1 leaves, of log and acks
 pub record Ready (s : Replica) (log acks : ℕ) : Type 0 where
@@ -48,6 +50,19 @@ pub record Served : Type 0 where
 
 abbrev pub served : Returned → (log acks out reps : List ℕ) → Served
 served a log acks out reps = record { answer = a; log = log; acks = acks; out = out; reps = reps }
+
+-- what a Request leaves, beside what it is not lent
+abbrev pub ofServed : Memory → Served → Recorded
+ofServed m d =
+    recorded
+    (d .answer)
+    (record {
+      runs = record { log = d .log; money = m .runs .money };
+      acks = d .acks;
+      stored = m .stored;
+      out = d .out;
+      reps = d .reps;
+    })
 
 -- one that was appended leaves the area for replies alone
 pub record Took : Type 0 where

@@ -13,9 +13,9 @@ use Rattle.config.specs.Setup.{setupOk}
 use Rattle.config.specs.declared.Setup.{Setup}
 use Rattle.state.specs.Lengths.{logLength, resultsLength, acksLength, totalsLength, tableLength, storedLength}
 use Rattle.state.specs.declared.Replica.{Replica}
-use Rattle.reports.proofs.RowLaws.{both}
+use Rattle.state.proofs.SoundLaws.{both}
 use Rattle.book.specs.Memory.{Memory}
-use Rattle.do_view_change.specs.Record.{Gathering}
+use Rattle.steps.specs.Recorded.{Gathering}
 use Rattle.outside.specs.declared.Lengths.{Lengths}
 use Rattle.outside.specs.Sound.{lengthsWith, lengthsOk, creatable, sound}
 

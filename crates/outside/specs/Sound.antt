@@ -10,7 +10,7 @@ use Rattle.frames.specs.declared.Status.the-variants.{Normal}
 use Rattle.state.specs.Statuses.{noReports}
 use Rattle.state.specs.Lengths.{logLength, resultsLength, acksLength, totalsLength, tableLength, storedLength}
 use Rattle.state.specs.declared.Replica.{Replica}
-use Rattle.reports.specs.Sound.{reportsOk}
+use Rattle.state.specs.Sound.{reportsOk}
 use Rattle.book.specs.Memory.{Memory}
 use Rattle.outside.specs.declared.Lengths.{Lengths}
 

@@ -49,7 +49,7 @@ use Rattle.reports.specs.Store.{chosenOver}
 use Rattle.reports.specs.declared.Best.{Best}
 use Rattle.reports.specs.declared.Judged.{Judged}
 use Rattle.reports.specs.declared.Judged.the-variants.{Wait, Refuse, Begin}
-use Rattle.reports.proofs.RowLaws.{rows-ok-is}
+use Rattle.state.proofs.SoundLaws.{rows-ok-is}
 use Rattle.reports.proofs.WholeLaws.{runOf, Whole, new-whole, row-whole, lent-is}
 use Rattle.steps.specs.Steps.{Spoke, committedTo, settled}
 use Rattle.steps.proofs.SendLaws.{bare-long}

@@ -30,7 +30,7 @@ use Rattle.reports.specs.Store.{keptLog, chosenOver}
 use Rattle.reports.specs.declared.Best.{Best}
 use Rattle.reports.specs.declared.Judged.{Judged}
 use Rattle.reports.specs.declared.Judged.the-variants.{Wait, Refuse, Begin}
-use Rattle.reports.proofs.RowLaws.{rows-ok-is}
+use Rattle.state.proofs.SoundLaws.{rows-ok-is}
 use Rattle.reports.proofs.JudgeLaws.{response-lies, response-within}
 use Rattle.reports.proofs.StoreLaws.{chosen-over-length}
 use Rattle.steps.specs.Steps.{Sound, committedTo, settled}

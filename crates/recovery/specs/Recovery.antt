@@ -23,15 +23,16 @@ use Rattle.state.specs.declared.Replica.{Replica}
 use Rattle.state.specs.declared.Report.{Report}
 use Rattle.state.specs.declared.Reports.{Reports}
 use Rattle.reports.specs.Rows.{withReport}
-use Rattle.reports.specs.Sound.{reportsOk}
+use Rattle.state.specs.Sound.{reportsOk}
 use Rattle.reports.specs.Judge.{responded}
 use Rattle.reports.specs.Store.{keptLog, chosenOver}
 use Rattle.reports.specs.declared.Best.{Best}
 use Rattle.reports.specs.declared.Judged.{Judged}
 use Rattle.reports.specs.declared.Judged.the-variants.{Wait, Refuse, Begin}
 use Rattle.steps.specs.Steps.{Sound, Spoke, spoke, committedTo, settled}
-use Rattle.book.specs.Memory.{Runs}
+use Rattle.book.specs.Memory.{Runs, Memory}
 use Rattle.view_change.specs.StartViewChange.{startedChange}
+use Rattle.steps.specs.Recorded.{Recorded, recorded}
 
 -- Recovery to all others
 abbrev pub recoveriesLength : Replica → ℕ
@@ -97,6 +98,10 @@ pub record Collected : Type 0 where
 
 abbrev pub collected : Returned → Runs → List ℕ → Collected
 collected a x stored = record { answer = a; runs = x; stored = stored }
+
+-- what a response leaves, beside what it is not lent
+abbrev pub ofCollected : Memory → Collected → Recorded
+ofCollected m d = recorded (d .answer) (record { runs = d .runs; acks = m .acks; stored = d .stored; out = m .out; reps = m .reps })
 
 -- Normal in the view of the chosen response, with its log
 abbrev pub backIn : Replica → Best → Replica

@@ -26,7 +26,7 @@ use Rattle.state.specs.Statuses.{isRecovering, noReport}
 use Rattle.state.specs.Lengths.{acksLength, totalsLength, tableLength}
 use Rattle.state.specs.declared.Returned.{Returned}
 use Rattle.state.specs.declared.Replica.{Replica}
-use Rattle.handlers.proofs.Held.{none-ok}
+use Rattle.steps.proofs.Held.{none-ok}
 use Rattle.model.specs.State.{Reported, Response}
 use Rattle.model.specs.Book.{emptyBook}
 use Rattle.model.specs.ViewChange.{noReports, noAcks}

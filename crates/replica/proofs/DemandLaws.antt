@@ -18,8 +18,8 @@ use Rattle.frames.specs.declared.Checked.the-variants.{Passed, Refused}
 use Rattle.client_table_bytes.specs.Steps.{oldAfter}
 use Rattle.state.specs.Answers.{refusal}
 use Rattle.state.specs.declared.Replica.{Replica}
-use Rattle.do_view_change.specs.Record.{Recorded}
-use Rattle.handlers.proofs.RefusedSteps as S
+use Rattle.steps.specs.Recorded.{Recorded}
+use Rattle.steps.proofs.RefusedSteps as S
 use Rattle.handlers.proofs.RefusedStays as R
 use Rattle.model.specs.State.{State, Answer, after}
 use Rattle.model.specs.State.Answer.{refused, done}

@@ -26,10 +26,10 @@ use Rattle.client_table_bytes.proofs.LayoutLaws.{left-size, byte-lawful}
 use Rattle.state.specs.Answers.{refusal}
 use Rattle.state.specs.Lengths.{tableLength}
 use Rattle.state.specs.declared.Replica.{Replica}
-use Rattle.do_view_change.specs.Record.{Recorded, recorded}
+use Rattle.steps.specs.Recorded.{Recorded, recorded}
 use Rattle.handlers.proofs.Stays.{Stays}
 use Rattle.handlers.proofs.RunBytes.{RunBytes}
-use Rattle.handlers.proofs.Ruled.{RuledBy}
+use Rattle.steps.proofs.Ruled.{RuledBy}
 use Rattle.model.specs.State.{ClientEntry, State, Sent, Reply, Answer, after}
 use Rattle.model.specs.State.Answer.{refused, done}
 use Rattle.layout.specs.Layout.{tableOf, Ordered, bookOf, modelOf}

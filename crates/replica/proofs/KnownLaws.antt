@@ -42,8 +42,9 @@ use Rattle.normal.specs.declared.prepare.PrepareVerdict.{PrepareVerdict}
 use Rattle.normal.specs.declared.prepare.PrepareVerdict.the-variants.{Transfer, Again, Refuse, Append}
 use Rattle.normal.specs.declared.request.RequestVerdict.{RequestVerdict}
 use Rattle.normal.specs.declared.request.RequestVerdict.the-variants as Calls
-use Rattle.do_view_change.specs.Record.{Recorded, recorded, Gathering}
-use Rattle.handlers.specs.Handlers.{preparedBy, handled, messageStep}
+use Rattle.steps.specs.Recorded.{Recorded, recorded, Gathering}
+use Rattle.normal.specs.Prepare.{preparedBy}
+use Rattle.handlers.specs.Handlers.{handled, messageStep}
 use Rattle.handlers.proofs.FrameLaws.{request-ok, prepare-ok}
 use Rattle.outside.specs.Calls.{carriedBy, nobody, changeBy}
 use Rattle.outside.specs.declared.call.Carrying.{Carrying}

@@ -16,7 +16,7 @@ use Rattle.state.specs.declared.Replica.{Replica}
 use Rattle.handlers.specs.Handlers.{messageStep, idleStep}
 use Rattle.handlers.proofs.Stays.{message-stays, idle-stays}
 use Rattle.handlers.proofs.BytesStay.{InBytes, message-bytes, idle-bytes}
-use Rattle.handlers.proofs.Ruled.{Ruled}
+use Rattle.steps.proofs.Ruled.{Ruled}
 use Rattle.handlers.proofs.EntriesStay.{message-ruled, idle-ruled}
 use Rattle.model.specs.State.{State, Answer, after}
 use Rattle.model.specs.Steps.{fitted, onChecked, onIdle, onFrame, onTick}

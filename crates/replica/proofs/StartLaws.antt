@@ -22,7 +22,7 @@ use Rattle.writers.specs.Writers.{sizeOf, lengthOf}
 use Rattle.state.specs.State.{newIn}
 use Rattle.state.specs.Answers.{refusal, completed, quiet}
 use Rattle.state.specs.declared.Replica.{Replica}
-use Rattle.reports.proofs.RowLaws.{both}
+use Rattle.state.proofs.SoundLaws.{both}
 use Rattle.steps.proofs.SendLaws.{bare-long}
 use Rattle.recovery.specs.Recovery.{recoveriesLength, recoveriesOf}
 use Rattle.model.specs.State.{State, Answer}

@@ -28,7 +28,7 @@ use Rattle.client_table_bytes.proofs.LayoutLaws.{left-same}
 use Rattle.state.specs.Answers.{refusal}
 use Rattle.state.specs.Lengths.{tableLength}
 use Rattle.state.specs.declared.Replica.{Replica}
-use Rattle.do_view_change.specs.Record.{Recorded, recorded}
+use Rattle.steps.specs.Recorded.{Recorded, recorded}
 use Rattle.book.specs.Memory.{Memory}
 use Rattle.safety.proofs.Ranges.{entries-fit}
 use Rattle.outside.specs.Calls.{changeBy}

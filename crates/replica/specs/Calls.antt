@@ -28,7 +28,7 @@ use Rattle.state.specs.Lengths.{logLength, resultsLength, tableLength}
 use Rattle.state.specs.declared.Returned.{Returned}
 use Rattle.state.specs.declared.Replica.{Replica}
 use Rattle.book.specs.Memory.{Memory}
-use Rattle.do_view_change.specs.Record.{Recorded}
+use Rattle.steps.specs.Recorded.{Recorded}
 use Rattle.handlers.specs.Handlers.{messageStep, idleStep}
 use Rattle.outside.specs.Sound.{sound}
 use Rattle.outside.specs.Calls.{checkedOf, carriedBy, toldOf, changeBy}

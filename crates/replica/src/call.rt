@@ -8,7 +8,7 @@ ghost use Prim.Native.Nat.{_*_, _≤_};
 ghost use Rattle.client_table_bytes.specs.Layout.{rowsOf};
 ghost use Rattle.client_table_bytes.specs.Steps.{foundIn, latestOf, AppendsFor};
 ghost use Rattle.state.specs.Lengths.{tableLength};
-ghost use Rattle.do_view_change.specs.Record.{Gathering};
+ghost use Rattle.steps.specs.Recorded.{Gathering};
 ghost use Rattle.book.specs.Memory.{memoryHeld};
 ghost use Rattle.outside.specs.Calls.{nobody, changeBy};
 ghost use Rattle.replica.specs.Calls.{KnownFor, Following, tabled, followedBy, checkedCall};

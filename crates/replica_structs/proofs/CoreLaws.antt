@@ -31,7 +31,7 @@ use Rattle.state.specs.Lengths.{tableLength}
 use Rattle.state.specs.declared.Returned.{Returned}
 use Rattle.state.specs.declared.Replica.{Replica}
 use Rattle.book.specs.Memory.{Memory}
-use Rattle.do_view_change.specs.Record.{Recorded, recorded, Gathering}
+use Rattle.steps.specs.Recorded.{Recorded, recorded, Gathering}
 use Rattle.handlers.specs.Handlers.{messageStep, idleStep}
 use Rattle.handlers.proofs.Stays.{message-stays, idle-stays}
 use Rattle.outside.specs.Sound.{lengthsWith, lengthsOk, creatable, sound}

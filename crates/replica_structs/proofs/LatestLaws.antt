@@ -19,12 +19,13 @@ use Rattle.client_table.specs.declared.Latest.{Latest}
 use Rattle.state.specs.declared.Replica.{Replica}
 use Rattle.steps.specs.Steps.{Left}
 use Rattle.book.specs.Memory.{Memory, Runs}
-use Rattle.do_view_change.specs.Record.{Recorded}
-use Rattle.normal.specs.Request.{Served, knownVerdict, newVerdict, clientVerdict, requestVerdict, byCall, requestStep}
+use Rattle.steps.specs.Recorded.{Recorded, ofLeft}
+use Rattle.normal.specs.Request.{Served, knownVerdict, newVerdict, clientVerdict, requestVerdict, byCall, requestStep, ofServed}
 use Rattle.normal.specs.declared.request.RequestVerdict.{RequestVerdict}
 use Rattle.normal.specs.Prepare as P
 use Rattle.normal.specs.declared.prepare.PrepareVerdict.{PrepareVerdict}
-use Rattle.handlers.specs.Handlers.{ofServed, ofLeft, preparedBy, handled, messageStep}
+use Rattle.normal.specs.Prepare.{preparedBy}
+use Rattle.handlers.specs.Handlers.{handled, messageStep}
 
 pub record SameTold (l k : Latest) : Type 0 where
   pub there : l .there ≡ k .there

@@ -23,7 +23,7 @@ use Rattle.client_table_structs.specs.declared.Row.{Row}
 use Rattle.state.specs.declared.Returned.{Returned}
 use Rattle.state.specs.declared.Replica.{Replica}
 use Rattle.book.specs.Memory.{Memory}
-use Rattle.do_view_change.specs.Record.{Recorded, recorded}
+use Rattle.steps.specs.Recorded.{Recorded, recorded}
 use Rattle.outside.specs.Calls.{checkedOf}
 use Rattle.replica_structs.specs.Core.{lengthsIn, clientIn, checkedCore, idleCore, createCore, recoverCore, changeAfter}
 use Rattle.replica_structs.specs.Calls.{LentRows, CalledRows, calledRows, rowsAfter, followingRows, checkedRows, messageRows, idleRows, clearedRows, createRows, recoverRows}

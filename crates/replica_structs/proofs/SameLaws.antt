@@ -23,7 +23,7 @@ use Rattle.client_table_structs.specs.Shape.{unusedRow, latestAmong}
 use Rattle.client_table_structs.specs.declared.Row.{Row}
 use Rattle.state.specs.Lengths.{tableLength}
 use Rattle.state.specs.declared.Replica.{Replica}
-use Rattle.do_view_change.specs.Record.{Recorded}
+use Rattle.steps.specs.Recorded.{Recorded}
 use Rattle.handlers.specs.Handlers.{messageStep, idleStep}
 use Rattle.handlers.proofs.BytesStay.{InBytes, message-bytes, idle-bytes}
 use Rattle.model.specs.State.{Answer}

@@ -33,7 +33,7 @@ use Rattle.client_table_structs.specs.declared.Row.{Row}
 use Rattle.state.specs.Answers.{refusal}
 use Rattle.state.specs.declared.Replica.{Replica}
 use Rattle.book.specs.Memory.{Memory}
-use Rattle.do_view_change.specs.Record.{Recorded, recorded}
+use Rattle.steps.specs.Recorded.{Recorded, recorded}
 use Rattle.handlers.proofs.RunBytes.{RunBytes}
 use Rattle.model.specs.State.{State, Sent, Reply, Answer}
 use Rattle.model.specs.State.Answer.{refused, done}

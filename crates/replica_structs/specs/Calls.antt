@@ -16,7 +16,7 @@ use Rattle.client_table_structs.specs.declared.Row.{Row}
 use Rattle.state.specs.declared.Returned.{Returned}
 use Rattle.state.specs.declared.Replica.{Replica}
 use Rattle.book.specs.Memory.{Memory, memory, Run}
-use Rattle.do_view_change.specs.Record.{Recorded}
+use Rattle.steps.specs.Recorded.{Recorded}
 use Rattle.outside.specs.Calls.{checkedOf}
 use Rattle.replica_structs.specs.Core.{lengthsIn, clientIn, checkedCore, idleCore, createCore, recoverCore, changeAfter}
 use Rattle.numbers.specs.Lending.{Lending, was, last}

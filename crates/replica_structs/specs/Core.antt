@@ -18,7 +18,7 @@ use Rattle.state.specs.Answers.{refusal}
 use Rattle.state.specs.declared.Returned.{Returned}
 use Rattle.state.specs.declared.Replica.{Replica}
 use Rattle.book.specs.Memory.{Memory}
-use Rattle.do_view_change.specs.Record.{Recorded, recorded, Gathering}
+use Rattle.steps.specs.Recorded.{Recorded, recorded, Gathering}
 use Rattle.handlers.specs.Handlers.{messageStep, idleStep}
 use Rattle.outside.specs.Sound.{lengthsWith, sound}
 use Rattle.outside.specs.Calls.{carriedBy, toldOf, changeBy}

@@ -2,7 +2,7 @@
 ghost use mathlib.Core.Path.{_≡_};
 ghost use mathlib.Core.List.{[]};
 ghost use Rattle.book.specs.Memory.{memoryHeld, unlent};
-ghost use Rattle.do_view_change.specs.Record.{Does};
+ghost use Rattle.steps.specs.Recorded.{Does};
 ghost use Rattle.outside.specs.Calls.{checkedOf};
 ghost use Rattle.replica_structs.specs.Core.{lengthsBy, clientIn, Passes, checkedCore, idleCore, createCore, recoverCore, changeAfter, rowBytes};
 ghost use Rattle.numbers.specs.Lending.{was};

@@ -6,3 +6,5 @@ pub mod WholeLaws
 pub mod ReportLift
 pub mod StoredLift
 pub mod ChosenLift
+pub mod ReportStays
+pub mod ReportRuled

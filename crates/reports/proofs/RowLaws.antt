@@ -1,27 +1,26 @@
 -- Laws of the rows of reports.
 --     rows-end, filled-turn, greatest-turn, latest-turn, chosen-turn    loops from the last row down
---     ok-next, ok-stop, ok-end, row-next, row-stop, row-last, rows-ok-is    the look for refusal 1, and what it gives
+--     ok-next, ok-stop, ok-end, row-next, row-stop, row-last    the look for refusal 1
 --     filled-le                                                         no more are there than there are rows
 --     chosen-holds, chosen-there                                        what holds of each report holds of the chosen one, which is there
 -- Assumes nothing.
-use mathlib.Core.Path.{_≡_, refl, ap, sym, _∙_, subst}
-use mathlib.Core.Bool.{Bool, true, false, not, false≢true}
+use mathlib.Core.Path.{_≡_, refl, sym, _∙_, subst}
+use mathlib.Core.Bool.{Bool, true, false, false≢true}
 use mathlib.Core.List.{List, [], _∷_}
 use mathlib.Core.Logic.{⊎-elim}
-use Prim.Native.Nat.{ℕ, zero, suc, _+_, _-_, _≤_, _<_}
+use Prim.Native.Nat.{ℕ, suc, _+_, _-_, _≤_, _<_}
 use native.Mathlib.Numerals.{add-one}
 use native.Mathlib.Omega.{arith}
-use lib.Dec.{leb}
 use lib.ListN.{length, getD, take, drop, length-take, drop-of-length-le}
 use lib.Seq.{drop-cons, getD-take}
-use borrow.Author.Tests.{leb-true, le-leb, lt-leb, not-true, not-false}
+use borrow.Author.Tests.{le-leb, lt-leb, not-true, not-false}
 use Rattle.numbers.specs.Words.{if_then_else_}
 use Rattle.numbers.proofs.WordLaws.{if-true, if-false, split}
 use Rattle.numbers.proofs.NumberLaws.{le-or-lt}
 use Rattle.state.specs.Statuses.{noReport}
 use Rattle.state.specs.declared.Report.{Report}
 use Rattle.reports.specs.Rows.{countOne, greaterCommit, laterView, betterOf, filledIn, greatestIn, latestViewIn, chosenFrom}
-use Rattle.reports.specs.Sound.{reportOk, rowOk, reportsOk}
+use Rattle.state.specs.Sound.{reportOk, rowOk, reportsOk}
 use Rattle.reports.specs.declared.Best.{Best}
 
 -- ---- loops
@@ -99,33 +98,6 @@ pub row-last : (room : ℕ) (l : List Report) (n : ℕ) → n ≤ 7 → length l
     → reportsOk room (drop 6 (take n l)) ≡ b
 row-last room l n few seven true e = row-next room l n 6 few seven true e refl ∙ ok-end room l n 7 few
 row-last room l n few seven false e = row-stop room l n 6 few seven false e refl
-
-pub both : (a b : Bool) → (if a then b else false) ≡ true → (a ≡ true) × (b ≡ true)
-unfolding if_then_else_
-both true b h = (refl, h)
-both false b h = absurd (false≢true h)
-
-pub row-ok-is : (room : ℕ) (d : Report) → reportOk room d ≡ true → d .there ≡ true → (d .op .0 ≤ room) × (d .commit .0 ≤ d .op .0)
-unfolding reportOk
-row-ok-is room d h t =
-    let q = sym (if-false (not (d .there)) true _ (ap not t)) ∙ h in
-    let p = both (leb (d .op .0) room) (leb (d .commit .0) (d .op .0)) q in
-    (leb-true (d .op .0) room (p .0), leb-true (d .commit .0) (d .op .0) (p .1))
-
-rows-ok-at : (room : ℕ) (l : List Report) → reportsOk room l ≡ true → (i : ℕ) → i < length l → getD l i noReport .there ≡ true
-    → (getD l i noReport .op .0 ≤ room) × (getD l i noReport .commit .0 ≤ getD l i noReport .op .0)
-unfolding reportsOk
-rows-ok-at room [] h i lt t = absurd (omega arith)
-rows-ok-at room (d ∷ ds) h zero lt t = row-ok-is room d (both (reportOk room d) (reportsOk room ds) h .0) t
-rows-ok-at room (d ∷ ds) h (suc i) lt t = rows-ok-at room ds (both (reportOk room d) (reportsOk room ds) h .1) i (omega arith) t
-
-pub rows-ok-is : (room : ℕ) (l : List Report) (n : ℕ) → n ≤ 7 → length l ≡ 7 → reportsOk room (take n l) ≡ true
-    → (i : ℕ) → i < n → getD l i noReport .there ≡ true
-    → (getD l i noReport .op .0 ≤ room) × (getD l i noReport .commit .0 ≤ getD l i noReport .op .0)
-rows-ok-is room l n few seven h i lt t =
-    let e : getD (take n l) i noReport ≡ getD l i noReport = getD-take n l i noReport lt in
-    subst (λ (d : Report). (d .op .0 ≤ room) × (d .commit .0 ≤ d .op .0)) e
-    (rows-ok-at room (take n l) h i (omega (arith, length-take n l)) (subst (λ (d : Report). d .there ≡ true) (sym e) t))
 
 -- ---- among the rows
 

@@ -1,4 +1,3 @@
-pub mod Sound
 pub mod Rows
 pub mod Judge
 pub mod Store

@@ -4,7 +4,7 @@ ghost use Prim.Native.Nat.{_≤_, _<_};
 ghost use lib.ListN.{length, getD, take};
 ghost use Rattle.state.specs.Statuses.{noReport};
 ghost use Rattle.reports.specs.Rows.{withReport, countOne, greaterCommit, laterView, betterOf, filledIn, greatestIn, latestViewIn, chosenFrom};
-ghost use Rattle.reports.specs.Sound.{reportOk, rowOk, reportsOk};
+ghost use Rattle.state.specs.Sound.{reportOk, rowOk, reportsOk};
 use crate::Best;
 use numbers::Op;
 use numbers::View;

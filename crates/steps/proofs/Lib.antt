@@ -3,3 +3,6 @@ pub mod SendLaws
 pub mod StepLift
 pub mod SendLift
 pub mod AckLift
+pub mod Held
+pub mod Ruled
+pub mod RefusedSteps

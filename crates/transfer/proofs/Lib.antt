@@ -1,3 +1,6 @@
 pub mod GetStateLaws
 pub mod NewStateLaws
 pub mod TransferLift
+pub mod TransferStays
+pub mod TransferRuled
+pub mod RefusedTransfer

@@ -20,12 +20,17 @@ use Rattle.book.specs.Memory.{Runs}
 use Rattle.transfer.specs.declared.Part.{Part}
 use Rattle.transfer.specs.declared.Use.{Use}
 use Rattle.transfer.specs.declared.Use.the-variants.{Ignore, Hear, Fill, Install}
+use Rattle.numbers.specs.declared.Op.{Op}
 
 -- what refusals 2 to 5 on the frame alone leave
 pub record PartPassed (s : Replica) (p : Part) : Type 0 where
   pub start-le : p .start .0 ≤ p .end .0
   pub end-le : p .end .0 ≤ s .setup .room
   pub commit-le : p .commit .0 ≤ p .end .0
+
+-- the numbers of a NewState beside its view
+abbrev pub partOf : (start end commit : Op) → Part
+partOf a z c = record { start = a; end = z; commit = c }
 
 unfoldable pub transferUse : Replica → Part → Use
 transferUse s p =

@@ -25,7 +25,7 @@ use Rattle.state_bytes.specs.Layout.{Onward, Clocked}
 use Rattle.book.specs.Memory.{Memory}
 use Rattle.steps.specs.Steps.{Spoke}
 use Rattle.normal.specs.Tick.{primaryTick}
-use Rattle.do_view_change.specs.Record.{Recorded}
+use Rattle.steps.specs.Recorded.{Recorded}
 use Rattle.handlers.specs.Handlers.{handled, messageStep, normalTick, idleStep}
 use Rattle.outside.specs.Calls.{checkedOf}
 use Rattle.outside.proofs.CallLaws.{passed-is}

@@ -1,3 +1,6 @@
 pub mod StartViewChangeLaws
 pub mod StartViewLaws
 pub mod StartViewLift
+pub mod ChangeStays
+pub mod ChangeRuled
+pub mod RefusedChange

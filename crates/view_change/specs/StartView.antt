@@ -21,9 +21,10 @@ use Rattle.state.specs.Lengths.{logLength}
 use Rattle.state.specs.declared.Returned.{Returned}
 use Rattle.state.specs.declared.Replica.{Replica}
 use Rattle.steps.specs.Steps.{Spoke, Left, spoke, committedAndAcked}
-use Rattle.book.specs.Memory.{Runs}
+use Rattle.book.specs.Memory.{Runs, Memory}
 use Rattle.view_change.specs.declared.StartViewVerdict.{StartViewVerdict}
 use Rattle.view_change.specs.declared.StartViewVerdict.the-variants.{Ignore, Refuse, Join}
+use Rattle.steps.specs.Recorded.{Recorded, recorded}
 
 -- what refusal 1 leaves, of the log
 pub record LogHeld (s : Replica) (log : ℕ) : Type 0 where
@@ -68,6 +69,10 @@ pub record Joined : Type 0 where
 
 abbrev pub joined : Returned → Runs → (acks out : List ℕ) → Joined
 joined a x acks out = record { answer = a; runs = x; acks = acks; out = out }
+
+-- what a StartView leaves, beside what it is not lent
+abbrev pub ofJoined : Memory → Joined → Recorded
+ofJoined m d = recorded (d .answer) (record { runs = d .runs; acks = d .acks; stored = m .stored; out = d .out; reps = m .reps })
 
 -- the log that is carried, in place of ours
 abbrev pub withLogOf : Op → (part : List ℕ) → Runs → Runs

@@ -1,3 +1,6 @@
 pub mod VoteLaws
 pub mod TickLaws
 pub mod VoteLift
+pub mod VoteRuled
+pub mod RefusedVote
+pub mod VoteStays

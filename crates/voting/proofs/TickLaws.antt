@@ -27,7 +27,8 @@ use Rattle.state.specs.declared.Replica.{Replica}
 use Rattle.steps.specs.Steps.{Spoke, spoke, askedForState}
 use Rattle.view_change.specs.StartViewChange.{callsLength, callsOf, startedChange}
 use Rattle.view_change.proofs.StartViewChangeLaws.{calls-long}
-use Rattle.do_view_change.specs.Record.{Recorded, recorded, onlySent, sendStep}
+use Rattle.steps.specs.Recorded.{Recorded, recorded, onlySent}
+use Rattle.do_view_change.specs.Record.{sendStep}
 use Rattle.book.specs.Memory.{Memory}
 use Rattle.voting.specs.Votes.{sentFirst}
 use Rattle.voting.specs.Tick.{viewAfter, inLastView, nextView, askedAndCalled, nextViewAsking, repeated, changeTick}

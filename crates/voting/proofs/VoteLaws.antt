@@ -30,7 +30,8 @@ use Rattle.state.specs.declared.Replica.{Replica}
 use Rattle.steps.specs.Steps.{Sound, spoke}
 use Rattle.view_change.specs.StartView.{sentStartView}
 use Rattle.do_view_change.specs.Begin.{callsFirst, firstLength}
-use Rattle.do_view_change.specs.Record.{Recorded, recorded, onlySent, Gathering, sendStep}
+use Rattle.steps.specs.Recorded.{Recorded, recorded, onlySent, Gathering}
+use Rattle.do_view_change.specs.Record.{sendStep}
 use Rattle.book.specs.Memory.{Memory}
 use Rattle.do_view_change.proofs.BeginLaws.{first-long}
 use Rattle.do_view_change.proofs.TellLaws.{moved-gathers}

@@ -34,7 +34,7 @@ use Rattle.view_change.specs.StartViewChange.{callsLength, callsOf}
 use Rattle.view_change.specs.StartView.{sentStartView}
 use Rattle.view_change.proofs.StartViewChangeLaws.{calls-long}
 use Rattle.do_view_change.specs.Begin.{callsFirst, firstLength}
-use Rattle.do_view_change.specs.Record.{Recorded, recorded, onlySent}
+use Rattle.steps.specs.Recorded.{Recorded, recorded, onlySent}
 use Rattle.voting.specs.Votes.{sentFirst, reportDue, maybeStep, sameView, startViewChangeStep}
 use Rattle.voting.specs.Tick as T
 use Rattle.voting.specs.Tick.{viewAfter, inLastView, askedAndCalled}

@@ -17,7 +17,8 @@ use Rattle.state.specs.Answers.{refusal, completed}
 use Rattle.state.specs.declared.Replica.{Replica}
 use Rattle.steps.specs.Steps.{Spoke, spoke, askedForState}
 use Rattle.view_change.specs.StartViewChange.{callsLength, callsOf, startedChange}
-use Rattle.do_view_change.specs.Record.{Recorded, onlySent, sendStep}
+use Rattle.steps.specs.Recorded.{Recorded, onlySent}
+use Rattle.do_view_change.specs.Record.{sendStep}
 use Rattle.book.specs.Memory.{Memory}
 use Rattle.voting.specs.Votes.{sentFirst}
 

@@ -16,7 +16,8 @@ use Rattle.state.specs.declared.Replica.{Replica}
 use Rattle.steps.specs.Steps.{Spoke, spoke}
 use Rattle.view_change.specs.StartView.{sentStartView}
 use Rattle.do_view_change.specs.Begin.{callsFirst, firstLength}
-use Rattle.do_view_change.specs.Record.{Recorded, recorded, onlySent, sendStep}
+use Rattle.steps.specs.Recorded.{Recorded, recorded, onlySent}
+use Rattle.do_view_change.specs.Record.{sendStep}
 use Rattle.book.specs.Memory.{Memory}
 
 -- only what goes out first, from state t; s is the state as it was

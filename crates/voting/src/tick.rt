@@ -4,7 +4,7 @@ ghost use mathlib.Core.Bool.{true, false};
 ghost use Prim.Native.Nat.{_+_};
 ghost use Rattle.config.specs.Setup.{setupOk};
 ghost use Rattle.steps.specs.Steps.{spoke};
-ghost use Rattle.do_view_change.specs.Record.{Gathering, Does};
+ghost use Rattle.steps.specs.Recorded.{Gathering, Does};
 ghost use Rattle.book.specs.Memory.{memoryHeld};
 ghost use Rattle.voting.specs.Tick.{inLastView, nextView, nextViewAsking, repeated, changeTick};
 ghost use Rattle.numbers.specs.Lending.{was, last};

@@ -50,7 +50,7 @@ use Rattle.client_table_structs.proofs.follow.Met as follow-thm
 use Rattle.book.specs.Memory.{memory}
 use Rattle.state.specs.declared.Returned.{Returned}
 use Rattle.state.specs.declared.Replica.{Replica}
-use Rattle.do_view_change.specs.Record.{recorded}
+use Rattle.steps.specs.Recorded.{recorded}
 use Rattle.replica_structs.specs.Core.{idleCore, changeAfter}
 use Rattle.replica_structs.specs.Calls.{LentRows, lentRows, calledRows}
 use Rattle.replica_structs.specs.Promise.{IdleRowsPromise}

@@ -57,7 +57,7 @@ use Rattle.client_table_structs.proofs.follow.Met as follow-thm
 use Rattle.book.specs.Memory.{memory}
 use Rattle.state.specs.declared.Returned.{Returned}
 use Rattle.state.specs.declared.Replica.{Replica}
-use Rattle.do_view_change.specs.Record.{Recorded, recorded}
+use Rattle.steps.specs.Recorded.{Recorded, recorded}
 use Rattle.outside.specs.Calls.{checkedOf}
 use Rattle.replica_structs.specs.Core.{lengthsIn, clientIn, checkedCore, changeAfter}
 use Rattle.replica_structs.specs.Calls.{LentRows, lentRows, calledRows}

@@ -1,7 +1,7 @@
 -- `reports::rows::report_ok` meets its contract. Assumes nothing.
 use borrow.Author.Tests.{lt-leb, le-leb}
 use Rattle.numbers.specs.Words.{if_then_else_}
-use Rattle.reports.specs.Sound.{reportOk}
+use Rattle.state.specs.Sound.{reportOk}
 use Rattle.reports.proofs.rows.report_ok.Statement.{statement}
 use Rattle.reports.proofs.rows.report_ok.Tie as tie
 

@@ -3,7 +3,7 @@ use mathlib.Core.Path.{sym, ap, _∙_}
 use lib.ListN.{length-map}
 use borrow.Author.Tests.{le-leb, lt-leb}
 use Rattle.numbers.proofs.WordLaws.{if-true, if-false}
-use Rattle.reports.specs.Sound.{reportOk, rowOk}
+use Rattle.state.specs.Sound.{reportOk, rowOk}
 use borrow.Author.Needs.{needs}
 use Rattle.reports.proofs.rows.row_ok.Statement.{statement}
 use Rattle.reports.proofs.rows.row_ok.Tie as tie

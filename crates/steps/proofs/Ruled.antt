@@ -1,6 +1,6 @@
 -- The entry rules of our log and of each stored one, and what the steps that only send leave of them.
 --     has, cleared, still, wrote    what is lent to a state; without reports; the rules with it, and with another log
---     asked-has, transferred-has, deferred-has, started-has, start-view-has    messages alone
+--     asked-has, transferred-has, deferred-has    messages alone
 --     acked-left                    PrepareOk, where there is room for it
 -- Assumes nothing.
 use Prim.Native.Nat.{ℕ, zero, suc, _≤_, _<_}
@@ -17,20 +17,17 @@ use Rattle.entries.specs.Entries.{entriesOk}
 use Rattle.config.specs.Setup.{setupOk}
 use Rattle.config.specs.declared.Setup.{Setup}
 use Rattle.config.proofs.SetupLaws.{sized}
-use Rattle.state.specs.State.{changingTo}
 use Rattle.state.specs.Statuses.{noReport, noReports}
 use Rattle.state.specs.Answers.{completed}
 use Rattle.state.specs.Lengths.{storedPlace, logLength, storedLength}
 use Rattle.state.specs.declared.Replica.{Replica}
 use Rattle.state.specs.declared.Report.{Report}
-use Rattle.reports.proofs.RowLaws.{rows-ok-is}
+use Rattle.state.proofs.SoundLaws.{rows-ok-is}
 use Rattle.steps.specs.Steps.{Spoke, Left, left, committedTo, settled, askedForState, transferred, deferred, prepareOkOf, committedAndAcked}
 use Rattle.book.specs.Memory.{Runs, Memory}
 use Rattle.steps.specs.declared.Accept.{Accept}
 use Rattle.steps.specs.declared.Accept.the-variants.{Ignore, Hear, Join, Rejoin, Take}
-use Rattle.view_change.specs.StartViewChange.{startedChange}
-use Rattle.view_change.specs.StartView.{sentStartView}
-use Rattle.do_view_change.specs.Record.{Recorded, Gathering}
+use Rattle.steps.specs.Recorded.{Recorded, Gathering}
 
 pub record Ruled (s : Replica) (m : Memory) : Type 0 where
   pub log : entriesOk (s .op .0) (m .runs .log) ≡ true
@@ -122,14 +119,6 @@ module _ (s : Replica) (m : Memory) (h : Has s m) where
   deferred-has Join v out = asked-has _ _ out (cleared h)
   deferred-has Rejoin v out = asked-has _ _ out (cleared h)
   deferred-has Take v out = h
-
-  pub started-has : (t : Replica) (v : View) (out : List ℕ) → Has (changingTo t v) m → Has (startedChange s t v out .answer .state) m
-  unfolding startedChange
-  started-has t v out g = split HasBy _ _ _ (λ _. h) (λ _. g)
-
-  pub start-view-has : (to : ℕ) (log out : List ℕ) → Has (sentStartView s to log out .answer .state) m
-  unfolding sentStartView
-  start-view-has to log out = split HasBy _ _ _ (λ _. h) (λ _. h)
 
 -- ---- commits, and PrepareOk, whose area was tested before
 

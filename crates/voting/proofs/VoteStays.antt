@@ -10,12 +10,13 @@ use Rattle.state.specs.State.{withClock, changingTo, withStart, withSent}
 use Rattle.state.specs.Lengths.{acksLength, storedLength}
 use Rattle.state.specs.declared.Replica.{Replica}
 use Rattle.steps.specs.Steps.{Spoke}
-use Rattle.do_view_change.specs.Record.{Gathering, onlySent}
+use Rattle.steps.specs.Recorded.{Gathering, onlySent}
 use Rattle.book.specs.Memory.{Memory}
 use Rattle.voting.specs.Votes.{sentFirst, maybeStep, sameView, startViewChangeStep}
 use Rattle.voting.specs.Tick.{viewAfter, nextView, nextViewAsking, repeated, changeTick}
-use Rattle.handlers.proofs.Held.{Held, Kept, none-ok, as-it-was, moves, asked-held, started-held, still-kept, sent-kept}
-use Rattle.handlers.proofs.ChangeStays.{sent-start-view-held, send-kept}
+use Rattle.steps.proofs.Held.{Held, Kept, none-ok, as-it-was, moves, asked-held, still-kept, sent-kept}
+use Rattle.view_change.proofs.ChangeStays.{started-held, sent-start-view-held}
+use Rattle.do_view_change.proofs.RecordStays.{send-kept}
 
 -- from state t; s is the state as it was
 module _ (s t : Replica) (m : Memory) (hs : Held (t .setup) s (m .runs)) (ht : Held (t .setup) t (m .runs))

@@ -1,23 +1,23 @@
--- StartView, DoViewChange and our own DoViewChange keep what refusal 1 asks. Assumes nothing.
+-- DoViewChange and our own DoViewChange keep what refusal 1 asks. Assumes nothing.
 use mathlib.Core.Path.{_≡_, refl, _∙_}
 use mathlib.Core.Bool.{Bool, true, false}
 use mathlib.Core.List.{List}
 use Prim.Native.Nat.{ℕ, _*_, _≤_, _<_}
 use native.Mathlib.Omega.{arith}
-use lib.ListN.{length, take, replicate, length-append, length-replicate}
+use lib.ListN.{length, take, length-append, length-replicate}
 use Rattle.numbers.specs.declared.View.{View}
 use Rattle.numbers.specs.declared.Op.{Op}
 use Rattle.numbers.proofs.WordLaws.{split}
 use Rattle.numbers.proofs.RunLaws.{length-over}
 use Rattle.config.proofs.SetupLaws.{sized}
-use Rattle.state.specs.State.{withLog, normalIn, changingTo, withReports}
+use Rattle.state.specs.State.{changingTo, withReports}
 use Rattle.state.specs.Answers.{refusal}
 use Rattle.state.specs.Lengths.{acksLength, storedLength}
 use Rattle.state.specs.declared.Replica.{Replica}
 use Rattle.state.specs.declared.Report.{Report}
 use Rattle.state.specs.declared.Reports.{Reports}
 use Rattle.reports.specs.Rows.{withReport}
-use Rattle.reports.specs.Sound.{reportsOk}
+use Rattle.state.specs.Sound.{reportsOk}
 use Rattle.reports.specs.Judge.{judged, Fits}
 use Rattle.reports.specs.Store.{chosenOver}
 use Rattle.reports.specs.declared.Best.{Best}
@@ -25,62 +25,14 @@ use Rattle.reports.specs.declared.Judged.{Judged}
 use Rattle.reports.specs.declared.Judged.the-variants.{Wait, Refuse, Begin}
 use Rattle.reports.proofs.JudgeLaws.{begin-lies}
 use Rattle.steps.specs.Steps.{Spoke, settled, committedTo}
-use Rattle.book.specs.Memory.{Runs, Memory}
-use Rattle.view_change.specs.StartView as StartView
-use Rattle.view_change.specs.StartView.{LogPassed, Joined, withLogOf, sentStartView, joinedBy, startViewStep}
-use Rattle.view_change.specs.declared.StartViewVerdict.{StartViewVerdict}
-use Rattle.view_change.specs.declared.StartViewVerdict.the-variants as Verdicts
-use Rattle.view_change.proofs.StartViewLaws.{join-keeps, joins-sound}
+use Rattle.book.specs.Memory.{Memory}
 use Rattle.do_view_change.specs.Begin.{ownAcks, entered, begunIn, beginStep}
-use Rattle.do_view_change.specs.Record.{recorded, Gathering, onlySent, reportOf, ownReport, decidedBy, decided, keptBy, startedBy, byDecision, recordStep, toldPrimary, sendStep, doViewChangeStep}
+use Rattle.steps.specs.Recorded.{recorded, Gathering, onlySent}
+use Rattle.do_view_change.specs.Record.{reportOf, ownReport, decidedBy, decided, keptBy, startedBy, byDecision, recordStep, toldPrimary, sendStep, doViewChangeStep}
 use Rattle.do_view_change.specs.declared.Decision.{Decision}
-use Rattle.handlers.specs.Handlers.{ofJoined}
-use Rattle.handlers.proofs.Held.{Held, Kept, none-ok, as-it-was, moves, settled-held, acked-held, still-kept, sent-kept}
-use Rattle.handlers.proofs.ReportStays.{row-ok, set-ok, rows-fit, begin-keeps, kept-length, installed-held}
-
--- ---- StartView
-
-pub sent-start-view-held : {s : Replica} {x : Runs} (to : ℕ) (log out : List ℕ) → Held (s .setup) s x
-    → Held (s .setup) (sentStartView s to log out .answer .state) x
-unfolding sentStartView
-sent-start-view-held {s} {x} to log out h = split (λ (d : Spoke). Held (s .setup) (d .answer .state) x) _ _ _ (λ _. h) (λ _. h)
-
-module _ (s : Replica) (m : Memory) (h : Gathering s m) (v : View) (o c : Op) (part : List ℕ) (k : LogPassed s o c)
-    (l : 32 * o .0 ≤ length part) where
-  abbrev JoinedKept : Joined → Type 0
-  JoinedKept d = Kept (s .setup) (ofJoined m d)
-
-  join-held : s .commit .0 ≤ o .0 → Held (s .setup) (withLog (normalIn s v) o (s .commit)) (withLogOf o part (m .runs))
-  join-held g =
-      record {
-        sound =
-            joins-sound s v o c part (m .runs .log) (m .runs .money .results) (m .runs .money .totals) (m .acks) (m .out) (h .sound) k g l
-            _ _ refl refl .0;
-        setup = refl;
-        reports = none-ok (s .setup);
-      }
-
-  verdict-kept : (d : StartViewVerdict) → StartView.startViewVerdict s v o part (m .runs .log) ≡ d
-      → JoinedKept (StartView.byStartViewVerdict d s v o c part (m .runs) (m .acks) (m .out))
-  unfolding StartView.byStartViewVerdict joinedBy
-  verdict-kept Verdicts.Ignore e = record { held = as-it-was h; acks-long = h .acks-long; stored-long = h .stored-long }
-  verdict-kept Verdicts.Refuse e = record { held = as-it-was h; acks-long = h .acks-long; stored-long = h .stored-long }
-  verdict-kept Verdicts.Join e =
-      let w : List ℕ = replicate (s .setup .room) 0 in
-      let n : length w ≡ s .setup .room = length-replicate (s .setup .room) 0 in
-      split JoinedKept _ _ _
-      (λ _. record { held = as-it-was h; acks-long = h .acks-long; stored-long = h .stored-long })
-      (λ _.
-      record {
-        held =
-            acked-held c true (m .out) (as-it-was h) (join-held (join-keeps s o part (m .runs .log) v e)) (k .commit-le);
-        acks-long = length-over w (m .acks) (omega (arith, n, h .acks-long)) ∙ h .acks-long;
-        stored-long = h .stored-long;
-      })
-
-  pub start-view-kept : JoinedKept (startViewStep s v o c part (m .runs) (m .acks) (m .out))
-  unfolding startViewStep
-  start-view-kept = verdict-kept (StartView.startViewVerdict s v o part (m .runs .log)) refl
+use Rattle.steps.proofs.Held.{Held, Kept, none-ok, as-it-was, moves, settled-held, still-kept, sent-kept}
+use Rattle.reports.proofs.ReportStays.{row-ok, set-ok, rows-fit, begin-keeps, kept-length, installed-held}
+use Rattle.view_change.proofs.ChangeStays.{sent-start-view-held}
 
 -- ---- record_do_view_change
 

@@ -25,18 +25,18 @@ use Rattle.state.specs.declared.Replica.{Replica}
 use Rattle.state.specs.declared.Report.{Report}
 use Rattle.state.specs.declared.Reports.{Reports}
 use Rattle.state.proofs.LengthLaws.{stored-place-next}
 use Rattle.reports.specs.Rows.{withReport}
-use Rattle.reports.specs.Sound.{reportOk, reportsOk}
+use Rattle.state.specs.Sound.{reportOk, reportsOk}
 use Rattle.reports.specs.Judge.{chosenLog, weighed, judged, answeredByPrimary, responded, Lies, Fits}
 use Rattle.reports.specs.Store.{keptLog, chosenOver}
 use Rattle.reports.specs.declared.Best.{Best}
 use Rattle.reports.specs.declared.Judged.{Judged}
 use Rattle.reports.specs.declared.Judged.the-variants.{Wait, Begin}
-use Rattle.reports.proofs.RowLaws.{both, row-ok-is}
+use Rattle.state.proofs.SoundLaws.{both, row-ok-is}
 use Rattle.reports.proofs.JudgeLaws.{length-chosen, weighed-begins}
 use Rattle.reports.proofs.StoreLaws.{install-fits}
 use Rattle.book.specs.Memory.{Runs}
-use Rattle.handlers.proofs.Held.{Held, other}
+use Rattle.steps.proofs.Held.{Held, other}
 
 -- ---- rows
 

@@ -21,16 +21,16 @@ use Rattle.state.specs.Statuses.{noReport}
 use Rattle.state.specs.Lengths.{storedPlace}
 use Rattle.state.specs.declared.Report.{Report}
 use Rattle.state.specs.declared.Reports.{Reports}
 use Rattle.reports.specs.Rows.{withReport, latestViewIn}
 use Rattle.reports.specs.Judge.{judged, responded}
 use Rattle.reports.specs.Store.{keptLog}
 use Rattle.reports.specs.declared.Best.{Best}
 use Rattle.reports.specs.declared.Judged.{Judged}
 use Rattle.reports.specs.declared.Judged.the-variants.{Wait, Begin}
 use Rattle.reports.proofs.JudgeLaws.{weighed-begins, response-begins}
 use Rattle.reports.proofs.PlaceLaws.{own-ok, other-ok}
 use Rattle.reports.proofs.WholeLaws.{Whole, new-whole, row-whole, chosen-whole}
-use Rattle.handlers.proofs.Ruled.{Lent}
+use Rattle.steps.proofs.Ruled.{Lent}
 
 not-waited : (b : Best) (g : Op) → Wait ≡ Begin b g → ⊥
 not-waited b g e = let q : _≡_ {A = ℕ} 0 1 = cc in omega arith

@@ -1,48 +1,40 @@
--- Request, Prepare, PrepareOk, Commit and NewState keep what refusal 1 asks. Assumes nothing.
+-- Request, Prepare, PrepareOk and Commit keep what refusal 1 asks. Assumes nothing.
 use mathlib.Core.Path.{_≡_, refl, _∙_}
-use mathlib.Core.Bool.{true, false}
+use mathlib.Core.Bool.{false}
 use mathlib.Core.List.{List}
-use Prim.Native.Nat.{ℕ, _-_, _*_, _≤_, _<_}
+use Prim.Native.Nat.{ℕ, _-_, _<_}
 use native.Mathlib.Omega.{arith}
 use borrow.Author.Tests.{ltb-false}
-use lib.ListN.{length, getD, drop, replicate, length-set, length-replicate, length-drop}
+use lib.ListN.{length, getD, replicate, length-set, length-replicate}
 use Rattle.numbers.specs.declared.View.{View}
 use Rattle.numbers.specs.declared.Op.{Op}
 use Rattle.numbers.proofs.WordLaws.{split}
 use Rattle.numbers.proofs.RunLaws.{length-over}
 use Rattle.entries.specs.declared.Entry.{Entry}
 use Rattle.client_table.specs.declared.Latest.{Latest}
-use Rattle.frames.specs.declared.Status.the-variants.{Normal}
-use Rattle.state.specs.State.{heardBy, withStatus, withLog, normalIn}
+use Rattle.state.specs.State.{heardBy, withLog}
 use Rattle.state.specs.declared.Replica.{Replica}
 use Rattle.steps.specs.Steps.{Left, acceptOf, settled}
 use Rattle.book.specs.Memory.{Runs, Memory}
 use Rattle.normal.specs.Request as Request
-use Rattle.normal.specs.Request.{requestStep}
+use Rattle.normal.specs.Request.{requestStep, nextOp, ofServed}
 use Rattle.normal.specs.Prepare as Prepare
 use Rattle.normal.specs.Prepare.{appendedBy, withEntry, lowerOf, prepareStep}
-use Rattle.normal.specs.Request.{nextOp}
 use Rattle.normal.specs.PrepareOk as PrepareOk
-use Rattle.normal.specs.PrepareOk.{Counted, prepareOkStep}
+use Rattle.normal.specs.PrepareOk.{Counted, prepareOkStep, ofCounted}
 use Rattle.normal.specs.Commit.{takenCommit, commitStep}
 use Rattle.normal.specs.declared.prepare.Prepared.{Prepared}
 use Rattle.normal.specs.declared.prepare.PrepareVerdict.{PrepareVerdict}
 use Rattle.normal.specs.declared.prepare.PrepareVerdict.the-variants.{Transfer, Again, Refuse, Append}
 use Rattle.normal.specs.declared.prepare_ok.Count.{Count}
 use Rattle.normal.specs.declared.prepare_ok.Count.the-variants as Counts
 use Rattle.normal.specs.declared.request.RequestVerdict.{RequestVerdict}
 use Rattle.normal.specs.declared.request.RequestVerdict.the-variants as Calls
 use Rattle.normal.proofs.PrepareLaws.{room-left, sound-next}
 use Rattle.normal.proofs.PrepareOkLaws.{ready}
 use Rattle.normal.proofs.RequestLaws.{append-fits}
-use Rattle.transfer.specs.NewState.{PartPassed, withPart, useOf, extended, gapFilled, installed, byUse, newStateStep}
-use Rattle.transfer.specs.declared.Part.{Part}
-use Rattle.transfer.specs.declared.Use.{Use}
-use Rattle.transfer.specs.declared.Use.the-variants.{Ignore, Hear, Fill, Install}
-use Rattle.transfer.proofs.NewStateLaws.{fill-told, install-told, fill-fits, install-fits}
-use Rattle.do_view_change.specs.Record.{Gathering}
-use Rattle.handlers.specs.Handlers.{ofServed, ofCounted}
-use Rattle.handlers.proofs.Held.{Held, Kept, none-ok, as-it-was, other, back, heard-held, transferred-held, deferred-held, settled-held, acked-held}
+use Rattle.steps.specs.Recorded.{Gathering}
+use Rattle.steps.proofs.Held.{Held, Kept, as-it-was, other, back, heard-held, transferred-held, deferred-held, settled-held, acked-held}
 
 module _ (s : Replica) (x : Runs) (h : Held (s .setup) s x) (out : List ℕ) where
   abbrev pub HeldBy : Left → Type 0
@@ -82,42 +74,6 @@ module _ (s : Replica) (x : Runs) (h : Held (s .setup) s x) (out : List ℕ) whe
   unfolding prepareStep Prepare.takenPrepare
   prepare-held v p =
       split HeldBy _ _ _ (λ _. verdict-held p (Prepare.prepareVerdict s p) refl) (λ _. deferred-held h (acceptOf s v) v out)
-
-  -- ---- NewState
-
-  module _ (v : View) (p : Part) (part : List ℕ) (c : PartPassed s p) (l : 32 * (p .end .0 - p .start .0) ≤ length part) where
-    fill-held : useOf s v p ≡ Fill
-        → Held (s .setup) (withLog (withStatus (heardBy s) Normal) (p .end) (s .commit))
-        (withPart (s .op .0) (p .end .0 - s .op .0) (drop (32 * (s .op .0 - p .start .0)) part) x)
-    fill-held e =
-        let g = fill-told s v p e in
-        let rest = drop (32 * (s .op .0 - p .start .0)) part in
-        let n : 32 * (p .end .0 - s .op .0) ≤ length rest = rw length-drop (omega (arith, g .0, g .1, l)) in
-        record { sound = fill-fits s p rest x (h .sound) c _ (g .1) n refl .0; setup = refl; reports = h .reports }
-
-    install-held : useOf s v p ≡ Install
-        → Held (s .setup) (withLog (normalIn s (s .view)) (p .end) (s .commit)) (withPart (s .commit .0) (p .end .0 - p .start .0) part x)
-    install-held e =
-        record {
-          sound = install-fits s p part x (h .sound) c _ (install-told s v p e) l refl .0;
-          setup = refl;
-          reports = none-ok (s .setup);
-        }
-
-    use-held : (u : Use) → useOf s v p ≡ u → HeldBy (byUse u s p part x out)
-    unfolding byUse gapFilled installed extended
-    use-held Ignore e = h
-    use-held Hear e = heard-held h
-    use-held Fill e =
-        split HeldBy _ _ _ (λ _. h) (λ _.
-        split HeldBy _ _ _ (λ _. h) (λ _. acked-held (p .commit) false out h (fill-held e) (c .commit-le)))
-    use-held Install e =
-        split HeldBy _ _ _ (λ _. h) (λ _.
-        split HeldBy _ _ _ (λ _. h) (λ _. acked-held (p .commit) true out h (install-held e) (c .commit-le)))
-
-    pub new-state-held : HeldBy (newStateStep s v p part x out)
-    unfolding newStateStep
-    new-state-held = use-held (useOf s v p) refl
 
 module _ (s : Replica) (m : Memory) (h : Gathering s m) where
   -- ---- Request

@@ -1,9 +1,7 @@
--- A refused Request, Prepare, PrepareOk, Commit, GetState or NewState leaves the state and every lent byte as they were; so does the refused tick of
--- a Normal primary. Assumes nothing.
+-- A refused Request, Prepare, PrepareOk or Commit leaves the state and every lent byte as they were; so does the refused tick of a Normal primary.
+-- Assumes nothing.
 use Prim.Native.Nat.{ℕ, _-_}
 use mathlib.Core.Path.{refl}
-use mathlib.Core.Bool.{Bool, true, false}
-use mathlib.Core.List.{List}
 use lib.ListN.{length, getD}
 use Rattle.numbers.specs.declared.View.{View}
 use Rattle.numbers.specs.declared.Op.{Op}
@@ -12,29 +10,23 @@ use Rattle.entries.specs.declared.Entry.{Entry}
 use Rattle.client_table.specs.declared.Latest.{Latest}
 use Rattle.state.specs.declared.Replica.{Replica}
 use Rattle.steps.specs.Steps.{acceptOf}
 use Rattle.normal.specs.Request as Request
-use Rattle.normal.specs.Request.{requestStep}
+use Rattle.normal.specs.Request.{requestStep, ofServed}
 use Rattle.normal.specs.Prepare as Prepare
 use Rattle.normal.specs.Prepare.{appendedBy, takenPrepare, prepareStep}
 use Rattle.normal.specs.PrepareOk as PrepareOk
-use Rattle.normal.specs.PrepareOk.{Counted, prepareOkStep}
+use Rattle.normal.specs.PrepareOk.{Counted, prepareOkStep, ofCounted}
 use Rattle.normal.specs.Commit.{takenCommit, commitStep}
 use Rattle.normal.specs.Tick.{primaryTick}
 use Rattle.normal.specs.declared.prepare.Prepared.{Prepared}
 use Rattle.normal.specs.declared.prepare.PrepareVerdict.{PrepareVerdict}
 use Rattle.normal.specs.declared.prepare.PrepareVerdict.the-variants.{Transfer, Again, Refuse, Append}
 use Rattle.normal.specs.declared.prepare_ok.Count.{Count}
 use Rattle.normal.specs.declared.prepare_ok.Count.the-variants as Counts
 use Rattle.normal.specs.declared.request.RequestVerdict.{RequestVerdict}
 use Rattle.normal.specs.declared.request.RequestVerdict.the-variants as Calls
-use Rattle.transfer.specs.GetState.{getStateStep}
-use Rattle.transfer.specs.NewState.{useOf, extended, gapFilled, installed, byUse, newStateStep}
-use Rattle.transfer.specs.declared.Part.{Part}
-use Rattle.transfer.specs.declared.Use.{Use}
-use Rattle.transfer.specs.declared.Use.the-variants.{Ignore, Hear, Fill, Install}
 use Rattle.book.specs.Memory.{Memory}
-use Rattle.handlers.specs.Handlers.{ofServed, ofCounted}
-use Rattle.handlers.proofs.RefusedSteps.{Untouched, Speaks, Leaves, done, refused, acked-done, transferred-untouched, deferred-untouched, acked-untouched}
+use Rattle.steps.proofs.RefusedSteps.{Untouched, Speaks, Leaves, done, refused, acked-done, transferred-untouched, deferred-untouched, acked-untouched}
 
 module _ (s : Replica) (m : Memory) where
   -- ---- Request
@@ -92,33 +84,6 @@ module _ (s : Replica) (m : Memory) where
   commit-untouched v c =
       split (Leaves s m) _ _ _ (λ _. split (Leaves s m) _ _ _ (λ _. transferred-untouched s m) (λ _. done s m refl))
       (λ _. deferred-untouched s m (acceptOf s v) v)
-
-  -- ---- GetState
-
-  pub get-state-untouched : (r : ℕ) (v : View) (o : Op) → Speaks s m (getStateStep s r v o (m .runs .log) (m .out))
-  unfolding getStateStep
-  get-state-untouched r v o =
-      split (Speaks s m) _ _ _ (λ _. done s m refl) λ _.
-      split (Speaks s m) _ _ _ (λ _. refused s m 9) (λ _. done s m refl)
-
-  -- ---- NewState
-
-  extended-untouched : (t : Replica) (n k : ℕ) (p : Part) (i : Bool) (part : List ℕ) → Leaves s m (extended s t n k p i part (m .runs) (m .out))
-  unfolding extended
-  extended-untouched t n k p i part =
-      split (Leaves s m) _ _ _ (λ _. refused s m 6) λ _.
-      split (Leaves s m) _ _ _ (λ _. refused s m 9) (λ e. done s m (acked-done s t (p .commit) i _ (m .out) e))
-
-  use-untouched : (p : Part) (part : List ℕ) (u : Use) → Leaves s m (byUse u s p part (m .runs) (m .out))
-  unfolding byUse gapFilled installed
-  use-untouched p part Ignore = done s m refl
-  use-untouched p part Hear = done s m refl
-  use-untouched p part Fill = extended-untouched _ _ _ p false _
-  use-untouched p part Install = extended-untouched _ _ _ p true part
-
-  pub new-state-untouched : (v : View) (p : Part) (part : List ℕ) → Leaves s m (newStateStep s v p part (m .runs) (m .out))
-  unfolding newStateStep
-  new-state-untouched v p part = use-untouched p part (useOf s v p)
 
   -- ---- the tick
 

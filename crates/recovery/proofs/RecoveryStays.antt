@@ -1,6 +1,6 @@
 -- Recovery and RecoveryResponse keep what refusal 1 asks. Assumes nothing.
 use mathlib.Core.Path.{_≡_, refl}
-use mathlib.Core.Bool.{true, false}
+use mathlib.Core.Bool.{true}
 use mathlib.Core.List.{List}
 use Prim.Native.Nat.{ℕ, _*_, _≤_, _<_}
 use lib.ListN.{length, take}
@@ -12,18 +12,18 @@ use Rattle.state.specs.declared.Replica.{Replica}
 use Rattle.state.specs.declared.Report.{Report}
 use Rattle.state.specs.declared.Reports.{Reports}
 use Rattle.reports.specs.Rows.{withReport}
-use Rattle.reports.specs.Sound.{reportsOk}
+use Rattle.state.specs.Sound.{reportsOk}
 use Rattle.reports.specs.Judge.{responded, Fits}
 use Rattle.reports.specs.declared.Judged.{Judged}
 use Rattle.reports.specs.declared.Judged.the-variants.{Wait, Refuse, Begin}
 use Rattle.reports.proofs.JudgeLaws.{response-lies}
 use Rattle.steps.specs.Steps.{Spoke}
-use Rattle.do_view_change.specs.Record.{Gathering}
+use Rattle.steps.specs.Recorded.{Gathering}
 use Rattle.book.specs.Memory.{Memory}
-use Rattle.recovery.specs.Recovery.{Collected, recoveringTick, fullAnswer, bareAnswer, recoveryStep, responseOf, backIn, recoveredBy, byResponse, collectedBy, responseStep}
-use Rattle.handlers.specs.Handlers.{ofCollected}
-use Rattle.handlers.proofs.Held.{Held, Kept, none-ok, as-it-was, moves, settled-held, started-held}
-use Rattle.handlers.proofs.ReportStays.{row-ok, set-ok, rows-fit, response-keeps, kept-length, installed-held}
+use Rattle.recovery.specs.Recovery.{Collected, recoveringTick, fullAnswer, bareAnswer, recoveryStep, responseOf, backIn, recoveredBy, byResponse, collectedBy, responseStep, ofCollected}
+use Rattle.steps.proofs.Held.{Held, Kept, none-ok, as-it-was, moves, settled-held}
+use Rattle.view_change.proofs.ChangeStays.{started-held}
+use Rattle.reports.proofs.ReportStays.{row-ok, set-ok, rows-fit, response-keeps, kept-length, installed-held}
 
 module _ (s : Replica) (m : Memory) (h : Gathering s m) where
   abbrev here : Held (s .setup) s (m .runs)

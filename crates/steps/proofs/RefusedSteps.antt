@@ -11,14 +11,11 @@ use Rattle.numbers.specs.declared.Op.{Op}
 use Rattle.numbers.proofs.WordLaws.{split}
 use Rattle.state.specs.Answers.{refusal}
 use Rattle.state.specs.declared.Replica.{Replica}
 use Rattle.steps.specs.Steps.{Spoke, Left, askedForState, transferred, deferred, committedAndAcked}
 use Rattle.book.specs.Memory.{Runs, Memory}
 use Rattle.steps.specs.declared.Accept.{Accept}
 use Rattle.steps.specs.declared.Accept.the-variants.{Ignore, Hear, Join, Rejoin, Take}
-use Rattle.view_change.specs.StartViewChange.{startedChange}
-use Rattle.view_change.specs.StartView.{sentStartView}
-use Rattle.do_view_change.specs.Record.{Recorded, recorded, onlySent}
-use Rattle.handlers.specs.Handlers.{ofLeft}
+use Rattle.steps.specs.Recorded.{Recorded, recorded, onlySent, ofLeft}
 
 -- done, or all as it was
 abbrev pub Untouched : Replica → Memory → Recorded → Type 0
@@ -57,14 +54,6 @@ module _ (s : Replica) (m : Memory) where
   deferred-untouched Join v = asked-untouched _ _
   deferred-untouched Rejoin v = asked-untouched _ _
   deferred-untouched Take v = done refl
-
-  pub started-untouched : (t : Replica) (v : View) → Speaks (startedChange s t v (m .out))
-  unfolding startedChange
-  started-untouched t v = split Speaks _ _ _ (λ _. refused 9) (λ _. done refl)
-
-  pub sent-start-view-untouched : (to : ℕ) (log : List ℕ) → Speaks (sentStartView s to log (m .out))
-  unfolding sentStartView
-  sent-start-view-untouched to log = split Speaks _ _ _ (λ _. refused 9) (λ _. done refl)
 
   -- ---- PrepareOk, of the runs as they were
 

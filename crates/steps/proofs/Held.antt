@@ -2,7 +2,7 @@
 --     as-it-was, other, moves, back    a state with its own numbers, with those of s, and s beside the runs that were left
 --     none-ok                          no reports
 --     settled-held, acked-held         commits, and PrepareOk
---     asked-held, heard-held, transferred-held, deferred-held, started-held    messages alone
+--     asked-held, heard-held, transferred-held, deferred-held    messages alone
 --     sent-kept, left-kept, still-kept    what a handler leaves
 -- Assumes nothing.
 use mathlib.Core.Path.{_≡_, refl, sym, ap, _∙_}
@@ -18,19 +18,17 @@ use Rattle.numbers.proofs.WordLaws.{split}
 use Rattle.config.specs.Setup.{setupOk}
 use Rattle.config.specs.declared.Setup.{Setup}
 use Rattle.book.proofs.RunLaws.{committed-lengths}
-use Rattle.state.specs.State.{heardBy, catchingUpIn, changingTo}
+use Rattle.state.specs.State.{heardBy, catchingUpIn}
 use Rattle.state.specs.Statuses.{noReport, noReports}
 use Rattle.state.specs.Lengths.{logLength, resultsLength, totalsLength, acksLength, storedLength}
 use Rattle.state.specs.declared.Returned.{Returned}
 use Rattle.state.specs.declared.Replica.{Replica}
-use Rattle.reports.specs.Sound.{reportOk, reportsOk}
+use Rattle.state.specs.Sound.{reportOk, reportsOk}
 use Rattle.steps.specs.Steps.{Sound, Spoke, Left, committedTo, settled, askedForState, transferred, deferred, committedAndAcked}
 use Rattle.book.specs.Memory.{Runs, Memory}
 use Rattle.steps.specs.declared.Accept.{Accept}
 use Rattle.steps.specs.declared.Accept.the-variants.{Ignore, Hear, Join, Rejoin, Take}
-use Rattle.view_change.specs.StartViewChange.{startedChange}
-use Rattle.do_view_change.specs.Record.{Recorded, recorded, onlySent, Gathering}
-use Rattle.handlers.specs.Handlers.{ofLeft}
+use Rattle.steps.specs.Recorded.{Recorded, recorded, onlySent, Gathering, ofLeft}
 
 -- the state t and the runs x, in a setup u
 pub record Held (u : Setup) (t : Replica) (x : Runs) : Type 0 where
@@ -119,11 +117,6 @@ module _ {s : Replica} {x : Runs} (h : Held (s .setup) s x) where
   deferred-held Join v out = asked-held _ _ out (moves (catchingUpIn s v) refl refl refl (none-ok (s .setup)))
   deferred-held Rejoin v out = asked-held _ _ out (moves (catchingUpIn (heardBy s) v) refl refl refl (none-ok (s .setup)))
   deferred-held Take v out = h
-
-  pub started-held : (t : Replica) (v : View) (out : List ℕ) → Held (s .setup) (changingTo t v) x
-      → Held (s .setup) (startedChange s t v out .answer .state) x
-  unfolding startedChange
-  started-held t v out g = split (λ (d : Spoke). Held (s .setup) (d .answer .state) x) _ _ _ (λ _. h) (λ _. g)
 
 -- ---- commits
 
