@@ -16,7 +16,7 @@
  * counts stay as they were. A frame begins with its length (4 bytes, of what follows), version 1, kind, and the replica that
  * it is for (WHITHERHAUL_FRAME_..). All numbers in frames and runs are big-endian.
  *
- * Two calls may run at once where they share no run. Link target/staticlib/native/libffi.a; it needs the C library for memmove and
+ * Two calls may run at once where they share no run. Link target/staticlib/native/libwhitherhaul.a; it needs the C library for memmove and
  * memset only.
  */
 #ifndef WHITHERHAUL_H
