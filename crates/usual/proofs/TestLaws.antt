@@ -12,29 +12,30 @@ use lib.ListN.{length}
 use borrow.Author.Tests.{lt-ltb, le-ltb, ne-eqb}
 use Rattle.numbers.specs.Words.{if_then_else_}
 use Rattle.numbers.specs.Numbers.{num}
+use Rattle.frames.specs.Kinds.{kindOf}
 use Rattle.state.specs.State.{leads}
 use Rattle.state.specs.Statuses.{isNormal}
 use Rattle.state.specs.declared.Replica.{Replica}
 use Rattle.usual.specs.Usual.{usualKind, isUsual, isLeading}
 
 module _ (v : ℕ) (frame : List ℕ) where
-  pub kind-request : num 1 5 frame ≡ 1 → true ≡ usualKind v frame
+  pub kind-request : kindOf frame ≡ 1 → true ≡ usualKind v frame
   unfolding usualKind if_then_else_
   kind-request k = rw k
 
-  pub kind-prepare : num 1 5 frame ≡ 2 → (w : ℕ) → w ≡ num 4 7 frame → eqb w v ≡ usualKind v frame
+  pub kind-prepare : kindOf frame ≡ 2 → (w : ℕ) → w ≡ num 4 7 frame → eqb w v ≡ usualKind v frame
   unfolding usualKind if_then_else_
   kind-prepare k w e = rw (k, e)
 
-  pub kind-prepare-ok : num 1 5 frame ≡ 3 → true ≡ usualKind v frame
+  pub kind-prepare-ok : kindOf frame ≡ 3 → true ≡ usualKind v frame
   unfolding usualKind if_then_else_
   kind-prepare-ok k = rw k
 
-  pub kind-commit : num 1 5 frame ≡ 4 → (w : ℕ) → w ≡ num 4 7 frame → eqb w v ≡ usualKind v frame
+  pub kind-commit : kindOf frame ≡ 4 → (w : ℕ) → w ≡ num 4 7 frame → eqb w v ≡ usualKind v frame
   unfolding usualKind if_then_else_
   kind-commit k w e = rw (k, e)
 
-  pub kind-other : (k : ℕ) → k ≡ num 1 5 frame → (k ≡ 1 → ⊥) → (k ≡ 2 → ⊥) → (k ≡ 3 → ⊥) → (k ≡ 4 → ⊥) → false ≡ usualKind v frame
+  pub kind-other : (k : ℕ) → k ≡ kindOf frame → (k ≡ 1 → ⊥) → (k ≡ 2 → ⊥) → (k ≡ 3 → ⊥) → (k ≡ 4 → ⊥) → false ≡ usualKind v frame
   unfolding usualKind if_then_else_
   kind-other k e a b c d = rw (← e, ne-eqb k 1 a, ne-eqb k 2 b, ne-eqb k 3 c, ne-eqb k 4 d)
 

@@ -9,7 +9,7 @@ use Prim.Native.Nat.{ℕ}
 use borrow.Author.Tests.{eqb-true, not-false}
 use lib.Dec.{eqb}
 use Rattle.numbers.specs.Words.{if_then_else_}
-use Rattle.numbers.specs.Numbers.{num}
+use Rattle.frames.specs.Kinds.{kindOf}
 use Rattle.numbers.proofs.WordLaws.{split}
 use Rattle.frames.specs.Messages.{messageOf}
 use Rattle.frames.specs.declared.Message.{Message}
@@ -41,10 +41,10 @@ module _ (s : Replica) (n : isNormal (s .status) ≡ true) (latest : Latest) (fr
   Handles d = Onward s (d .answer .state)
 
   -- by its kind
-  kind-onward : usualKind (s .view .0) frame ≡ true → Handles (handled (messageOf (num 1 5 frame) frame) s latest frame m)
+  kind-onward : usualKind (s .view .0) frame ≡ true → Handles (handled (messageOf (kindOf frame) frame) s latest frame m)
   unfolding usualKind messageOf handled if_then_else_
   kind-onward =
-      let k = num 1 5 frame in
+      let k = kindOf frame in
       let Goes : Bool → Type 0 = λ u. u ≡ true → Handles (handled (messageOf k frame) s latest frame m) in
       split Goes (eqb k 1) _ _ (λ a _. rw a (request-onward s _ latest (m .runs .log) (m .acks) (m .out) (m .reps))) λ a.
       split Goes (eqb k 2) _ _ (λ b e. rw (a, b) (prepare-onward s n _ (eqb-true _ _ e) _ (m .runs) (m .out))) λ b.
@@ -52,7 +52,7 @@ module _ (s : Replica) (n : isNormal (s .status) ≡ true) (latest : Latest) (fr
       split Goes (eqb k 4) _ _ (λ d e. rw (a, b, c, d) (commit-onward s n _ (eqb-true _ _ e) _ (m .runs) (m .out))) λ d e.
       absurd (false≢true e)
 
-  step-onward : usualKind (s .view .0) frame ≡ true → Handles (messageStep (messageOf (num 1 5 frame) frame) s latest frame m)
+  step-onward : usualKind (s .view .0) frame ≡ true → Handles (messageStep (messageOf (kindOf frame) frame) s latest frame m)
   unfolding messageStep
   step-onward u = split Handles _ _ _ (λ _. kind-onward u) (λ _. refl)
 
@@ -70,7 +70,7 @@ module _ (s : Replica) (n : isNormal (s .status) ≡ true) (frame : List ℕ) (u
   checked-onward (Refused k) e = refl
   checked-onward (Passed m) e =
       let latest = latestFor m (s .setup .room) (x .table) in
-      let q : m ≡ messageOf (num 1 5 frame) frame = passed (s .setup) frame m (passed-is s (lengthsOf x) frame m e .1) .said .message in
+      let q : m ≡ messageOf (kindOf frame) frame = passed (s .setup) frame m (passed-is s (lengthsOf x) frame m e .1) .said .message in
       subst (λ (a : Returned). Onward s (a .state)) (sym (followed-answer s (x .table) (x .old) _))
       (subst (λ (z : Message). Onward s (messageStep z s latest frame (x .core) .answer .state)) (sym q)
       (step-onward s n latest frame (x .core) u))

@@ -7,6 +7,7 @@ use lib.Dec.{ltb, eqb}
 use lib.ListN.{length}
 use Rattle.numbers.specs.Words.{if_then_else_}
 use Rattle.numbers.specs.Numbers.{num}
+use Rattle.frames.specs.Kinds.{kindOf}
 use Rattle.state.specs.State.{leads}
 use Rattle.state.specs.Statuses.{isNormal}
 use Rattle.state.specs.declared.Replica.{Replica}
@@ -14,10 +15,10 @@ use Rattle.state.specs.declared.Replica.{Replica}
 -- by its kind: a Request, a PrepareOk, and a Prepare or Commit of view v
 unfoldable pub usualKind : (v : ℕ) → List ℕ → Bool
 usualKind v frame =
-    if eqb (num 1 5 frame) 1 then true else
-    if eqb (num 1 5 frame) 2 then eqb (num 4 7 frame) v else
-    if eqb (num 1 5 frame) 3 then true else
-    if eqb (num 1 5 frame) 4 then eqb (num 4 7 frame) v else
+    if eqb (kindOf frame) 1 then true else
+    if eqb (kindOf frame) 2 then eqb (num 4 7 frame) v else
+    if eqb (kindOf frame) 3 then true else
+    if eqb (kindOf frame) 4 then eqb (num 4 7 frame) v else
     false
 
 -- a frame for a Normal replica

@@ -16,7 +16,7 @@ pub fn is_usual(s: Replica, frame: &[u8]) -> bool
     if frame.len() < 11 {
         return false;
     }
-    match numbers::read_u8(frame, 5) {
+    match frames::kind_of(frame) {
         1 => true,
         2 => numbers::read_u32(frame, 7) == s.view.0,
         3 => true,

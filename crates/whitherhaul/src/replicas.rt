@@ -261,7 +261,7 @@ pub extern "C" fn whitherhaul_on_message(
             counts,
         );
     }
-    match numbers::read_u8(frame, 5) {
+    match frames::kind_of(frame) {
         1 => message_usual(
             state,
             frame,
