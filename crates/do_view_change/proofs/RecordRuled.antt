@@ -21,13 +21,11 @@ use Rattle.reports.specs.declared.Best.{Best}
 use Rattle.reports.specs.declared.Judged.{Judged}
 use Rattle.reports.specs.declared.Judged.the-variants.{Wait, Refuse, Begin}
 use Rattle.reports.proofs.WholeLaws.{Whole, over-ok}
-use Rattle.steps.specs.Steps.{Spoke}
 use Rattle.do_view_change.specs.Begin.{begunIn, beginStep}
-use Rattle.steps.specs.Recorded.{onlySent}
 use Rattle.do_view_change.specs.Record.{reportOf, ownReport, decidedBy, decided, keptBy, startedBy, byDecision, recordStep, toldPrimary, sendStep, doViewChangeStep}
 use Rattle.book.specs.Memory.{Memory}
 use Rattle.do_view_change.specs.declared.Decision.{Decision}
-use Rattle.steps.proofs.Ruled.{Has, RuledBy, cleared, still, wrote}
+use Rattle.steps.proofs.Ruled.{Has, RuledBy, cleared, still, wrote, SentRuled}
 use Rattle.view_change.proofs.ChangeRuled.{start-view-has}
 use Rattle.reports.proofs.ReportRuled.{kept-stored, begin-whole}
 
@@ -74,9 +72,6 @@ module _ (s t : Replica) (m : Memory) (hs : Has s m) (ht : Has t m) where
     unfolding recordStep decided
     recorded-ruled = judged-ruled verdict (length (m .out)) (length (m .reps)) refl
 
-  abbrev SentRuled : Spoke → Type 0
-  SentRuled d = RuledBy (onlySent m d)
-
   -- send_do_view_change
   pub send-ruled : (first : Bool) → RuledBy (sendStep s t first m)
   unfolding sendStep toldPrimary
@@ -85,7 +80,7 @@ module _ (s t : Replica) (m : Memory) (hs : Has s m) (ht : Has t m) where
       (λ _.
       recorded-ruled first (t .setup .id) (ownReport t) (m .runs .log) (sized (t .setup) (ht .sized) .own) (ht .op-le)
       (omega (arith, ht .op-le, ht .log-long)) (ht .log-ok))
-      (λ _. split SentRuled _ _ _ (λ _. still hs) (λ _. still ht))
+      (λ _. split (SentRuled m) _ _ _ (λ _. still hs) (λ _. still ht))
 
 module _ (s : Replica) (m : Memory) (h : Has s m) where
   -- ---- DoViewChange

@@ -1,15 +1,10 @@
 -- Every entry of our log and of each stored one keeps the entry rules, byte for byte, again after every message and every tick. Assumes nothing.
 use Prim.Native.Nat.{ℕ}
 use mathlib.Core.Path.{_≡_}
-use mathlib.Core.Bool.{true}
 use mathlib.Core.List.{List}
-use lib.ListN.{drop}
 use Rattle.numbers.specs.Numbers.{Bytes}
-use Rattle.numbers.specs.declared.View.{View}
-use Rattle.numbers.specs.declared.Op.{Op}
 use Rattle.numbers.proofs.WordLaws.{split}
 use Rattle.clock.specs.Clock.{tickOf}
-use Rattle.clock.specs.declared.Clock.{Clock}
 use Rattle.clock.specs.declared.Ticked.{Ticked}
 use Rattle.clock.specs.declared.Duty.the-variants.{Follow, Change}
 use Rattle.frames.specs.Messages.{carriedBytes}
@@ -18,86 +13,39 @@ use Rattle.frames.specs.declared.Message.{Message}
 use Rattle.frames.specs.declared.Message.the-variants.{Request, Prepare, PrepareOk, Commit, GetState, NewState, StartViewChange, DoViewChange, StartView, Recovery, RecoveryResponse}
 use Rattle.frames.specs.declared.Checked.the-variants.{Passed}
 use Rattle.client_table.specs.declared.Latest.{Latest}
-use Rattle.state.specs.State.{withClock}
 use Rattle.state.specs.declared.Replica.{Replica}
-use Rattle.steps.specs.Steps.{Spoke}
-use Rattle.normal.specs.Tick.{primaryTick}
-use Rattle.transfer.specs.GetState.{getStateStep}
-use Rattle.transfer.specs.Tick.{transferTick}
-use Rattle.steps.specs.Recorded.{Recorded, Gathering, onlySent}
+use Rattle.steps.specs.Recorded.{Gathering}
 use Rattle.book.specs.Memory.{Memory}
-use Rattle.voting.specs.Tick.{nextView, nextViewAsking, repeated, changeTick}
-use Rattle.recovery.specs.Recovery.{recoveringTick, fullAnswer, bareAnswer, recoveryStep}
+use Rattle.voting.specs.Tick.{changeTick}
 use Rattle.normal.specs.Prepare.{preparedBy}
 use Rattle.transfer.specs.NewState.{partOf}
 use Rattle.handlers.specs.Handlers.{handled, messageStep, followTick, normalTick, askTick, changingTick, idleStep}
 use Rattle.handlers.proofs.FrameLaws.{request-ok, prepare-ok, new-state-fit, new-state-ok, report-fit, report-ok, start-view-fit, start-view-ok, response-fit, response-ok}
-use Rattle.steps.proofs.Ruled.{Has, has, cleared, still, asked-has}
-use Rattle.view_change.proofs.ChangeRuled.{started-has, start-view-ruled}
-use Rattle.normal.proofs.NormalRuled.{request-ruled, prepare-ruled, prepare-ok-ruled, commit-ruled}
-use Rattle.transfer.proofs.TransferRuled.{new-state-ruled}
-use Rattle.do_view_change.proofs.RecordRuled.{send-ruled, do-view-change-ruled}
-use Rattle.voting.proofs.VoteRuled.{called-ruled, start-view-change-ruled}
-use Rattle.recovery.proofs.RecoveryRuled.{response-ruled}
+use Rattle.steps.proofs.Ruled.{Has, has, still, SentRuled}
+use Rattle.view_change.proofs.ChangeRuled.{start-view-ruled}
+use Rattle.normal.proofs.NormalRuled.{request-ruled, prepare-ruled, prepare-ok-ruled, commit-ruled, primary-tick-ruled}
+use Rattle.transfer.proofs.TransferRuled.{new-state-ruled, get-state-ruled, transfer-tick-ruled}
+use Rattle.do_view_change.proofs.RecordRuled.{do-view-change-ruled}
+use Rattle.voting.proofs.VoteRuled.{start-view-change-ruled, next-view-ruled, asking-ruled, repeated-ruled}
+use Rattle.recovery.proofs.RecoveryRuled.{response-ruled, recovery-ruled, recovering-ruled}
 pub use Rattle.steps.proofs.Ruled.{Ruled, RuledBy}
 
 module _ (s : Replica) (m : Memory) (h : Has s m) where
-  abbrev SentRuled : Spoke → Type 0
-  SentRuled d = RuledBy (onlySent m d)
-
-  -- ---- messages that are only answered
-
-  get-state-ruled : (r : ℕ) (v : View) (o : Op) → SentRuled (getStateStep s r v o (m .runs .log) (m .out))
-  unfolding getStateStep
-  get-state-ruled r v o =
-      split SentRuled _ _ _ (λ _. still h) λ _.
-      split SentRuled _ _ _ (λ _. still h) λ _. still h
-
-  recovery-ruled : (r x : ℕ) (v : View) → SentRuled (recoveryStep s r x v (m .runs .log) (m .out))
-  unfolding recoveryStep fullAnswer bareAnswer
-  recovery-ruled r x v =
-      split SentRuled _ _ _ (λ _. still (started-has s m h s v (m .out) (cleared h))) λ _.
-      split SentRuled _ _ _ (λ _. still h) λ _.
-      split SentRuled _ _ _ (λ _. split SentRuled _ _ _ (λ _. still h) λ _. still h) λ _.
-      split SentRuled _ _ _ (λ _. still h) λ _. still h
-
   -- ---- ticks
 
-  next-view-ruled : (c : Clock) → SentRuled (nextView s c (m .out))
-  unfolding nextView
-  next-view-ruled c =
-      split SentRuled _ _ _ (λ _. still h) λ _. still (started-has s m h (withClock s c) _ (m .out) (cleared h))
-
-  asking-ruled : (c : Clock) → SentRuled (nextViewAsking s c (m .out))
-  unfolding nextViewAsking
-  asking-ruled c =
-      split SentRuled _ _ _ (λ _. still h) λ _.
-      split SentRuled _ _ _ (λ _. still h) λ _. still (cleared h)
-
-  normal-tick-ruled : SentRuled (normalTick s (m .runs .log) (m .out))
-  unfolding normalTick followTick primaryTick
+  normal-tick-ruled : SentRuled m (normalTick s (m .runs .log) (m .out))
+  unfolding normalTick followTick
   normal-tick-ruled =
-      split SentRuled _ _ _ (λ _. split SentRuled _ _ _ (λ _. still h) λ _. still h) λ _.
-      split SentRuled _ _ _ (λ _. next-view-ruled _) λ _. still h
+      split (SentRuled m) _ _ _ (λ _. primary-tick-ruled s m h) λ _.
+      split (SentRuled m) _ _ _ (λ _. next-view-ruled s m h _) λ _. still h
 
-  ask-tick-ruled : (t : Ticked) → SentRuled (askTick s t (m .out))
-  unfolding askTick transferTick
-  ask-tick-ruled t =
-      split SentRuled _ _ _ (λ _. asking-ruled (t .clock)) λ _. still (asked-has s m h (withClock s (t .clock)) (s .op) (m .out) h)
-
-  repeated-ruled : (c : Clock) → RuledBy (repeated s c m)
-  unfolding repeated
-  repeated-ruled c =
-      split RuledBy _ _ _ (λ _. still (asked-has s m h (withClock s c) (s .commit) (m .out) h)) λ _.
-      split RuledBy _ _ _ (λ _. send-ruled s (withClock s c) m h h true) λ _. called-ruled s (withClock s c) m h h true
+  ask-tick-ruled : (t : Ticked) → SentRuled m (askTick s t (m .out))
+  unfolding askTick
+  ask-tick-ruled t = split (SentRuled m) _ _ _ (λ _. asking-ruled s m h (t .clock)) λ _. transfer-tick-ruled s m h (t .clock)
 
   changing-tick-ruled : (t : Ticked) → RuledBy (changingTick s t m)
   unfolding changingTick changeTick
-  changing-tick-ruled t = split RuledBy _ _ _ (λ _. next-view-ruled (t .clock)) λ _. repeated-ruled (t .clock)
-
-  recovering-ruled : SentRuled (recoveringTick s (m .out))
-  unfolding recoveringTick
-  recovering-ruled = split SentRuled _ _ _ (λ _. still h) λ _. still h
+  changing-tick-ruled t = split RuledBy _ _ _ (λ _. next-view-ruled s m h (t .clock)) λ _. repeated-ruled s m h (t .clock)
 
 -- ---- each kind of message
 

@@ -5,8 +5,6 @@ use mathlib.Core.Path.{_≡_, refl, sym, ap, _∙_, subst}
 use mathlib.Core.Bool.{true}
 use mathlib.Core.List.{List}
 use lib.ListN.{take}
-use Rattle.numbers.specs.declared.View.{View}
-use Rattle.numbers.specs.declared.Op.{Op}
 use Rattle.numbers.proofs.WordLaws.{split}
 use Rattle.config.specs.declared.Setup.{Setup}
 use Rattle.clock.specs.Clock.{tickOf}
@@ -25,7 +23,6 @@ use Rattle.state.specs.declared.Replica.{Replica}
 use Rattle.state.specs.Sound.{reportsOk}
 use Rattle.steps.specs.Steps.{Spoke}
 use Rattle.normal.specs.Tick.{primaryTick}
-use Rattle.transfer.specs.GetState.{getStateStep}
 use Rattle.transfer.specs.Tick.{transferTick}
 use Rattle.steps.specs.Recorded.{Recorded, Gathering}
 use Rattle.book.specs.Memory.{Memory}
@@ -35,7 +32,7 @@ use Rattle.handlers.specs.Handlers.{handled, messageStep, followTick, no
 use Rattle.handlers.proofs.FrameLaws.{new-state-fit, report-fit, start-view-fit, response-fit}
 use Rattle.steps.proofs.Held.{Held, Kept, as-it-was, moves, asked-held, sent-kept, left-kept, still-kept}
 use Rattle.normal.proofs.NormalStays.{commit-held, prepare-held, request-kept, prepare-ok-kept}
-use Rattle.transfer.proofs.TransferStays.{new-state-held}
+use Rattle.transfer.proofs.TransferStays.{new-state-held, get-state-held}
 use Rattle.view_change.proofs.ChangeStays.{start-view-kept}
 use Rattle.do_view_change.proofs.RecordStays.{do-view-change-kept}
 use Rattle.voting.proofs.VoteStays.{start-view-change-kept, next-view-held, next-view-asking-held, change-tick-kept}
@@ -69,10 +66,6 @@ module _ (s : Replica) (m : Memory) (h : Gathering s m) where
 
   -- ---- on_message
 
-  get-state-held : (r : ℕ) (v : View) (o : Op) → Speaks (getStateStep s r v o (m .runs .log) (m .out))
-  unfolding getStateStep
-  get-state-held r v o = split Speaks _ _ _ (λ _. here) (λ _. split Speaks _ _ _ (λ _. here) (λ _. here))
-
   handled-kept : (x : Message) (latest : Latest) (frame : List ℕ) → checkFrame (s .setup) frame ≡ Passed x
       → Kept (s .setup) (handled x s latest frame m)
   unfolding handled
@@ -80,7 +73,7 @@ module _ (s : Replica) (m : Memory) (h : Gathering s m) where
   handled-kept (Prepare v o c e) latest frame ok = left-kept h _ (prepare-held s (m .runs) here (m .out) v (preparedBy o c e latest))
   handled-kept (PrepareOk v o r) latest frame ok = prepare-ok-kept s m h v o r
   handled-kept (Commit v c) latest frame ok = left-kept h _ (commit-held s (m .runs) here (m .out) v c)
-  handled-kept (GetState r v o) latest frame ok = sent-kept h _ (get-state-held r v o)
+  handled-kept (GetState r v o) latest frame ok = sent-kept h _ (get-state-held here r v o (m .runs .log) (m .out))
   handled-kept (NewState v a z c) latest frame ok =
       let f = new-state-fit (s .setup) frame v a z c ok in
       left-kept h _

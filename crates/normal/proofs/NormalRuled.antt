@@ -1,4 +1,4 @@
--- Request, Prepare, PrepareOk and Commit keep the entry rules: what is appended was carried by a frame that passed. Assumes nothing.
+-- Request, Prepare, PrepareOk, Commit and a primary's tick keep the entry rules: what is appended was carried by a frame that passed. Assumes nothing.
 use Prim.Native.Nat.{ℕ, _+_, _-_, _<_}
 use native.Mathlib.Omega.{arith}
 use mathlib.Core.Path.{_≡_, refl}
@@ -34,7 +34,8 @@ use Rattle.normal.proofs.PrepareLaws.{room-left}
 use Rattle.normal.proofs.RequestLaws.{append-fits}
 use Rattle.book.specs.Memory.{Memory}
 use Rattle.steps.specs.Recorded.{ofLeft}
-use Rattle.steps.proofs.Ruled.{Has, RuledBy, still, wrote, transferred-has, deferred-has, acked-left}
+use Rattle.steps.proofs.Ruled.{Has, RuledBy, still, wrote, transferred-has, deferred-has, acked-left, SentRuled}
+use Rattle.normal.specs.Tick.{primaryTick}
 
 module _ (s : Replica) (m : Memory) (h : Has s m) where
   abbrev LeftRuled : Left → Type 0
@@ -106,3 +107,10 @@ module _ (s : Replica) (m : Memory) (h : Has s m) where
   prepare-ok-ruled v o r =
       split (λ (d : Counted). RuledBy (ofCounted m d)) _ _ _ (λ _. still h)
       (λ _. count-ruled o r (PrepareOk.ackVerdict s o (getD (m .acks) (o .0 - 1) 0) r (length (m .reps))))
+
+-- ---- the tick of a primary
+
+module _ (s : Replica) (m : Memory) (h : Has s m) where
+  pub primary-tick-ruled : SentRuled m (primaryTick s (m .runs .log) (m .out))
+  unfolding primaryTick
+  primary-tick-ruled = split (SentRuled m) _ _ _ (λ _. still h) λ _. still h

@@ -1,4 +1,4 @@
--- RecoveryResponse keeps the entry rules. Assumes nothing.
+-- RecoveryResponse, Recovery and the tick in Recovering keep the entry rules. Assumes nothing.
 use Prim.Native.Nat.{ℕ, _*_, _≤_, _<_}
 use mathlib.Core.Path.{_≡_, refl, _∙_}
 use mathlib.Core.Bool.{true}
@@ -17,9 +17,10 @@ use Rattle.reports.specs.declared.Judged.the-variants.{Wait, Refuse, Begin}
 use Rattle.reports.proofs.WholeLaws.{Whole, over-ok}
 use Rattle.steps.specs.Steps.{settled}
 use Rattle.book.specs.Memory.{Memory}
-use Rattle.recovery.specs.Recovery.{Collected, responseOf, recoveredBy, byResponse, collectedBy, responseStep, ofCollected}
-use Rattle.steps.proofs.Ruled.{Has, RuledBy, cleared, still, wrote}
+use Rattle.recovery.specs.Recovery.{Collected, responseOf, recoveredBy, byResponse, collectedBy, responseStep, ofCollected, recoveringTick, fullAnswer, bareAnswer, recoveryStep}
+use Rattle.steps.proofs.Ruled.{Has, RuledBy, cleared, still, wrote, SentRuled}
 use Rattle.reports.proofs.ReportRuled.{kept-stored, response-whole}
+use Rattle.view_change.proofs.ChangeRuled.{started-has}
 
 module _ (s : Replica) (m : Memory) (h : Has s m) where
   module _ (r : ℕ) (d : Report) (part : List ℕ) (below : r < s .setup .n) (short : d .op .0 ≤ s .setup .room)
@@ -55,3 +56,18 @@ module _ (s : Replica) (m : Memory) (h : Has s m) where
   response-ruled v x r t part below short long ok =
       split (λ (d : Collected). RuledBy (ofCollected m d)) _ _ _ (λ _. still h)
       (λ _. collected-ruled r (responseOf v t) part below short long ok)
+
+-- ---- Recovery, and the tick
+
+module _ (s : Replica) (m : Memory) (h : Has s m) where
+  pub recovery-ruled : (r x : ℕ) (v : View) → SentRuled m (recoveryStep s r x v (m .runs .log) (m .out))
+  unfolding recoveryStep fullAnswer bareAnswer
+  recovery-ruled r x v =
+      split (SentRuled m) _ _ _ (λ _. still (started-has s m h s v (m .out) (cleared h))) λ _.
+      split (SentRuled m) _ _ _ (λ _. still h) λ _.
+      split (SentRuled m) _ _ _ (λ _. split (SentRuled m) _ _ _ (λ _. still h) λ _. still h) λ _.
+      split (SentRuled m) _ _ _ (λ _. still h) λ _. still h
+
+  pub recovering-ruled : SentRuled m (recoveringTick s (m .out))
+  unfolding recoveringTick
+  recovering-ruled = split (SentRuled m) _ _ _ (λ _. still h) λ _. still h

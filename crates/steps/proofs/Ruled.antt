@@ -27,7 +27,7 @@ use Rattle.steps.specs.Steps.{Spoke, Left, left, committedTo, settled, a
 use Rattle.book.specs.Memory.{Runs, Memory}
 use Rattle.steps.specs.declared.Accept.{Accept}
 use Rattle.steps.specs.declared.Accept.the-variants.{Ignore, Hear, Join, Rejoin, Take}
-use Rattle.steps.specs.Recorded.{Recorded, Gathering}
+use Rattle.steps.specs.Recorded.{Recorded, Gathering, onlySent}
 
 pub record Ruled (s : Replica) (m : Memory) : Type 0 where
   pub log : entriesOk (s .op .0) (m .runs .log) ≡ true
@@ -127,3 +127,7 @@ pub acked-left : (P : Left → Type 0) (s t : Replica) (k : Op) (installed : Boo
     → P (committedAndAcked s t k installed x out)
 unfolding committedAndAcked
 acked-left P s t k installed x out e p = split P _ _ _ (λ f. absurd (false≢true (sym e ∙ f))) (λ _. p)
+
+-- a call that only sends leaves entries that keep the rules
+abbrev pub SentRuled : Memory → Spoke → Type 0
+SentRuled m d = RuledBy (onlySent m d)

@@ -1,4 +1,4 @@
--- NewState keeps the entry rules: what is appended or installed was carried by a frame that passed. Assumes nothing.
+-- NewState, GetState and the tick in StateTransfer keep the entry rules: what is appended or installed was carried by a frame that passed. Assumes nothing.
 use Prim.Native.Nat.{ℕ, _+_, _-_, _*_, _≤_}
 use native.Mathlib.Omega.{arith}
 use mathlib.Core.Path.{_≡_, refl, subst}
@@ -12,7 +12,7 @@ use Rattle.entries.proofs.PlaceLaws.{place-is}
 use Rattle.frames.specs.declared.Status.the-variants.{Normal}
 use Rattle.book.specs.Log.{withEntries}
 use Rattle.book.proofs.EntryRules.{ok-back, part-ok}
-use Rattle.state.specs.State.{heardBy, withStatus, withLog, normalIn}
+use Rattle.state.specs.State.{heardBy, withStatus, withLog, normalIn, withClock}
 use Rattle.state.specs.declared.Replica.{Replica}
 use Rattle.steps.specs.Steps.{Left, settled}
 use Rattle.transfer.specs.NewState.{withPart, useOf, extended, gapFilled, installed, byUse, newStateStep}
@@ -22,7 +22,11 @@ use Rattle.transfer.specs.declared.Use.the-variants.{Ignore, Hear, Fill,
 use Rattle.transfer.proofs.NewStateLaws.{fill-told, install-told}
 use Rattle.book.specs.Memory.{Memory}
 use Rattle.steps.specs.Recorded.{ofLeft}
-use Rattle.steps.proofs.Ruled.{Has, RuledBy, cleared, still, wrote, acked-left}
+use Rattle.steps.proofs.Ruled.{Has, RuledBy, cleared, still, wrote, acked-left, asked-has, SentRuled}
+use Rattle.numbers.specs.declared.Op.{Op}
+use Rattle.clock.specs.declared.Clock.{Clock}
+use Rattle.transfer.specs.GetState.{getStateStep}
+use Rattle.transfer.specs.Tick.{transferTick}
 
 module _ (s : Replica) (m : Memory) (h : Has s m) where
   abbrev LeftRuled : Left → Type 0
@@ -75,3 +79,16 @@ module _ (s : Replica) (m : Memory) (h : Has s m) where
     pub new-state-ruled : RuledBy (ofLeft m (newStateStep s v p part (m .runs) (m .out)))
     unfolding newStateStep
     new-state-ruled = use-ruled (useOf s v p) refl
+
+-- ---- what is only answered, and the tick
+
+module _ (s : Replica) (m : Memory) (h : Has s m) where
+  pub get-state-ruled : (r : ℕ) (v : View) (o : Op) → SentRuled m (getStateStep s r v o (m .runs .log) (m .out))
+  unfolding getStateStep
+  get-state-ruled r v o =
+      split (SentRuled m) _ _ _ (λ _. still h) λ _.
+      split (SentRuled m) _ _ _ (λ _. still h) λ _. still h
+
+  pub transfer-tick-ruled : (c : Clock) → SentRuled m (transferTick s c (m .out))
+  unfolding transferTick
+  transfer-tick-ruled c = still (asked-has s m h (withClock s c) (s .op) (m .out) h)

@@ -1,4 +1,4 @@
--- NewState keeps what refusal 1 asks. Assumes nothing.
+-- NewState and GetState keep what refusal 1 asks. Assumes nothing.
 use mathlib.Core.Path.{_≡_, refl}
 use mathlib.Core.Bool.{true, false}
 use mathlib.Core.List.{List}
@@ -10,7 +10,7 @@ use Rattle.numbers.proofs.WordLaws.{split}
 use Rattle.frames.specs.declared.Status.the-variants.{Normal}
 use Rattle.state.specs.State.{heardBy, withStatus, withLog, normalIn}
 use Rattle.state.specs.declared.Replica.{Replica}
-use Rattle.steps.specs.Steps.{Left}
+use Rattle.steps.specs.Steps.{Left, Spoke}
 use Rattle.book.specs.Memory.{Runs}
 use Rattle.transfer.specs.NewState.{PartPassed, withPart, useOf, extended, gapFilled, installed, byUse, newStateStep}
 use Rattle.transfer.specs.declared.Part.{Part}
@@ -18,6 +18,8 @@ use Rattle.transfer.specs.declared.Use.{Use}
 use Rattle.transfer.specs.declared.Use.the-variants.{Ignore, Hear, Fill, Install}
 use Rattle.transfer.proofs.NewStateLaws.{fill-told, install-told, fill-fits, install-fits}
 use Rattle.steps.proofs.Held.{Held, none-ok, heard-held, acked-held}
+use Rattle.numbers.specs.declared.Op.{Op}
+use Rattle.transfer.specs.GetState.{getStateStep}
 
 module _ (s : Replica) (x : Runs) (h : Held (s .setup) s x) (out : List ℕ) where
   abbrev HeldBy : Left → Type 0
@@ -56,3 +58,12 @@ module _ (s : Replica) (x : Runs) (h : Held (s .setup) s x) (out : List ℕ) whe
     pub new-state-held : HeldBy (newStateStep s v p part x out)
     unfolding newStateStep
     new-state-held = use-held (useOf s v p) refl
+
+-- GetState only answers
+pub get-state-held : {s : Replica} {x : Runs} → Held (s .setup) s x → (r : ℕ) (v : View) (o : Op) (log out : List ℕ)
+    → Held (s .setup) (getStateStep s r v o log out .answer .state) x
+unfolding getStateStep
+get-state-held {s} {x} h r v o log out = split P _ _ _ (λ _. h) (λ _. split P _ _ _ (λ _. h) (λ _. h))
+  where
+    P : Spoke → Type 0
+    P d = Held (s .setup) (d .answer .state) x
