@@ -1,8 +1,8 @@
 -- The calls behind the core, as steps of a walk.
 --     ChangeAfter, to-change       `core::change_after`, and what its triple binds outside
---     Follow, to-follow            `table_rows::follow`.      gives-follow    before the call: the log and the results go as `&` for lifetimes of it, the rows for good
+--     Follow, to-follow            `client_table_structs::follow`.      gives-follow    before the call: the log and the results go as `&` for lifetimes of it, the rows for good
 --     takes-follow                 behind it: all four are given up
---     Clear, clears                `table_rows::clear`: the call, with rows that go for good
+--     Clear, clears                `client_table_structs::clear`: the call, with rows that go for good
 --     nonzero, is-zero             a code, by the test that leaves the table as it is
 -- The call of `follow` itself stands in the walks: antt looks at what a step is given, the rest of the walk, before it knows the context, and of a long walk that is more than it can.
 -- Assumes `Given`, and that the function called meets its contract.

@@ -1,4 +1,4 @@
--- `rows::before` meets its contract. Assumes nothing.
+-- `client_table::before` meets its contract. Assumes nothing.
 use mathlib.Core.Path.{_≡_, refl, sym}
 use mathlib.Core.Bool.{Bool, true, false, not}
 use Prim.Native.Nat.{ℕ}

@@ -1,4 +1,4 @@
--- `rows::halve` meets its contract. Assumes nothing.
+-- `client_table::halve` meets its contract. Assumes nothing.
 use borrow.Author.Needs.{needs}
 use Rattle.numbers.specs.Words.{if_then_else_}
 use Rattle.client_table.specs.Search.{halved}

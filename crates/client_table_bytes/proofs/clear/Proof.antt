@@ -1,4 +1,4 @@
--- `table::clear` meets its contract. Assumes nothing.
+-- `client_table_bytes::clear` meets its contract. Assumes nothing.
 use borrow.Author.Needs.{needs}
 use Rattle.client_table_bytes.proofs.LayoutLaws.{left-cleared}
 use Rattle.client_table_bytes.proofs.clear.Statement.{statement}

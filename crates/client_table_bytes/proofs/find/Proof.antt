@@ -1,4 +1,4 @@
--- `table::find` meets its contract. Assumes nothing.
+-- `client_table_bytes::find` meets its contract. Assumes nothing.
 use borrow.Author.Needs.{needs}
 use Rattle.client_table.specs.Rows.{spotOf, isThere}
 use Rattle.client_table_bytes.specs.Steps.{foundIn}

@@ -1,4 +1,4 @@
--- `table::follow` meets its contract. Assumes nothing.
+-- `client_table_bytes::follow` meets its contract. Assumes nothing.
 use mathlib.Core.Path.{_≡_, _∙_}
 use Prim.Native.Nat.{_-_, _*_}
 use native.Mathlib.Omega.{arith}

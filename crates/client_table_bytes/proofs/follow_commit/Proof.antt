@@ -1,4 +1,4 @@
--- `table::follow_commit` meets its contract.
+-- `client_table_bytes::follow_commit` meets its contract.
 -- The invariant: what the whole run of entries would leave is what the rest of it would leave of the rows that are there now. Assumes nothing.
 use mathlib.Core.Path.{_≡_, refl, sym, _∙_}
 use Prim.Native.Nat.{_-_, _*_, _≤_}

@@ -1,4 +1,4 @@
--- `table::follow_found` meets its contract. Assumes nothing.
+-- `client_table_bytes::follow_found` meets its contract. Assumes nothing.
 use mathlib.Core.Path.{_≡_, _∙_}
 use mathlib.Core.Logic.{⊎-elim}
 use Prim.Native.Nat.{_-_, _*_}

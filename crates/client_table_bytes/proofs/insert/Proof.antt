@@ -1,4 +1,4 @@
--- `table::insert` meets its contract. Assumes nothing.
+-- `client_table_bytes::insert` meets its contract. Assumes nothing.
 use Prim.Native.Nat.{_≤_, _<_}
 use native.Mathlib.Omega.{arith}
 use borrow.Author.Needs.{needs}

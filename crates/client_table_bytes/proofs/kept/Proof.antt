@@ -1,4 +1,4 @@
--- `table::kept` meets its contract. Assumes nothing.
+-- `client_table_bytes::kept` meets its contract. Assumes nothing.
 use mathlib.Core.Path.{_∙_}
 use borrow.Author.Needs.{needs}
 use Rattle.client_table.proofs.Turns.{kept-new, kept-none, kept-other, kept-same}

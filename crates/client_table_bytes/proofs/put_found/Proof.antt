@@ -1,4 +1,4 @@
--- `table::put_found` meets its contract. Assumes nothing.
+-- `client_table_bytes::put_found` meets its contract. Assumes nothing.
 use mathlib.Core.Path.{sym, _∙_}
 use Prim.Native.Nat.{_<_}
 use native.Mathlib.Omega.{arith}

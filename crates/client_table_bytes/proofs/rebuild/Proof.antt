@@ -1,4 +1,4 @@
--- `table::rebuild` meets its contract. Assumes nothing.
+-- `client_table_bytes::rebuild` meets its contract. Assumes nothing.
 use borrow.Author.Needs.{needs}
 use Rattle.client_table_bytes.proofs.LayoutLaws.{left-is, left-then, rows-copy}
 use Rattle.client_table_bytes.proofs.rebuild.Statement.{statement}

@@ -1,4 +1,4 @@
--- `table::refill` meets its contract.
+-- `client_table_bytes::refill` meets its contract.
 -- The invariant: what the whole log would leave is what the rest of it would leave of the rows that are there now. Assumes nothing.
 use mathlib.Core.Path.{_≡_, sym, ap, _∙_}
 use Prim.Native.Nat.{ℕ, _+_, _-_, _*_, _≤_}

@@ -1,4 +1,4 @@
--- `table::renew` meets its contract. Assumes nothing.
+-- `client_table_bytes::renew` meets its contract. Assumes nothing.
 use mathlib.Core.Path.{sym, _∙_}
 use Prim.Native.Nat.{_*_}
 use native.Mathlib.Omega.{arith}

@@ -1,4 +1,4 @@
--- `table_rows::clear` meets its contract: a walk of its MIR, by hand: a loop that stores what `no_row` answers in each place.
+-- `client_table_structs::clear` meets its contract: a walk of its MIR, by hand: a loop that stores what `no_row` answers in each place.
 -- The invariant: the first k rows are unused, and the others are as they were. Assumes nothing.
 use mathlib.Core.Path.{_≡_, refl, _∙_, ap}
 use Prim.Native.Nat.{ℕ, _+_, _-_, _*_, _<_, _≤_, _^_}

@@ -1,4 +1,4 @@
--- `table_rows::find` meets its contract: a walk of its MIR, by hand. All that it knows of `seek`, `peek` and `cell::found` is that each meets its contract. Assumes nothing.
+-- `client_table_structs::find` meets its contract: a walk of its MIR, by hand. All that it knows of `seek`, `peek` and `cell::found` is that each meets its contract. Assumes nothing.
 use mathlib.Core.Path.{_≡_, refl}
 use Prim.Native.Nat.{ℕ, _<_, _^_}
 use native.Mathlib.Omega.{arith}

@@ -1,4 +1,4 @@
--- `table_rows::follow` meets its contract: a walk of its MIR, by hand. All that it knows of `renew`, `first_done` and `commit` is that each meets its contract.
+-- `client_table_structs::follow` meets its contract: a walk of its MIR, by hand. All that it knows of `renew`, `first_done` and `commit` is that each meets its contract.
 -- The rows are lent again to `renew`, which gets the old ones for good, and given to `commit` for good. Assumes nothing.
 use mathlib.Core.Path.{_≡_, refl, _∙_}
 use Prim.Native.Nat.{ℕ, _-_, _*_, _<_, _≤_, _^_}

@@ -1,4 +1,4 @@
--- `table_rows::keep_reply` meets its contract: a walk of its MIR, by hand. All that it knows of the functions that it calls is that each meets its contract. The rows are lent
+-- `client_table_structs::keep_reply` meets its contract: a walk of its MIR, by hand. All that it knows of the functions that it calls is that each meets its contract. The rows are lent
 -- as `&` to `find`, and given to `store` for good; where the entry isn't its client's latest they are given up as they are. Assumes nothing.
 use mathlib.Core.Path.{_≡_, refl, _∙_}
 use Prim.Native.Nat.{ℕ, _<_, _^_}

@@ -1,4 +1,4 @@
--- `table_rows::latest` meets its contract: a walk of its MIR, by hand. All that it knows of `find` and `cell::latest` is that each meets its contract. Assumes nothing.
+-- `client_table_structs::latest` meets its contract: a walk of its MIR, by hand. All that it knows of `find` and `cell::latest` is that each meets its contract. Assumes nothing.
 use mathlib.Core.Path.{_≡_, refl, _∙_, ap}
 use Prim.Native.Nat.{ℕ, _<_, _^_}
 use mathlib.Core.List.{[], _∷_, List}

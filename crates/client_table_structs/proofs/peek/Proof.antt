@@ -1,4 +1,4 @@
--- `table_rows::peek` meets its contract: a walk of its MIR, by hand. The slice is looked into before the test and shut at each return. Assumes nothing.
+-- `client_table_structs::peek` meets its contract: a walk of its MIR, by hand. The slice is looked into before the test and shut at each return. Assumes nothing.
 use mathlib.Core.Path.{_≡_, refl, sym, _∙_}
 use Prim.Native.Nat.{ℕ, _*_, _<_, _^_}
 use native.Mathlib.Omega.{arith}

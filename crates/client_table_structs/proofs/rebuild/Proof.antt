@@ -1,4 +1,4 @@
--- `table_rows::rebuild` meets its contract: a walk of its MIR, by hand. All that it knows of `set_aside` and `refill` is that each meets its contract.
+-- `client_table_structs::rebuild` meets its contract: a walk of its MIR, by hand. All that it knows of `set_aside` and `refill` is that each meets its contract.
 -- Both slices of rows are lent again to the first; the second gets `table` for good, and `old` as a `&`. Assumes nothing.
 use mathlib.Core.Path.{_≡_, refl, sym, _∙_, ap, subst}
 use Prim.Native.Nat.{ℕ, _*_, _≤_}

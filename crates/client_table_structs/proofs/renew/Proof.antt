@@ -1,4 +1,4 @@
--- `table_rows::renew` meets its contract: a walk of its MIR, by hand. All that it knows of `rebuild`, `first_new` and `append` is that each meets its contract.
+-- `client_table_structs::renew` meets its contract: a walk of its MIR, by hand. All that it knows of `rebuild`, `first_new` and `append` is that each meets its contract.
 -- Each slice of rows is given for good on one way, and given up on the other. Assumes nothing.
 use mathlib.Core.Path.{_≡_, refl}
 use Prim.Native.Nat.{ℕ, _-_, _*_, _<_, _≤_, _^_}

@@ -1,4 +1,4 @@
--- `table_rows::seek` meets its contract: a walk of its MIR, by hand. The slice is looked into once, before the loop, and shut where the function returns.
+-- `client_table_structs::seek` meets its contract: a walk of its MIR, by hand. The slice is looked into once, before the loop, and shut where the function returns.
 -- The loop's state is the span, with what the invariant says of it: the whole search's place is that of the span that is left, with some fuel that is enough for it. Assumes nothing.
 use mathlib.Core.Path.{_≡_, refl, sym, _∙_, ap}
 use Prim.Native.Nat.{ℕ, _*_, _-_, _<_, _≤_, _^_}

@@ -1,4 +1,4 @@
--- `table_rows::set_aside` meets its contract: a walk of its MIR, by hand: a loop whose body calls `peek`, `no_row`, and `store` on each of the slices.
+-- `client_table_structs::set_aside` meets its contract: a walk of its MIR, by hand: a loop whose body calls `peek`, `no_row`, and `store` on each of the slices.
 -- The invariant: the first k rows are unused and stand in `old`, and the others are as they were. Assumes nothing.
 use mathlib.Core.Path.{_≡_, refl, sym, _∙_, ap, subst}
 use Prim.Native.Nat.{ℕ, _+_, _-_, _<_, _≤_, _^_}

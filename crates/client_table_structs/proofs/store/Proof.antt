@@ -1,4 +1,4 @@
--- `table_rows::store` meets its contract: a walk of its MIR, by hand. The borrow is opened once, before the loop, and closed once, where the function returns.
+-- `client_table_structs::store` meets its contract: a walk of its MIR, by hand. The borrow is opened once, before the loop, and closed once, where the function returns.
 -- The loop's state is the index and the rows as they are: what is left to be stored, from the index down, gives what was to be stored. Assumes nothing.
 use mathlib.Core.Path.{_≡_, refl, sym, _∙_, ap, subst}
 use Prim.Native.Nat.{ℕ, suc, _*_, _-_, _<_, _≤_, _^_}

@@ -1,4 +1,4 @@
--- `replica_rows::on_idle` meets its contract: a walk of its MIR, by hand. All that it knows of `core::on_idle`, `core::change_after` and `table_rows::follow` is that each meets its contract.
+-- `replica_structs::on_idle` meets its contract: a walk of its MIR, by hand. All that it knows of `core::on_idle`, `core::change_after` and `client_table_structs::follow` is that each meets its contract.
 -- The log and the results are lent again to the core, which gets the other bytes for good, and then as `&` to `follow`, which gets the rows for good. Assumes nothing.
 use mathlib.Core.Path.{_≡_, refl}
 use Prim.Native.Nat.{ℕ}

@@ -1,5 +1,5 @@
--- `replica_rows::on_message` meets its contract: a walk of its MIR, by hand. All that it knows of `core::checked`, `core::client_in`, `table_rows::latest`, `core::on_message`, `core::change_after` and
--- `table_rows::follow` is that each meets its contract. The rows are lent as `&` to `latest`, the log and the results again to the core, which gets the other bytes for good, and then as `&` to `follow`, which gets the rows
+-- `replica_structs::on_message` meets its contract: a walk of its MIR, by hand. All that it knows of `core::checked`, `core::client_in`, `client_table_structs::latest`, `core::on_message`, `core::change_after` and
+-- `client_table_structs::follow` is that each meets its contract. The rows are lent as `&` to `latest`, the log and the results again to the core, which gets the other bytes for good, and then as `&` to `follow`, which gets the rows
 -- for good. Assumes nothing.
 use mathlib.Core.Path.{_≡_, refl}
 use Prim.Native.Nat.{ℕ}

@@ -1,4 +1,4 @@
--- `table::cell::is_of` meets its contract. Assumes nothing.
+-- `client_table_bytes::cell::is_of` meets its contract. Assumes nothing.
 use borrow.Author.Tests.{eq-eqb, ne-eqb}
 use Rattle.numbers.specs.Words.{_and_}
 use Rattle.client_table_bytes.proofs.cell.is_of.Statement.{statement}

@@ -1,4 +1,4 @@
--- `table::cell::row_at` meets its contract. Assumes nothing.
+-- `client_table_bytes::cell::row_at` meets its contract. Assumes nothing.
 use borrow.Author.Needs.{needs}
 use Rattle.client_table_bytes.proofs.LayoutLaws.{rowOf-at}
 use Rattle.client_table_bytes.proofs.cell.row_at.Statement.{statement}

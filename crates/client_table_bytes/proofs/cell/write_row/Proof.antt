@@ -1,4 +1,4 @@
--- `table::cell::write_row` meets its contract. Assumes nothing.
+-- `client_table_bytes::cell::write_row` meets its contract. Assumes nothing.
 use mathlib.Core.Path.{refl}
 use borrow.Author.Needs.{needs}
 use Rattle.numbers.specs.Numbers.{big}

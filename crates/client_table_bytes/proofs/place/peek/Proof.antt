@@ -1,4 +1,4 @@
--- `table::place::peek` meets its contract. Assumes nothing.
+-- `client_table_bytes::place::peek` meets its contract. Assumes nothing.
 use mathlib.Core.Path.{sym, _∙_}
 use Prim.Native.Nat.{_≤_}
 use borrow.Author.Needs.{needs}

@@ -1,4 +1,4 @@
--- `table::place::seek` meets its contract.
+-- `client_table_bytes::place::seek` meets its contract.
 -- The invariant: the whole search's place is that of the span that is left, with some fuel that is enough for it. Assumes nothing.
 use mathlib.Core.Path.{_≡_, sym, ap, _∙_}
 use Prim.Native.Nat.{ℕ, _-_, _≤_, _<_}

@@ -1,4 +1,4 @@
--- `table::place::shift` meets its contract. The invariant: the bytes from i + 25 on are the old ones from i on, the others are as they were.
+-- `client_table_bytes::place::shift` meets its contract. The invariant: the bytes from i + 25 on are the old ones from i on, the others are as they were.
 -- Assumes nothing.
 use mathlib.Core.Path.{_≡_, refl, sym, _∙_}
 use mathlib.Core.List.{List, _++_, append-nil}

@@ -1,4 +1,4 @@
--- `table::place::store` meets its contract. Assumes nothing.
+-- `client_table_bytes::place::store` meets its contract. Assumes nothing.
 use mathlib.Core.Path.{_∙_}
 use Prim.Native.Nat.{_*_}
 use native.Mathlib.Omega.{arith}

@@ -1,4 +1,4 @@
--- `table_rows::cell::end_of` meets its contract. Assumes nothing.
+-- `client_table_structs::cell::end_of` meets its contract. Assumes nothing.
 use Rattle.client_table_structs.proofs.CellLaws.{end-there, end-new}
 use Rattle.client_table_structs.proofs.cell.end_of.Statement.{statement}
 use Rattle.client_table_structs.proofs.cell.end_of.Tie as tie

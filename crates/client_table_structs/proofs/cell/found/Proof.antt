@@ -1,4 +1,4 @@
--- `table_rows::cell::found` meets its contract. Assumes nothing.
+-- `client_table_structs::cell::found` meets its contract. Assumes nothing.
 use borrow.Author.Needs.{needs}
 use Rattle.client_table_structs.proofs.CellLaws.{found-unused, found-used}
 use Rattle.client_table_structs.proofs.cell.found.Statement.{statement}

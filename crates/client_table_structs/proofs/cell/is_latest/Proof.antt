@@ -1,4 +1,4 @@
--- `table_rows::cell::is_latest` meets its contract. Assumes nothing.
+-- `client_table_structs::cell::is_latest` meets its contract. Assumes nothing.
 use Rattle.client_table_structs.proofs.CellLaws.{latest-missing, latest-there}
 use Rattle.client_table_structs.proofs.cell.is_latest.Statement.{statement}
 use Rattle.client_table_structs.proofs.cell.is_latest.Tie as tie

@@ -1,4 +1,4 @@
--- `table_rows::cell::is_used` meets its contract. Assumes nothing.
+-- `client_table_structs::cell::is_used` meets its contract. Assumes nothing.
 use borrow.Author.Needs.{needs}
 use Rattle.client_table_structs.specs.Shape.{isUsed}
 use Rattle.client_table_structs.proofs.cell.is_used.Statement.{statement}

@@ -1,4 +1,4 @@
--- `table_rows::cell::kept` meets its contract. Assumes nothing.
+-- `client_table_structs::cell::kept` meets its contract. Assumes nothing.
 use borrow.Author.Needs.{needs}
 use Rattle.client_table_structs.proofs.CellLaws.{again-none, again-other, again-same}
 use Rattle.client_table_structs.proofs.cell.kept.Statement.{statement}

@@ -1,4 +1,4 @@
--- `table_rows::cell::latest` meets its contract. Assumes nothing.
+-- `client_table_structs::cell::latest` meets its contract. Assumes nothing.
 use borrow.Author.Needs.{needs}
 use Rattle.client_table_structs.proofs.cell.latest.Statement.{statement}
 use Rattle.client_table_structs.proofs.cell.latest.Tie as tie

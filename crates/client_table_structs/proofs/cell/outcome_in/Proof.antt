@@ -1,4 +1,4 @@
--- `table_rows::cell::outcome_in` meets its contract. Assumes nothing.
+-- `client_table_structs::cell::outcome_in` meets its contract. Assumes nothing.
 use borrow.Author.Needs.{needs}
 use Rattle.client_table_structs.specs.Shape.{outcomeIn}
 use Rattle.client_table_structs.proofs.cell.outcome_in.Statement.{statement}

@@ -1,4 +1,4 @@
--- `table_rows::cell::turn` meets its contract. Assumes nothing.
+-- `client_table_structs::cell::turn` meets its contract. Assumes nothing.
 use borrow.Author.Needs.{needs}
 use Rattle.client_table_structs.proofs.cell.turn.Statement.{statement}
 use Rattle.client_table_structs.proofs.cell.turn.Tie as tie

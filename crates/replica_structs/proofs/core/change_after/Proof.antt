@@ -1,4 +1,4 @@
--- `replica_rows::core::change_after` meets its contract. Assumes nothing.
+-- `replica_structs::core::change_after` meets its contract. Assumes nothing.
 use borrow.Author.Tests.{ne-eqb, eq-eqb}
 use Rattle.numbers.specs.Words.{if_then_else_}
 use Rattle.replica_structs.specs.Core.{changeAfter}

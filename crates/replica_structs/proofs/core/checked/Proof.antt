@@ -1,4 +1,4 @@
--- `replica_rows::core::checked` meets its contract. Assumes nothing.
+-- `replica_structs::core::checked` meets its contract. Assumes nothing.
 use mathlib.Core.Path.{_∙_}
 use Rattle.replica_structs.proofs.CoreLaws.{checked-by}
 use borrow.Author.Needs.{needs}

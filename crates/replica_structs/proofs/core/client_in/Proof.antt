@@ -1,4 +1,4 @@
--- `replica_rows::core::client_in` meets its contract. Assumes nothing.
+-- `replica_structs::core::client_in` meets its contract. Assumes nothing.
 use mathlib.Core.Path.{ap}
 use Rattle.outside.specs.declared.call.Carrying as C
 use Rattle.replica_structs.specs.Core.{clientIn}

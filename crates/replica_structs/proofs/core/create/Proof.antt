@@ -1,4 +1,4 @@
--- `replica_rows::core::create` meets its contract. Assumes nothing.
+-- `replica_structs::core::create` meets its contract. Assumes nothing.
 use mathlib.Core.List.{[]}
 use Rattle.book.specs.Memory.{memory}
 use Rattle.replica_structs.proofs.CoreLaws.{create-counted}

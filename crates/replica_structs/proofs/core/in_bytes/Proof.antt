@@ -1,4 +1,4 @@
--- `replica_rows::core::in_bytes` meets its contract. Assumes nothing.
+-- `replica_structs::core::in_bytes` meets its contract. Assumes nothing.
 use borrow.Author.Tests.{lt-ltb, le-ltb}
 use Rattle.numbers.specs.Words.{if_then_else_}
 use Rattle.replica_structs.specs.Core.{rowBytes}

@@ -1,4 +1,4 @@
--- `replica_rows::core::on_idle` meets its contract. Assumes nothing.
+-- `replica_structs::core::on_idle` meets its contract. Assumes nothing.
 use mathlib.Core.Path.{sym, _∙_}
 use borrow.Author.Tests.{not-false}
 use Rattle.book.specs.Memory.{memory}

@@ -1,4 +1,4 @@
--- `replica_rows::core::on_message` meets its contract. Assumes nothing.
+-- `replica_structs::core::on_message` meets its contract. Assumes nothing.
 use Rattle.book.specs.Memory.{memory}
 use Rattle.replica_structs.proofs.CoreLaws.{malformed, taken}
 use borrow.Author.Needs.{needs}

@@ -1,4 +1,4 @@
--- `voting::start_view_change::call` meets its contract. Assumes nothing.
+-- `voting::votes::call` meets its contract. Assumes nothing.
 use Rattle.voting.proofs.VoteLaws.{calls-short, calls}
 use borrow.Author.Needs.{needs}
 use Rattle.voting.proofs.votes.call.Statement.{statement}

@@ -1,4 +1,4 @@
--- `voting::start_view_change::is_due` meets its contract. Assumes nothing.
+-- `voting::votes::is_due` meets its contract. Assumes nothing.
 use Rattle.voting.proofs.VoteLaws.{stays, catches-up, went-out, counts}
 use borrow.Author.Needs.{needs}
 use Rattle.voting.proofs.votes.is_due.Statement.{statement}

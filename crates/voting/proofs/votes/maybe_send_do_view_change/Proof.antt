@@ -1,4 +1,4 @@
--- `voting::start_view_change::maybe_send_do_view_change` meets its contract. Assumes nothing.
+-- `voting::votes::maybe_send_do_view_change` meets its contract. Assumes nothing.
 use Rattle.voting.proofs.VoteLaws.{voted-gathers, too-early, in-time}
 use Rattle.book.specs.Memory.{memory}
 use borrow.Author.Needs.{needs}

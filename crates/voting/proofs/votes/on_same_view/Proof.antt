@@ -1,4 +1,4 @@
--- `voting::start_view_change::on_same_view` meets its contract. Assumes nothing.
+-- `voting::votes::on_same_view` meets its contract. Assumes nothing.
 use Rattle.voting.proofs.VoteLaws.{bit-low, voted-gathers, joins, is-away, leader-tells, backup-waits}
 use Rattle.book.specs.Memory.{memory}
 use native.Mathlib.Omega.{arith}

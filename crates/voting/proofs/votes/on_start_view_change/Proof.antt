@@ -1,4 +1,4 @@
--- `voting::start_view_change::on_start_view_change` meets its contract. Assumes nothing.
+-- `voting::votes::on_start_view_change` meets its contract. Assumes nothing.
 use Rattle.voting.proofs.VoteLaws.{bit-low, asked-gathers, too-old, moves-on, same-view}
 use Rattle.book.specs.Memory.{memory}
 use borrow.Author.Needs.{needs}

@@ -1,4 +1,4 @@
--- `ffi::clients::whitherhaul_client_create` meets its contract. Assumes nothing.
+-- `whitherhaul::clients::whitherhaul_client_create` meets its contract. Assumes nothing.
 use Rattle.whitherhaul.proofs.ClientLaws.{no-creation, create-refused, create-done}
 use borrow.Author.Needs.{needs}
 use Rattle.whitherhaul.proofs.clients.whitherhaul_client_create.Statement.{statement}

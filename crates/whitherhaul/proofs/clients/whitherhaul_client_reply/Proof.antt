@@ -1,4 +1,4 @@
--- `ffi::clients::whitherhaul_client_reply` meets its contract. Assumes nothing.
+-- `whitherhaul::clients::whitherhaul_client_reply` meets its contract. Assumes nothing.
 use Rattle.state_bytes.proofs.LayoutLaws.{flag-byte}
 use mathlib.Core.Path.{sym, _∙_}
 use borrow.Author.Tests.{not-true, not-false}

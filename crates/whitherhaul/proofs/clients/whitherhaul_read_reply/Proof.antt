@@ -1,4 +1,4 @@
--- `ffi::clients::whitherhaul_read_reply` meets its contract. Assumes nothing.
+-- `whitherhaul::clients::whitherhaul_read_reply` meets its contract. Assumes nothing.
 use Rattle.whitherhaul.proofs.ClientLaws.{read-malformed, read-said}
 use borrow.Author.Needs.{needs}
 use Rattle.whitherhaul.proofs.clients.whitherhaul_read_reply.Statement.{statement}

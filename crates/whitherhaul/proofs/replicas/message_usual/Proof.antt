@@ -1,4 +1,4 @@
--- `ffi::replicas::message_usual` meets its contract. Assumes nothing.
+-- `whitherhaul::replicas::message_usual` meets its contract. Assumes nothing.
 use Rattle.whitherhaul.proofs.ReplicaLaws.{message-ran, usual-kept}
 use mathlib.Core.Path.{sym, _∙_}
 use borrow.Author.Tests.{not-false}

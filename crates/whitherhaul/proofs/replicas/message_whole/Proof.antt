@@ -1,4 +1,4 @@
--- `ffi::replicas::message_whole` meets its contract. Assumes nothing.
+-- `whitherhaul::replicas::message_whole` meets its contract. Assumes nothing.
 use Rattle.whitherhaul.proofs.ReplicaLaws.{message-ran}
 use native.Mathlib.Omega.{arith}
 use Rattle.replica.specs.Lent.{lent}

@@ -1,4 +1,4 @@
--- `ffi::replicas::tick_whole` meets its contract. Assumes nothing.
+-- `whitherhaul::replicas::tick_whole` meets its contract. Assumes nothing.
 use Rattle.whitherhaul.proofs.ReplicaLaws.{idle-ran}
 use native.Mathlib.Omega.{arith}
 use Rattle.replica.specs.Lent.{lent}

@@ -1,4 +1,4 @@
--- `ffi::replicas::whitherhaul_on_idle` meets its contract. Assumes nothing.
+-- `whitherhaul::replicas::whitherhaul_on_idle` meets its contract. Assumes nothing.
 use Rattle.whitherhaul.proofs.ReplicaLaws.{no-tick, idle-ran, leading-kept}
 use mathlib.Core.Path.{sym, _∙_}
 use borrow.Author.Tests.{not-true, not-false}
