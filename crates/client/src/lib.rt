@@ -73,7 +73,7 @@ fn fresh(n: u8, id: u64) -> Client
 }
 
 // A client of n replicas. Refused by 1, its record is all zero.
-pub fn create(n: u8, id: u64) -> AfterCreate
+pub fn create(n: u32, id: u64) -> AfterCreate
     ensures { λ r. ⌜ r ≡ createOf n id ⌝ }
 {
     if !config::replicas_ok(n) {
@@ -83,7 +83,7 @@ pub fn create(n: u8, id: u64) -> AfterCreate
         };
     }
     AfterCreate {
-        client: fresh(n, id),
+        client: fresh(n as u8, id),
         refusal: 0,
     }
 }
@@ -97,7 +97,7 @@ const LAST: u64 = 0xFFFF_FFFF_FFFF_FFFF;
 fn request_refusal(c: Client, operation: u8, cents: u64, room: usize) -> u8
     ensures { λ r. ⌜ r ≡ requestRefusal c operation cents room ⌝ }
 {
-    if !config::replicas_ok(c.n) {
+    if !config::replicas_ok(c.n as u32) {
         return 1;
     }
     if !entries::operation_ok(operation, cents) {
@@ -188,7 +188,7 @@ fn left_pending(p: Pending, number: u64) -> Pending
 pub fn replied(c: Client, number: u64, view: View) -> AfterReply
     ensures { λ r. ⌜ r ≡ repliedOf c number view ⌝ }
 {
-    if !config::replicas_ok(c.n) {
+    if !config::replicas_ok(c.n as u32) {
         return AfterReply {
             client: c,
             answer: Heard {
@@ -230,7 +230,7 @@ fn resend_len(n: u8, p: Pending) -> usize
 fn idle_refusal(c: Client, room: usize) -> u8
     ensures { λ r. ⌜ r ≡ idleRefusal c room ⌝ }
 {
-    if !config::replicas_ok(c.n) {
+    if !config::replicas_ok(c.n as u32) {
         return 1;
     }
     let p = c.pending;

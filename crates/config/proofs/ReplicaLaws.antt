@@ -4,6 +4,9 @@
 --     count-le         a set of ids below n has at most n
 --     all-below, below-all     a set has only ids below n exactly where it is below 2 ^ n
 --     members-count    the count is the length of the list of ids
+--     count-low        whatever a set has besides, the ids below n that it has are those of its lowest n digits
+--     count-none       none is in the empty set
+--     below-quorums-meet   the same as quorums-meet for any two sets, of which only ids below n count
 --     with-in, with-other      after `withMember s k`: k is in, and each other id is in as before
 --     with-new, with-old       a new id raises the count by one; one that was in leaves the set as it was
 --     with-lt          ids below n stay below n
@@ -16,14 +19,14 @@ use Prim.Native.Nat.{ℕ, zero, suc, _+_, _*_, _/_, _%_, _^_, _≤_, _<_, max}
 use native.Mathlib.Nat.{zero-lt-suc, mod-lt, div-one, pow-suc, pow-succ', div-div-eq-div-mul, div-lt-iff-lt-mul, div-add-mod', max-zero, mul-div-cancel, mul-mod-left, zero-div, mod-eq-of-lt}
 use native.Mathlib.Omega.{arith}
 use lib.Arith.{lt-one, bin-ind}
-use lib.Pow.{pow-mono, pow-pos}
+use lib.Pow.{pow-mono, pow-pos, field, mod-mod-pow}
 use lib.Bits.{bitOr, or-step, or-zero-r, or-lt}
 use lib.Count.{ones, ones-step, ones-le}
 use lib.Dec.{eqb}
 use lib.ListN.{length, length-append}
 use borrow.Author.Tests.{eq-eqb, ne-eqb}
 use Rattle.numbers.specs.Words.{if_then_else_}
-use Rattle.config.specs.Replicas.{bit, Member, members, withMember, quorumOf}
+use Rattle.config.specs.Replicas.{bit, Member, members, countBelow, withMember, quorumOf}
 
 two-pos : zero < 2
 two-pos = zero-lt-suc 1
@@ -220,3 +223,25 @@ sum-shift (suc n) s = omega (arith, members-step (suc n) s, sum-shift n s, membe
 pub members-count : (n s : ℕ) → s < 2 ^ n → length (members n s) ≡ ones s
 members-count zero s h = omega (arith, ones-le 0 s h, none s)
 members-count (suc n) s h = omega (arith, sum-shift n s, members-count n (s / 2) (half-lt n s h), ones-step s)
+
+-- ---- of any set, only the ids below n
+
+low-half : (n s : ℕ) → s % 2 ^ suc n / 2 ≡ s / 2 % 2 ^ n
+low-half n s = ap (λ (x : ℕ). s % 2 ^ x / 2) (omega arith) ∙ field s n 1
+
+low-low : (n s : ℕ) → s % 2 ^ suc n % 2 ≡ s % 2
+low-low n s = ap (λ (x : ℕ). s % 2 ^ x % 2) (omega arith) ∙ mod-mod-pow s n 1
+
+pub count-low : (n s : ℕ) → ones (s % 2 ^ n) ≡ countBelow n s
+unfolding countBelow
+count-low zero s = omega (arith, ones-le 0 (s % 2 ^ 0) (mod-lt s (pow-pos 0)), none s)
+count-low (suc n) s =
+    omega (arith, sum-shift n s, count-low n (s / 2), ones-step (s % 2 ^ suc n), ap ones (low-half n s), low-low n s)
+
+pub count-none : (n : ℕ) → countBelow n 0 ≡ 0
+count-none n = sym (count-low n 0) ∙ ap ones (mod-eq-of-lt (pow-pos n)) ∙ omega (arith, ones-le 0 0 (pow-pos 0))
+
+pub below-quorums-meet : (n s t : ℕ) → quorumOf n ≤ countBelow n s → quorumOf n ≤ countBelow n t → Shared n (s % 2 ^ n) (t % 2 ^ n)
+below-quorums-meet n s t hs ht =
+    quorums-meet n (s % 2 ^ n) (t % 2 ^ n) (mod-lt s (pow-pos n)) (mod-lt t (pow-pos n)) (omega (arith, count-low n s))
+    (omega (arith, count-low n t))

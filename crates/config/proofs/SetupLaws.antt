@@ -6,13 +6,13 @@ use mathlib.Core.Path.{_≡_, refl}
 use mathlib.Core.Bool.{Bool, true, false}
 use Prim.Native.Nat.{ℕ, _≤_, _<_}
 use native.Mathlib.Nat.{mod-lt}
-use lib.Dec.{leb, ltb}
-use borrow.Author.Tests.{leb-true, ltb-true, le-leb, lt-ltb}
+use lib.Dec.{ltb}
+use borrow.Author.Tests.{ltb-true, lt-ltb}
 use Rattle.numbers.specs.Words.{_and_}
 use Rattle.numbers.specs.declared.View.{View}
 use Rattle.numbers.proofs.WordLaws.{and-both}
 use Rattle.numbers.proofs.NumberLaws.{within-both, both-within}
-use Rattle.config.specs.Setup.{replicasOk, roomOk, setupOk, primaryOf}
+use Rattle.config.specs.Setup.{replicasOk, timeoutOk, roomOk, setupOk, primaryOf}
 use Rattle.config.specs.declared.Setup.{Setup}
 
 pub record Sized (s : Setup) : Type 0 where
@@ -20,6 +20,7 @@ pub record Sized (s : Setup) : Type 0 where
   pub seven : s .n ≤ 7
   pub own : s .id < s .n
   pub waits : 1 ≤ s .timeout
+  pub waits-high : s .timeout ≤ 65535
   pub room-low : 1 ≤ s .room
   pub room-high : s .room ≤ 4096
   pub members-low : 1 ≤ s .members
@@ -28,18 +29,20 @@ pub record Sized (s : Setup) : Type 0 where
 pub sized : (s : Setup) → setupOk s ≡ true → Sized s
 unfolding setupOk
 sized s h =
-    let p = and-both (replicasOk (s .n)) (ltb (s .id) (s .n) and leb 1 (s .timeout) and roomOk (s .room) and roomOk (s .members)) h in
-    let q = and-both (ltb (s .id) (s .n)) (leb 1 (s .timeout) and roomOk (s .room) and roomOk (s .members)) (p .1) in
-    let r = and-both (leb 1 (s .timeout)) (roomOk (s .room) and roomOk (s .members)) (q .1) in
+    let p = and-both (replicasOk (s .n)) (ltb (s .id) (s .n) and timeoutOk (s .timeout) and roomOk (s .room) and roomOk (s .members)) h in
+    let q = and-both (ltb (s .id) (s .n)) (timeoutOk (s .timeout) and roomOk (s .room) and roomOk (s .members)) (p .1) in
+    let r = and-both (timeoutOk (s .timeout)) (roomOk (s .room) and roomOk (s .members)) (q .1) in
     let t = and-both (roomOk (s .room)) (roomOk (s .members)) (r .1) in
     let n = within-both 3 7 (s .n) (p .0) in
+    let w = within-both 1 65535 (s .timeout) (r .0) in
     let l = within-both 1 4096 (s .room) (t .0) in
     let m = within-both 1 4096 (s .members) (t .1) in
     record {
       three = n .0;
       seven = n .1;
       own = ltb-true (s .id) (s .n) (q .0);
-      waits = leb-true 1 (s .timeout) (r .0);
+      waits = w .0;
+      waits-high = w .1;
       room-low = l .0;
       room-high = l .1;
       members-low = m .0;
@@ -52,7 +55,7 @@ sized-back s z =
     rw (
       both-within 3 7 (s .n) (z .three) (z .seven),
       lt-ltb (s .id) (s .n) (z .own),
-      le-leb 1 (s .timeout) (z .waits),
+      both-within 1 65535 (s .timeout) (z .waits) (z .waits-high),
       both-within 1 4096 (s .room) (z .room-low) (z .room-high),
       both-within 1 4096 (s .members) (z .members-low) (z .members-high),
     )

@@ -4,6 +4,7 @@ use mathlib.Core.Path.{_≡_}
 use mathlib.Core.List.{List, [], _∷_, _++_}
 use Prim.Native.Nat.{ℕ, zero, suc, _+_, _/_, _%_, _^_}
 use lib.Dec.{eqb}
+use lib.ListN.{length}
 use Rattle.numbers.specs.Words.{if_then_else_}
 
 -- the digit of s at 2 ^ k
@@ -18,6 +19,10 @@ Member k s = bit s k ≡ 1
 unfoldable pub members : ℕ → ℕ → List ℕ
 members zero s = []
 members (suc n) s = members n s ++ (if eqb (bit s n) 1 then n ∷ [] else [])
+
+-- how many ids below n are in s: what acks and votes are counted by, so that no other bit counts
+unfoldable pub countBelow : (n s : ℕ) → ℕ
+countBelow n s = length (members n s)
 
 -- s with k in it
 unfoldable pub withMember : ℕ → ℕ → ℕ

@@ -5,7 +5,7 @@ use native.Mathlib.Omega.{arith}
 use mathlib.Core.Path.{_≡_}
 use mathlib.Core.Bool.{false}
 use mathlib.Core.List.{List, []}
-use lib.Count.{ones}
+use Rattle.config.proofs.ReplicaLaws.{count-none}
 use borrow.Author.Tests.{lt-leb}
 use Rattle.numbers.specs.Words.{_and_}
 use Rattle.numbers.proofs.WordLaws.{if-false}
@@ -17,8 +17,8 @@ use Rattle.model.specs.ViewChange.{clearedVotes, enough, changingTo, may
 
 -- no vote is held, and n/2 is at least 1
 too-few : (u : Setup) (m : State) (v : ℕ) → 3 ≤ u .n → enough u (changingTo u m v) ≡ false
-unfolding enough changingTo clearedVotes isChanging _and_ ones
-too-few u m v h = lt-leb (u .n / 2) 0 (omega arith)
+unfolding enough changingTo clearedVotes isChanging _and_
+too-few u m v h = lt-leb (u .n / 2) _ (omega (arith, count-none (u .n)))
 
 pub starts-silent : (u : Setup) (m : State) (v : ℕ) (out : List Sent) → 3 ≤ u .n
     → maybeSendDoViewChange u (changingTo u m v) out ≡ done (changingTo u m v) out []

@@ -4,13 +4,12 @@ use Prim.Native.Nat.{ℕ, _+_, _-_, min}
 use mathlib.Core.Bool.{not}
 use mathlib.Core.List.{List, [], _∷_, _++_}
 use mathlib.Core.Option.{Option, none, some}
-use lib.Count.{ones}
 use lib.Dec.{ltb, leb, eqb}
 use lib.ListN.{take, drop, getD, set, replicate}
 use Rattle.numbers.specs.Words.{if_then_else_, _and_, _or_}
 use Rattle.entries.specs.Rising.{rising}
 use Rattle.entries.specs.declared.Entry.{Entry}
-use Rattle.config.specs.Replicas.{bit, withMember, quorumOf}
+use Rattle.config.specs.Replicas.{bit, withMember, countBelow, quorumOf}
 use Rattle.config.specs.declared.Setup.{Setup}
 use Rattle.fees.specs.declared.Outcome.{Outcome}
 use Rattle.clock.specs.Clock.{heardOf}
@@ -119,7 +118,7 @@ module _ (u : Setup) where
       if not (eqb v (m .place .view) and isPrimary u m and isNormal (m .place .status)) then ignored m else
       if leb o (m .book .commit) then ignored m else
       if eqb (ackRow m o) 0 or eqb (bit (ackRow m o) r) 1 then ignored m else
-      if not (eqb (ones (withMember (ackRow m o) r)) (quorumOf (u .n))) then ignored (acked m o r) else
+      if not (eqb (countBelow (u .n) (withMember (ackRow m o) r)) (quorumOf (u .n))) then ignored (acked m o r) else
       if ltb (opOf m) o then refused 5 else
       done (setAcks (committed m o) (blanked o (m .votes .acks))) [] (commitReplies v (m .book) o)
 

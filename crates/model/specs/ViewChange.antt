@@ -4,12 +4,11 @@ use Prim.Native.Nat.{ℕ, suc, _-_, _/_, max}
 use mathlib.Core.Bool.{Bool, true, false, not}
 use mathlib.Core.List.{List, [], _∷_, _++_}
 use mathlib.Core.Option.{Option, none, some}
-use lib.Count.{ones}
 use lib.Dec.{ltb, leb, eqb}
 use lib.ListN.{length, set, replicate}
 use Rattle.numbers.specs.Words.{if_then_else_, _and_, _or_}
 use Rattle.entries.specs.declared.Entry.{Entry}
-use Rattle.config.specs.Replicas.{withMember, quorumOf}
+use Rattle.config.specs.Replicas.{withMember, countBelow, quorumOf}
 use Rattle.config.specs.declared.Setup.{Setup}
 use Rattle.clock.specs.Clock.{resetOf, startOf, restartOf}
 use Rattle.frames.specs.declared.Status.the-variants.{Normal, ViewChange}
@@ -160,7 +159,7 @@ module _ (u : Setup) where
   unfoldable pub enough : State → Bool
   enough m =
       isChanging (m .place .status) and not (m .place .catchingUp) and not (m .votes .sent)
-      and leb (u .n / 2) (ones (m .votes .starts))
+      and leb (u .n / 2) (countBelow (u .n) (m .votes .starts))
 
   -- maybe_send_do_view_change, after the messages `out`
   unfoldable pub maybeSendDoViewChange : State → List Sent → Answer

@@ -4,7 +4,6 @@ use mathlib.Core.Bool.{Bool, true, false, not, false≢true}
 use mathlib.Core.List.{List}
 use Prim.Native.Nat.{ℕ, _+_, _-_, _*_, _≤_, _<_}
 use native.Mathlib.Omega.{arith}
-use lib.Count.{ones}
 use lib.Dec.{ltb, eqb}
 use lib.ListN.{length, getD, replicate}
 use borrow.Author.Tests.{lt-ltb, le-ltb, eq-eqb, ne-eqb, ltb-true, ltb-false, not-false}
@@ -14,7 +13,7 @@ use Rattle.numbers.specs.declared.View.{View}
 use Rattle.numbers.specs.declared.Op.{Op}
 use Rattle.numbers.proofs.WordLaws.{split}
 use Rattle.entries.specs.Places.{entryPlace, ackPlace}
-use Rattle.config.specs.Replicas.{bit, withMember, quorumOf}
+use Rattle.config.specs.Replicas.{bit, withMember, countBelow, quorumOf}
 use Rattle.config.proofs.SetupLaws.{sized}
 use Rattle.book.specs.Runs.{replies}
 use Rattle.book.specs.Memory.{Money, money, Runs, runs}
@@ -77,18 +76,18 @@ module _ (s : Replica) (op : Op) (held from room : ℕ) where
     known b = rw (ne-eqb held 0 h, b)
 
     -- w is the row with the sender in it, k its count, q the quorum
-    module _ (w k q : ℕ) (b : eqb (bit held from) 1 ≡ false) (ew : w ≡ withMember held from) (ek : k ≡ ones w)
+    module _ (w k q : ℕ) (b : eqb (bit held from) 1 ≡ false) (ew : w ≡ withMember held from) (ek : k ≡ countBelow (s .setup .n) w)
         (eq : q ≡ quorumOf (s .setup .n)) where
-      count-is : k ≡ ones (withMember held from)
-      count-is = ek ∙ ap ones ew
+      count-is : k ≡ countBelow (s .setup .n) (withMember held from)
+      count-is = ek ∙ ap (countBelow (s .setup .n)) ew
 
-      reached : k ≡ q → eqb (ones (withMember held from)) (quorumOf (s .setup .n)) ≡ true
-      reached e = eq-eqb (ones (withMember held from)) (quorumOf (s .setup .n)) (sym count-is ∙ e ∙ eq)
+      reached : k ≡ q → eqb (countBelow (s .setup .n) (withMember held from)) (quorumOf (s .setup .n)) ≡ true
+      reached e = eq-eqb (countBelow (s .setup .n) (withMember held from)) (quorumOf (s .setup .n)) (sym count-is ∙ e ∙ eq)
 
       pub one-more : (k ≡ q → ⊥) → Note ≡ ackVerdict s op held from room
       unfolding ackVerdict if_then_else_
       one-more d =
-          rw (ne-eqb held 0 h, b, ne-eqb (ones (withMember held from)) (quorumOf (s .setup .n)) (λ e. d (count-is ∙ e ∙ sym eq)))
+          rw (ne-eqb held 0 h, b, ne-eqb (countBelow (s .setup .n) (withMember held from)) (quorumOf (s .setup .n)) (λ e. d (count-is ∙ e ∙ sym eq)))
 
       pub past-log : k ≡ q → s .op .0 < op .0 → Refuse 5 ≡ ackVerdict s op held from room
       unfolding ackVerdict if_then_else_
@@ -121,7 +120,7 @@ module _ (s : Replica) (op : Op) (held from room : ℕ) where
   ready-of =
       split Ready (eqb held 0) Nothing _ (λ _. other Nothing refl)
       (λ _. split Ready (eqb (bit held from) 1) Nothing _ (λ _. other Nothing refl)
-      (λ _. split Ready (not (eqb (ones (withMember held from)) (quorumOf (s .setup .n)))) Note _ (λ _. other Note refl)
+      (λ _. split Ready (not (eqb (countBelow (s .setup .n) (withMember held from)) (quorumOf (s .setup .n)))) Note _ (λ _. other Note refl)
       (λ _. split Ready (ltb (s .op .0) (op .0)) (Refuse 5) _ (λ _. other (Refuse 5) refl)
       (λ l. split Ready (ltb room (36 * (op .0 - s .commit .0))) (Refuse 10) _ (λ _. other (Refuse 10) refl)
       (λ m _. (ltb-false (s .op .0) (op .0) l, ltb-false room (36 * (op .0 - s .commit .0)) m))))))

@@ -4,7 +4,6 @@ use native.Mathlib.Omega.{arith}
 use mathlib.Core.Path.{_≡_, refl, sym, ap, _∙_, subst}
 use mathlib.Core.Bool.{Bool, true, false, not, false≢true}
 use mathlib.Core.List.{List, [], _++_}
-use lib.Count.{ones}
 use lib.Dec.{ltb, eqb}
 use lib.ListN.{length, getD, set, drop, replicate, length-replicate}
 use borrow.Author.Tests.{le-ltb, lt-ltb, eqb-true, leb-true, leb-false, ltb-false, not-false}
@@ -17,7 +16,7 @@ use Rattle.numbers.proofs.WordLaws.{if-true, if-false, split, split₂, and-lef
 use Rattle.numbers.proofs.CellLaws.{cells-length}
 use Rattle.entries.specs.Entries.{entryOf}
 use Rattle.entries.specs.declared.Entry.{Entry}
-use Rattle.config.specs.Replicas.{bit, withMember, quorumOf}
+use Rattle.config.specs.Replicas.{bit, withMember, countBelow, quorumOf}
 use Rattle.book.specs.Memory.{Money, money}
 use Rattle.state.specs.State.{leads}
 use Rattle.state.specs.Statuses.{isNormal}
@@ -202,7 +201,7 @@ module _ (c : Given) (table : List ClientEntry) (applied : List Entry) (v : View
   abbrev rest : ℕ → Answer
   rest w =
       if eqb held 0 or eqb (bit held r) 1 then ignored now else
-      if not (eqb (ones (withMember held r)) (quorumOf (s .setup .n))) then ignored (acked now (o .0) r) else
+      if not (eqb (countBelow (s .setup .n) (withMember held r)) (quorumOf (s .setup .n))) then ignored (acked now (o .0) r) else
       if ltb (opOf now) (o .0) then refused 5 else
       done next [] (commitReplies w (now .book) (o .0))
 
@@ -212,7 +211,7 @@ module _ (c : Given) (table : List ClientEntry) (applied : List Entry) (v : View
       split (Agree (ackVerdict s o held r (length (c .reps)))) _ _ _
       (λ t. subst (λ (z : Count). Agree z (ignored now)) (sym (either _ _ _ _ t)) nothing-shown)
       (λ f.
-      subst (λ (z : Count). Agree z (if not (eqb (ones (withMember held r)) (quorumOf (s .setup .n))) then ignored (acked now (o .0) r) else
+      subst (λ (z : Count). Agree z (if not (eqb (countBelow (s .setup .n) (withMember held r)) (quorumOf (s .setup .n))) then ignored (acked now (o .0) r) else
       if ltb (opOf now) (o .0) then refused 5 else
       done next [] (commitReplies (s .view .0) (now .book) (o .0))))
       (sym (if-false _ _ _ (or-left _ _ f) ∙ if-false _ _ _ (or-right _ _ f)))

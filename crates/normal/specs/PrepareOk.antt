@@ -3,7 +3,6 @@
 use mathlib.Core.Bool.{Bool, false, not}
 use mathlib.Core.List.{List}
 use Prim.Native.Nat.{ℕ, _-_, _*_}
-use lib.Count.{ones}
 use lib.Dec.{ltb, eqb}
 use lib.ListN.{length, getD, set, replicate}
 use Rattle.numbers.specs.Words.{if_then_else_, _and_}
@@ -11,7 +10,7 @@ use Rattle.numbers.specs.Numbers.{over}
 use Rattle.numbers.specs.declared.View.{View}
 use Rattle.numbers.specs.declared.Op.{Op}
 use Rattle.entries.specs.Places.{ackPlace}
-use Rattle.config.specs.Replicas.{bit, withMember, quorumOf}
+use Rattle.config.specs.Replicas.{bit, withMember, countBelow, quorumOf}
 use Rattle.book.specs.Runs.{moneyCommitted, replies}
 use Rattle.book.specs.Memory.{Money, Memory}
 use Rattle.state.specs.State.{leads}
@@ -60,7 +59,7 @@ unfoldable pub ackVerdict : Replica → Op → (held from room : ℕ) → Count
 ackVerdict s op held from room =
     if eqb held 0 then Nothing else
     if eqb (bit held from) 1 then Nothing else
-    if not (eqb (ones (withMember held from)) (quorumOf (s .setup .n))) then Note else
+    if not (eqb (countBelow (s .setup .n) (withMember held from)) (quorumOf (s .setup .n))) then Note else
     if ltb (s .op .0) (op .0) then Refuse 5 else
     if ltb room (36 * (op .0 - s .commit .0)) then Refuse 10 else
     Commit

@@ -40,7 +40,7 @@ fn hears(s: Replica, v: View, op: Op) -> bool
 
 // An ack fires only when the count reaches the quorum exactly. `held`: who acknowledged the op so far; `room`: of the area for replies.
 fn weigh(s: Replica, op: Op, held: u8, from: u8, room: usize) -> Count
-    requires { ⌜ (from < 8) × (s .commit .0 < op .0) ⌝ }
+    requires { ⌜ (from < 8) × ((s .commit .0 < op .0) × (s .setup .n < 8)) ⌝ }
     ensures { λ r. ⌜ r ≡ ackVerdict s op held from room ⌝ }
 {
     if held == 0 {
@@ -49,7 +49,7 @@ fn weigh(s: Replica, op: Op, held: u8, from: u8, room: usize) -> Count
     if config::has(held, from) {
         return Count::Nothing;
     }
-    if config::count(config::insert(held, from)) != config::quorum(s.setup.n) as u32 {
+    if config::count(s.setup.n, config::insert(held, from)) != config::quorum(s.setup.n) as u32 {
         return Count::Note;
     }
     if s.op.0 < op.0 {

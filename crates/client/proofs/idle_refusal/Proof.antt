@@ -19,4 +19,4 @@ unfolding idleRefusal if_then_else_
 returns-3 c = rw (← c .before .before .before .replicas-ok .ensures, not-false (c .before .before .before .replicas-ok .result) (c .before .before .if1 .left), ← c .before .resend-len .ensures, le-ltb _ _ (c .if2 .left))
 
 pub idle-refusal-spec : {M : Type 1} → statement M
-idle-refusal-spec = tie.close (tie.spec (λ c κs. search needs) returns (λ c κs. search needs) returns-2 returns-3)
+idle-refusal-spec = tie.close (tie.spec (λ c. search needs) (λ c κs. search needs) returns (λ c κs. search needs) returns-2 returns-3)

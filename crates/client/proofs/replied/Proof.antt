@@ -17,7 +17,7 @@ returns-2 c = rw (← c .before .before .before .before .replicas-ok .ensures, n
 pub replied-spec : {M : Type 1} → statement M
 replied-spec =
     tie.close
-    (tie.spec
+    (tie.spec (λ c. search needs)
     (λ c κs. search needs)
     returns
     (λ c κs. search needs)

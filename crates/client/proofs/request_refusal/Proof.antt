@@ -29,7 +29,7 @@ returns-5 c = rw (← c .before .before .before .before .before .before .replica
 pub request-refusal-spec : {M : Type 1} → statement M
 request-refusal-spec =
     tie.close
-    (tie.spec
+    (tie.spec (λ c. search needs)
     (λ c κs. search needs)
     returns
     (λ c κs. search needs)

@@ -6,6 +6,7 @@ use Rattle.book.specs.Memory.{money}
 use Rattle.state.specs.declared.Returned.{Returned}
 use mathlib.Core.Path.{ap, _∙_}
 use native.Mathlib.Omega.{arith}
+use Rattle.config.proofs.SetupLaws.{sized}
 use Prim.Native.Nat.{ℕ}
 use lib.ListN.{length, getD, set}
 use Rattle.normal.proofs.CommitLaws.{some}
@@ -26,7 +27,7 @@ slice-read-held : tie.Need-slice-read-held
 slice-read-held c = let a = c .before .before .before .before .before .before .before .before .before .before .args in omega (arith, c .before .ack-place .ensures, c .before .before .before .before .before .before .before .before .before .before .pre .1 .0, c .before .before .before .before .before .before .before .before .before .before .pre .1 .1 .1, after-commit (a .s) (a .v) (a .op) (c .before .before .before .before .hears .result) (c .before .before .before .before .hears .ensures) (c .before .before .before .if1 .left))
 
 weigh-requires : tie.Need-weigh-requires
-weigh-requires c κs = let a = c .before .before .before .before .before .before .before .before .before .before .args in (sender-small (a .s) _ (a .from) (c .before .before .before .before .before .before .before .before .before .before .pre .0) (c .before .before .before .before .before .before .before .before .before .before .pre .1 .1 .0), after-commit (a .s) (a .v) (a .op) (c .before .before .before .before .hears .result) (c .before .before .before .before .hears .ensures) (c .before .before .before .if1 .left))
+weigh-requires c κs = let a = c .before .before .before .before .before .before .before .before .before .before .args in (sender-small (a .s) _ (a .from) (c .before .before .before .before .before .before .before .before .before .before .pre .0) (c .before .before .before .before .before .before .before .before .before .before .pre .1 .1 .0), (after-commit (a .s) (a .v) (a .op) (c .before .before .before .before .hears .result) (c .before .before .before .before .hears .ensures) (c .before .before .before .if1 .left), omega (arith, sized (a .s .setup) (c .before .before .before .before .before .before .before .before .before .before .pre .0 .sized) .seven)))
 
 enum-told : tie.Need-enum-told
 enum-told c = search needs
