@@ -35,7 +35,7 @@ use Rattle.state.specs.Statuses.{isRecovering, noReport}
 use Rattle.state.specs.Answers.{refusal, completed}
 use Rattle.state.specs.declared.Replica.{Replica}
 use Rattle.steps.specs.Steps.{spoke}
-use Rattle.state.specs.Sound.{reportOk, reportsOk}
+use Rattle.state.proofs.SoundLaws.{none-gathered}
 use Rattle.view_change.specs.StartView.{LogHeld}
 use Rattle.view_change.proofs.StartViewChangeLaws.{calls-long}
 use Rattle.do_view_change.specs.Begin.{callsFirst, firstLength}
@@ -70,12 +70,6 @@ first-calls c t h =
     }
 
 -- no report breaks refusal 1
-none-ok : (room n k : ℕ) → reportsOk room (take n (replicate k noReport)) ≡ true
-unfolding reportsOk reportOk if_then_else_
-none-ok room zero k = refl
-none-ok room (suc n) zero = refl
-none-ok room (suc n) (suc k) = none-ok room n k
-
 none-there : (k i : ℕ) → getD (replicate k noReport) i noReport .there ≡ false
 none-there zero i = refl
 none-there (suc k) zero = refl
@@ -98,7 +92,7 @@ changing-on c v h =
                   results-long = g .sound .results-long;
                   totals-long = g .sound .totals-long;
                 };
-            reports = none-ok (c .state .setup .room) (c .state .setup .n) 7;
+            reports = none-gathered (c .state .setup);
             acks-long = g .acks-long;
             stored-long = g .stored-long;
           };

@@ -32,9 +32,9 @@ use Rattle.reports.specs.Rows.{withReport}
 use Rattle.reports.specs.Judge.{Lies, Fits}
 use Rattle.reports.specs.Store.{keptLog, chosenOver}
 use Rattle.reports.specs.declared.Best.{Best}
-use Rattle.state.proofs.SoundLaws.{rows-ok-is}
 use Rattle.reports.proofs.JudgeLaws.{length-chosen, begin-lies}
 use Rattle.reports.proofs.StoreLaws.{install-fits}
+use Rattle.steps.proofs.Held.{gathered-rows}
 use Rattle.steps.specs.Steps.{Sound}
 use Rattle.do_view_change.specs.Begin.{callsFirst, firstLength, startViewsLength, entered, owed, begun, beginStep}
 use Rattle.steps.specs.Recorded.{recorded, Gathering}
@@ -98,9 +98,8 @@ module _ (s t : Replica) (r : ℕ) (d : Report) (first : Bool) (fresh : List ℕ
               (k .op-le))
               (λ q.
               let o = getD-set-other (t .reports .rows) r i d noReport q in
-              let z = sized (t .setup) (h .sound .sized) in
               subst (λ (x : Report). x .op .0 ≤ t .setup .room) (sym o)
-              (rows-ok-is (t .setup .room) (t .reports .rows) (t .setup .n) (z .seven) seven (h .reports) i lt
+              (gathered-rows (t .setup) (t .starts) (t .reports .rows) (h .reports) i lt
               (subst (λ (x : Report). x .there ≡ true) o e) .0))
               (eq-or-not i r)
 

@@ -35,7 +35,6 @@ use Rattle.reports.specs.Store.{chosenOver}
 use Rattle.reports.specs.declared.Best.{Best}
 use Rattle.reports.specs.declared.Judged.{Judged}
 use Rattle.reports.specs.declared.Judged.the-variants.{Wait, Refuse, Begin}
-use Rattle.state.proofs.SoundLaws.{rows-ok-is}
 use Rattle.reports.proofs.WholeLaws.{runOf, Whole, new-whole, chosen-whole, lent-is}
 use Rattle.do_view_change.specs.Begin.{callsFirst, firstLength}
 use Rattle.do_view_change.specs.Record.{Told, reportOf, decidedBy, decided, keptBy, startedBy, byDecision, recordStep}
@@ -51,6 +50,7 @@ use Rattle.model.specs.ViewChange.{startView, startChosen, recordDoViewChange}
 use Rattle.layout.specs.Layout.{bookOf, modelOf}
 use Rattle.model.specs.Steps.{fitted}
 use Rattle.layout.specs.Shown.{Given, Step, Grew, Did, Shown}
+use Rattle.steps.proofs.Held.{gathered-rows}
 use Rattle.steps.proofs.SendLift.{told-did, sends-only}
 use Rattle.steps.proofs.StepLift.{no-growth}
 use Rattle.reports.proofs.StoredLift.{recorded-filled, recorded-greatest, recorded-chosen, recorded-reads, StoredOk}
@@ -103,7 +103,7 @@ module _ (c : Given) (t : Replica) (table : List ClientEntry) (applied : List En
     few = omega (arith, size .seven, kept .seven)
 
     row-ok : (i : ℕ) → i < u .n → getD old i noReport .there ≡ true → getD old i noReport .op .0 ≤ u .room
-    row-ok i e p = rows-ok-is (u .room) old (u .n) (size .seven) (kept .seven) (h .gathering .reports) i e p .0
+    row-ok i e p = gathered-rows u _ old (h .gathering .reports) i e p .0
 
     held : storedPlace (u .room) (u .n) ≤ length stored
     held = omega (arith, h .gathering .stored-long)

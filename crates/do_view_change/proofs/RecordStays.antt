@@ -4,7 +4,7 @@ use mathlib.Core.Bool.{Bool, true, false}
 use mathlib.Core.List.{List}
 use Prim.Native.Nat.{ℕ, _*_, _≤_, _<_}
 use native.Mathlib.Omega.{arith}
-use lib.ListN.{length, take, length-append, length-replicate}
+use lib.ListN.{length, length-append, length-replicate}
 use Rattle.numbers.specs.declared.View.{View}
 use Rattle.numbers.specs.declared.Op.{Op}
 use Rattle.numbers.proofs.WordLaws.{split}
@@ -17,7 +17,8 @@ use Rattle.state.specs.declared.Replica.{Replica}
 use Rattle.state.specs.declared.Report.{Report}
 use Rattle.state.specs.declared.Reports.{Reports}
 use Rattle.reports.specs.Rows.{withReport}
-use Rattle.state.specs.Sound.{reportsOk}
+use Rattle.state.specs.Sound.{gatheredOk}
+use Rattle.state.proofs.SoundLaws.{none-gathered}
 use Rattle.reports.specs.Judge.{judged, Fits}
 use Rattle.reports.specs.Store.{chosenOver}
 use Rattle.reports.specs.declared.Best.{Best}
@@ -30,7 +31,7 @@ use Rattle.do_view_change.specs.Begin.{ownAcks, entered, begunIn, beginS
 use Rattle.steps.specs.Recorded.{recorded, Gathering, onlySent}
 use Rattle.do_view_change.specs.Record.{reportOf, ownReport, decidedBy, decided, keptBy, startedBy, byDecision, recordStep, toldPrimary, sendStep, doViewChangeStep}
 use Rattle.do_view_change.specs.declared.Decision.{Decision}
-use Rattle.steps.proofs.Held.{Held, Kept, none-ok, as-it-was, moves, settled-held, still-kept, sent-kept}
+use Rattle.steps.proofs.Held.{Held, Kept, as-it-was, moves, settled-held, still-kept, sent-kept}
 use Rattle.reports.proofs.ReportStays.{row-ok, set-ok, rows-fit, begin-keeps, kept-length, installed-held}
 use Rattle.view_change.proofs.ChangeStays.{sent-start-view-held}
 
@@ -47,17 +48,17 @@ module _ (s t : Replica) (m : Memory) (hs : Held (t .setup) s (m .runs)) (ht : H
   refused-kept k = record { held = hs; acks-long = acks-long; stored-long = stored-long }
 
   -- replica r tells the report d, whose log is in `fresh`
-  module _ (first : Bool) (r : ℕ) (d : Report) (fresh : List ℕ)
+  module _ (first : Bool) (r : ℕ) (d : Report) (fresh : List ℕ) (there : d .there ≡ true)
       (told : (r < t .setup .n) × ((d .op .0 ≤ t .setup .room) × ((d .commit .0 ≤ d .op .0) × (32 * d .op .0 ≤ length fresh)))) where
     abbrev rows : Reports
     rows = withReport (t .reports) r d
 
-    rows-ok : reportsOk (t .setup .room) (take (t .setup .n) (rows .rows)) ≡ true
+    rows-ok : gatheredOk (t .setup) (t .starts) (rows .rows) ≡ true
     rows-ok =
-        set-ok (t .setup .room) (t .setup .n) r (t .reports .rows) d (row-ok (t .setup .room) d (told .1 .0) (told .1 .1 .0)) (ht .reports)
+        set-ok (t .setup) (t .starts) r (t .reports .rows) d (told .0) (row-ok (t .setup .room) d there (told .1 .0) (told .1 .1 .0)) (ht .reports)
 
     fits : Fits rows (t .setup .n) r (t .setup .room) (m .stored) fresh
-    fits = rows-fit (t .setup) (t .reports) r d (m .stored) fresh (ht .sound .sized) rows-ok stored-long (told .1 .1 .1)
+    fits = rows-fit (t .setup) (t .starts) (t .reports) r d (m .stored) fresh (ht .sound .sized) rows-ok stored-long (told .1 .1 .1)
 
     kept-kept : Kept (t .setup) (keptBy t rows r (d .op) first fresh m)
     unfolding keptBy
@@ -77,7 +78,7 @@ module _ (s t : Replica) (m : Memory) (hs : Held (t .setup) s (m .runs)) (ht : H
     started-kept b g e =
         let f = begin-lies rows (t .setup .n) r (t .setup .room) (t .commit .0) (m .runs .log) (m .stored) fresh fits b g e in
         let k = begin-keeps b g rows (t .setup .n) r (t .setup .room) (t .commit .0) (m .runs .log) (m .stored) fresh e in
-        let i = installed-held b r (m .stored) fresh (entered t (b .report .op)) ht f refl refl (k .1) (none-ok (t .setup)) in
+        let i = installed-held b r (m .stored) fresh (entered t (b .report .op)) ht f refl refl (k .1) (none-gathered (t .setup)) in
         let u = committedTo (entered t (b .report .op)) g in
         let j = settled-held g i (k .0) in
         let n = own-acks-length u (j .sound .commit-le) (j .sound .op-le) in
@@ -111,7 +112,7 @@ module _ (s t : Replica) (m : Memory) (hs : Held (t .setup) s (m .runs)) (ht : H
       let a = ht .sound in
       split (Kept (t .setup)) _ _ _
       (λ _.
-      recorded-kept first (t .setup .id) (ownReport t) (m .runs .log)
+      recorded-kept first (t .setup .id) (ownReport t) (m .runs .log) refl
       (z .own, (a .op-le, (a .commit-le, omega (arith, a .op-le, a .log-long)))))
       (λ _.
       split (λ (d : Spoke). Kept (t .setup) (onlySent m d)) _ _ _
@@ -133,8 +134,8 @@ module _ (s : Replica) (m : Memory) (h : Gathering s m) where
       split (Kept (s .setup)) _ _ _ (λ _. still-kept h _ here) λ _.
       split (Kept (s .setup)) _ _ _
       (λ _.
-      recorded-kept s (changingTo s v) m here (moves here (changingTo s v) refl refl refl (none-ok (s .setup))) (h .acks-long)
-      (h .stored-long) true r (reportOf l o c) part told)
+      recorded-kept s (changingTo s v) m here (moves here (changingTo s v) refl refl refl (none-gathered (s .setup))) (h .acks-long)
+      (h .stored-long) true r (reportOf l o c) part refl told)
       λ _.
       split (Kept (s .setup)) _ _ _ (λ _. sent-kept h _ (sent-start-view-held r (m .runs .log) (m .out) here)) λ _.
-      recorded-kept s s m here here (h .acks-long) (h .stored-long) false r (reportOf l o c) part told
+      recorded-kept s s m here here (h .acks-long) (h .stored-long) false r (reportOf l o c) part refl told

@@ -30,7 +30,7 @@ use Rattle.state.specs.Answers.{refusal, completed, quiet}
 use Rattle.state.specs.declared.Returned.{Returned}
 use Rattle.state.specs.declared.Replica.{Replica}
 use Rattle.state.specs.declared.Report.{Report}
-use Rattle.state.specs.Sound.{reportOk, reportsOk}
+use Rattle.state.proofs.SoundLaws.{none-gathered}
 use Rattle.steps.specs.Steps.{spoke}
 use Rattle.book.specs.Memory.{runs, Memory}
 use Rattle.view_change.specs.StartView.{LogHeld, sentStartView}
@@ -110,12 +110,6 @@ module _ (s t : Replica) (first : Bool) (m : Memory) (b : Bool) (eb : b ≡ lead
 
 -- ---- on_do_view_change
 
-none-ok : (room n k : ℕ) → reportsOk room (take n (replicate k noReport)) ≡ true
-unfolding reportsOk reportOk if_then_else_
-none-ok room zero k = refl
-none-ok room (suc n) zero = refl
-none-ok room (suc n) (suc k) = none-ok room n k
-
 -- a later view: the reports gathered so far are forgotten
 pub moved-gathers : (s : Replica) (v : View) (m : Memory) (t : Replica) → t ≡ changingTo s v → Gathering s m → Gathering t m
 moved-gathers s v m t e h =
@@ -130,7 +124,7 @@ moved-gathers s v m t e h =
             results-long = h .sound .results-long;
             totals-long = h .sound .totals-long;
           };
-      reports = none-ok (s .setup .room) (s .setup .n) 7;
+      reports = none-gathered (s .setup);
       acks-long = h .acks-long;
       stored-long = h .stored-long;
     })

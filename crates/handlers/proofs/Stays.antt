@@ -20,7 +20,7 @@ use Rattle.client_table.specs.declared.Latest.{Latest}
 use Rattle.state.specs.State.{withClock}
 use Rattle.state.specs.Lengths.{acksLength, storedLength}
 use Rattle.state.specs.declared.Replica.{Replica}
-use Rattle.state.specs.Sound.{reportsOk}
+use Rattle.state.specs.Sound.{gatheredOk}
 use Rattle.steps.specs.Steps.{Spoke}
 use Rattle.normal.specs.Tick.{primaryTick}
 use Rattle.transfer.specs.Tick.{transferTick}
@@ -29,7 +29,7 @@ use Rattle.book.specs.Memory.{Memory}
 use Rattle.normal.specs.Prepare.{preparedBy}
 use Rattle.transfer.specs.NewState.{partOf}
 use Rattle.handlers.specs.Handlers.{handled, messageStep, followTick, normalTick, askTick, changingTick, idleStep}
-use Rattle.handlers.proofs.FrameLaws.{new-state-fit, report-fit, start-view-fit, response-fit}
+use Rattle.handlers.proofs.FrameLaws.{call-fit, new-state-fit, report-fit, start-view-fit, response-fit}
 use Rattle.steps.proofs.Held.{Held, Kept, as-it-was, moves, asked-held, sent-kept, left-kept, still-kept}
 use Rattle.normal.proofs.NormalStays.{commit-held, prepare-held, request-kept, prepare-ok-kept}
 use Rattle.transfer.proofs.TransferStays.{new-state-held, get-state-held}
@@ -50,7 +50,7 @@ stays s d k =
           record {
             sound = k .held .sound;
             reports =
-                subst (λ (u : Setup). reportsOk (u .room) (take (u .n) (d .answer .state .reports .rows)) ≡ true) (sym e) (k .held .reports);
+                subst (λ (u : Setup). gatheredOk u (d .answer .state .starts) (d .answer .state .reports .rows) ≡ true) (sym e) (k .held .reports);
             acks-long = k .acks-long ∙ sym (ap acksLength e);
             stored-long = k .stored-long ∙ sym (ap storedLength e);
           };
@@ -79,7 +79,7 @@ module _ (s : Replica) (m : Memory) (h : Gathering s m) where
       left-kept h _
       (new-state-held s (m .runs) here (m .out) v (partOf a z c) (carriedBytes (NewState v a z c) frame)
       (record { start-le = f .0; end-le = f .1 .0; commit-le = f .1 .1 .0 }) (f .1 .1 .1))
-  handled-kept (StartViewChange v r) latest frame ok = start-view-change-kept s m h v r
+  handled-kept (StartViewChange v r) latest frame ok = start-view-change-kept s m h v r (call-fit (s .setup) frame v r ok)
   handled-kept (DoViewChange v r l o c) latest frame ok =
       do-view-change-kept s m h v r l o c (carriedBytes (DoViewChange v r l o c) frame) (report-fit (s .setup) frame v r l o c ok)
   handled-kept (StartView v o c) latest frame ok =

@@ -2,7 +2,7 @@
 use mathlib.Core.Bool.{Bool, false, not}
 use Prim.Native.Nat.{ℕ}
 use lib.Dec.{ltb, eqb}
-use lib.ListN.{length, take}
+use lib.ListN.{length}
 use Rattle.numbers.specs.Words.{if_then_else_}
 use Rattle.config.specs.Setup.{setupOk}
 use Rattle.config.specs.declared.Setup.{Setup}
@@ -10,7 +10,7 @@ use Rattle.frames.specs.declared.Status.the-variants.{Normal}
 use Rattle.state.specs.Statuses.{noReports}
 use Rattle.state.specs.Lengths.{logLength, resultsLength, acksLength, totalsLength, tableLength, storedLength}
 use Rattle.state.specs.declared.Replica.{Replica}
-use Rattle.state.specs.Sound.{reportsOk}
+use Rattle.state.specs.Sound.{gatheredOk}
 use Rattle.book.specs.Memory.{Memory}
 use Rattle.outside.specs.declared.Lengths.{Lengths}
 
@@ -42,13 +42,14 @@ lengthsOk u l =
 unfoldable pub creatable : Setup → Lengths → Bool
 creatable u l = if setupOk u then lengthsOk u l else false
 
--- refusal 1 is given exactly where this is false: setup, commit ≤ op number ≤ L of our log and of each stored one, lengths
+-- refusal 1 is given exactly where this is false: setup, lengths, commit ≤ op number ≤ L of our log and of each stored one, and what is gathered is of the
+-- cluster's replicas
 unfoldable pub sound : Replica → Lengths → Bool
 sound s l =
     if not (creatable (s .setup) l) then false else
     if ltb (s .op .0) (s .commit .0) then false else
     if ltb (s .setup .room) (s .op .0) then false else
-    reportsOk (s .setup .room) (take (s .setup .n) (s .reports .rows))
+    gatheredOk (s .setup) (s .starts) (s .reports .rows)
 
 -- the all-zero state, which a refused creation hands back
 abbrev pub noReplica : Replica

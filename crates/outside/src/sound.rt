@@ -59,5 +59,5 @@ pub fn is_sound(s: Replica, l: Lengths) -> bool
         return false;
     }
     let rows = s.reports;
-    reports::rows::reports_ok(rows, s.setup.n, s.setup.room)
+    reports::rows::gathered_ok(s.starts, rows, setup)
 }

@@ -49,8 +49,8 @@ use Rattle.reports.specs.Store.{chosenOver}
 use Rattle.reports.specs.declared.Best.{Best}
 use Rattle.reports.specs.declared.Judged.{Judged}
 use Rattle.reports.specs.declared.Judged.the-variants.{Wait, Refuse, Begin}
-use Rattle.state.proofs.SoundLaws.{rows-ok-is}
 use Rattle.reports.proofs.WholeLaws.{runOf, Whole, new-whole, row-whole, lent-is}
+use Rattle.steps.proofs.Held.{gathered-rows}
 use Rattle.steps.specs.Steps.{Spoke, committedTo, settled}
 use Rattle.steps.proofs.SendLaws.{bare-long}
 use Rattle.view_change.specs.StartView.{LogHeld, LogPassed}
@@ -247,14 +247,14 @@ module _ (c : Given) (table : List ClientEntry) (applied : List Entry) where
     few = omega (arith, size .seven, kept .seven)
 
     row-ok : (i : ℕ) → i < u .n → getD old i noReport .there ≡ true → getD old i noReport .op .0 ≤ u .room
-    row-ok i e p = rows-ok-is (u .room) old (u .n) (size .seven) (kept .seven) (h .reports) i e p .0
+    row-ok i e p = gathered-rows u _ old (h .reports) i e p .0
 
     -- no response commits more than it holds
     row-commit : (i : ℕ) → i < u .n → getD all i noReport .there ≡ true → getD all i noReport .commit .0 ≤ getD all i noReport .op .0
     row-commit i e =
         ⊎-elim (λ q. rw (q, getD-set-same old r d noReport (omega (arith, told .sender, few))) (λ _. told .commit-le))
         (λ q. rw (getD-set-other old r i d noReport q)
-        (λ p. rows-ok-is (u .room) old (u .n) (size .seven) (kept .seven) (h .reports) i e p .1))
+        (λ p. gathered-rows u _ old (h .reports) i e p .1))
         (eq-or-not i r)
 
     held : storedPlace (u .room) (u .n) ≤ length stored

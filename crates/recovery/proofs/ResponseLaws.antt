@@ -30,9 +30,9 @@ use Rattle.reports.specs.Store.{keptLog, chosenOver}
 use Rattle.reports.specs.declared.Best.{Best}
 use Rattle.reports.specs.declared.Judged.{Judged}
 use Rattle.reports.specs.declared.Judged.the-variants.{Wait, Refuse, Begin}
-use Rattle.state.proofs.SoundLaws.{rows-ok-is}
 use Rattle.reports.proofs.JudgeLaws.{response-lies, response-within}
 use Rattle.reports.proofs.StoreLaws.{chosen-over-length}
+use Rattle.steps.proofs.Held.{gathered-rows}
 use Rattle.steps.specs.Steps.{Sound, committedTo, settled}
 use Rattle.book.specs.Memory.{runs}
 use Rattle.recovery.specs.Recovery.{responseOf, Collecting, ResponsePassed, Collected, collected, backIn, recoveredBy, byResponse, collectedBy, responseStep}
@@ -114,9 +114,8 @@ module _ (s : Replica) (r : ℕ) (d : Report) (fresh log results totals stored :
           ∙ ap (λ (k : ℕ). getD (set (s .reports .rows) r d) k noReport) (sym e))
           (λ _. a .op-le))
           (λ ne.
-          let z = sized (s .setup) (h .sound .sized) in
           subst Small (sym (getD-set-other (s .reports .rows) r i d noReport ne))
-          (λ t. rows-ok-is (s .setup .room) (s .reports .rows) (s .setup .n) (z .seven) seven (h .reports) i lt t .0))
+          (λ t. gathered-rows (s .setup) (s .starts) (s .reports .rows) (h .reports) i lt t .0))
           (eq-or-not i r)
 
       rows-fit : Fits (withReport (s .reports) r d) (s .setup .n) r (s .setup .room) stored fresh

@@ -23,7 +23,7 @@ use Rattle.state.specs.declared.Replica.{Replica}
 use Rattle.state.specs.declared.Report.{Report}
 use Rattle.state.specs.declared.Reports.{Reports}
 use Rattle.reports.specs.Rows.{withReport}
-use Rattle.state.specs.Sound.{reportsOk}
+use Rattle.state.specs.Sound.{gatheredOk}
 use Rattle.reports.specs.Judge.{responded}
 use Rattle.reports.specs.Store.{keptLog, chosenOver}
 use Rattle.reports.specs.declared.Best.{Best}
@@ -80,7 +80,7 @@ responseOf v (Present o c) = record { there = true; full = true; view = v; op = 
 -- what refusal 1 leaves
 pub record Collecting (s : Replica) (x : Runs) (stored : ℕ) : Type 0 where
   pub sound : Sound s x
-  pub reports : reportsOk (s .setup .room) (take (s .setup .n) (s .reports .rows)) ≡ true
+  pub reports : gatheredOk (s .setup) (s .starts) (s .reports .rows) ≡ true
   pub stored-long : stored ≡ storedLength (s .setup)
 
 -- what refusals 3 to 5 leave of a response d of replica r, whose log is in `fresh`

@@ -26,7 +26,7 @@ use Rattle.state.specs.Statuses.{isRecovering, noReport}
 use Rattle.state.specs.Lengths.{acksLength, totalsLength, tableLength}
 use Rattle.state.specs.declared.Returned.{Returned}
 use Rattle.state.specs.declared.Replica.{Replica}
-use Rattle.steps.proofs.Held.{none-ok}
+use Rattle.state.proofs.SoundLaws.{none-gathered}
 use Rattle.model.specs.State.{Reported, Response}
 use Rattle.model.specs.Book.{emptyBook}
 use Rattle.model.specs.ViewChange.{noReports, noAcks}
@@ -142,7 +142,7 @@ module _ (u : Setup) (x : Lent) (out : List ℕ) (ok : setupOk u ≡ true) (long
                     results-long = long .results;
                     totals-long = written (totalsLength u) _ (long .totals);
                   };
-              reports = none-ok u;
+              reports = none-gathered u;
               acks-long = written (acksLength u) _ (long .acks);
               stored-long = long .stored;
             };

@@ -3,8 +3,8 @@
 --     begin-keeps, response-keeps           what a view begins with, or a recovery ends with, has all that is committed
 --     kept-length, installed-held           the log of a report that is kept, and of one that is installed
 -- Assumes nothing.
-use mathlib.Core.Path.{_≡_, refl, _∙_}
-use mathlib.Core.Bool.{Bool, true, false≢true}
+use mathlib.Core.Path.{_≡_, refl, ap, _∙_}
+use mathlib.Core.Bool.{true, not}
 use mathlib.Core.List.{List, [], _∷_}
 use Prim.Native.Nat.{ℕ, zero, suc, _*_, _≤_, _<_}
 use native.Mathlib.Omega.{arith}
@@ -13,7 +13,7 @@ use lib.Dec.{leb}
 use lib.ListN.{length, getD, set, take}
 use lib.Seq.{length-take-le}
 use Rattle.numbers.specs.declared.Op.{Op}
-use Rattle.numbers.proofs.WordLaws.{if-true, split}
+use Rattle.numbers.proofs.WordLaws.{if-true, if-false, split}
 use Rattle.numbers.proofs.RunLaws.{put-length}
 use Rattle.config.specs.Setup.{setupOk}
 use Rattle.config.specs.declared.Setup.{Setup}
@@ -26,45 +26,32 @@ use Rattle.state.specs.declared.Report.{Report}
 use Rattle.state.specs.declared.Reports.{Reports}
 use Rattle.state.proofs.LengthLaws.{stored-place-next}
 use Rattle.reports.specs.Rows.{withReport}
-use Rattle.state.specs.Sound.{reportOk, reportsOk}
+use Rattle.state.specs.Sound.{reportOk, gatheredOk}
 use Rattle.reports.specs.Judge.{chosenLog, weighed, judged, answeredByPrimary, responded, Lies, Fits}
 use Rattle.reports.specs.Store.{keptLog, chosenOver}
 use Rattle.reports.specs.declared.Best.{Best}
 use Rattle.reports.specs.declared.Judged.{Judged}
 use Rattle.reports.specs.declared.Judged.the-variants.{Wait, Begin}
-use Rattle.state.proofs.SoundLaws.{both, row-ok-is}
+use Rattle.state.proofs.SoundLaws.{gathered-is, is-gathered, report-set}
 use Rattle.reports.proofs.JudgeLaws.{length-chosen, weighed-begins}
 use Rattle.reports.proofs.StoreLaws.{install-fits}
 use Rattle.book.specs.Memory.{Runs}
-use Rattle.steps.proofs.Held.{Held, other}
+use Rattle.steps.proofs.Held.{Held, gathered-rows, other}
 
 -- ---- rows
 
-pub row-ok : (room : ℕ) (d : Report) → d .op .0 ≤ room → d .commit .0 ≤ d .op .0 → reportOk room d ≡ true
+pub row-ok : (room : ℕ) (d : Report) → d .there ≡ true → d .op .0 ≤ room → d .commit .0 ≤ d .op .0 → reportOk room d ≡ true
 unfolding reportOk
-row-ok room d h g =
-    split (λ (b : Bool). b ≡ true) _ _ _ (λ _. refl)
-    (λ _. if-true (leb (d .op .0) room) _ _ (le-leb (d .op .0) room h) ∙ le-leb (d .commit .0) (d .op .0) g)
+row-ok room d t h g =
+    if-false (not (d .there)) _ _ (ap not t) ∙ if-true (leb (d .op .0) room) _ _ (le-leb (d .op .0) room h)
+    ∙ le-leb (d .commit .0) (d .op .0) g
 
-pub set-ok : (room n k : ℕ) (l : List Report) (d : Report) → reportOk room d ≡ true → reportsOk room (take n l) ≡ true
-    → reportsOk room (take n (set l k d)) ≡ true
-unfolding reportsOk
-set-ok room n k [] d e h = h
-set-ok room zero k (x ∷ xs) d e h = refl
-set-ok room (suc n) zero (x ∷ xs) d e h = if-true (reportOk room d) _ _ e ∙ both (reportOk room x) (reportsOk room (take n xs)) h .1
-set-ok room (suc n) (suc k) (x ∷ xs) d e h =
-    let p = both (reportOk room x) (reportsOk room (take n xs)) h in
-    if-true (reportOk room x) _ _ (p .0) ∙ set-ok room n k xs d e (p .1)
-
--- a row past the list isn't there
-row-fits : (room n : ℕ) (l : List Report) → reportsOk room (take n l) ≡ true → (i : ℕ) → i < n → getD l i noReport .there ≡ true
-    → getD l i noReport .op .0 ≤ room
-unfolding reportsOk
-row-fits room n [] h i lt t = absurd (false≢true t)
-row-fits room zero (x ∷ xs) h i lt t = absurd (omega arith)
-row-fits room (suc n) (x ∷ xs) h zero lt t = row-ok-is room x (both (reportOk room x) (reportsOk room (take n xs)) h .0) t .0
-row-fits room (suc n) (x ∷ xs) h (suc i) lt t =
-    row-fits room n xs (both (reportOk room x) (reportsOk room (take n xs)) h .1) i (omega arith) t
+-- the rows with a report of replica k
+pub set-ok : (u : Setup) (starts k : ℕ) (l : List Report) (d : Report) → k < u .n → reportOk (u .room) d ≡ true → gatheredOk u starts l ≡ true
+    → gatheredOk u starts (set l k d) ≡ true
+set-ok u starts k l d lt e h =
+    let p = gathered-is u starts l h in
+    is-gathered u starts (set l k d) (p .0) (report-set (u .room) (u .n) k l d lt e (p .1))
 
 row-set : (P : Report → Type 0) (l : List Report) (k : ℕ) (d : Report) → P d → P noReport → P (getD (set l k d) k noReport)
 row-set P [] k d p q = q
@@ -72,17 +59,17 @@ row-set P (x ∷ xs) zero d p q = p
 row-set P (x ∷ xs) (suc k) d p q = row-set P xs k d p q
 
 -- the rows that are judged: the new report among them
-pub rows-fit : (u : Setup) (t : Reports) (r : ℕ) (d : Report) (stored fresh : List ℕ) → setupOk u ≡ true
-    → reportsOk (u .room) (take (u .n) (withReport t r d .rows)) ≡ true → length stored ≡ storedLength u → 32 * d .op .0 ≤ length fresh
+pub rows-fit : (u : Setup) (starts : ℕ) (t : Reports) (r : ℕ) (d : Report) (stored fresh : List ℕ) → setupOk u ≡ true
+    → gatheredOk u starts (withReport t r d .rows) ≡ true → length stored ≡ storedLength u → 32 * d .op .0 ≤ length fresh
     → Fits (withReport t r d) (u .n) r (u .room) stored fresh
-rows-fit u t r d stored fresh ok h long l =
+rows-fit u starts t r d stored fresh ok h long l =
     let z = sized u ok in
     record {
       few = z .seven;
       some = omega (arith, z .three);
       small = z .room-high;
       held = omega (arith, long);
-      rows = row-fits (u .room) (u .n) (withReport t r d .rows) h;
+      rows = λ i lt y. gathered-rows u starts (withReport t r d .rows) h i lt y .0;
       new = row-set (λ (x : Report). 32 * x .op .0 ≤ length fresh) (t .rows) r d l (omega arith);
     }
 
@@ -131,7 +118,7 @@ kept-length u r o fresh stored h g l e =
 -- the chosen log in place of ours
 pub installed-held : {s : Replica} {x : Runs} (b : Best) (r : ℕ) (stored fresh : List ℕ) (t : Replica) → Held (s .setup) s x
     → Lies b r (s .setup .room) stored fresh → t .setup ≡ s .setup → t .op .0 ≡ b .report .op .0 → t .commit .0 ≤ b .report .op .0
-    → reportsOk (s .setup .room) (take (s .setup .n) (t .reports .rows)) ≡ true
+    → gatheredOk (s .setup) (t .starts) (t .reports .rows) ≡ true
     → Held (s .setup) t (record { log = chosenOver b r (s .setup .room) stored fresh (x .log); money = x .money })
 unfolding chosenOver
 installed-held {s} {x} b r stored fresh t h f e o c q =

@@ -1,11 +1,11 @@
 -- Laws of the rows of reports.
 --     rows-end, filled-turn, greatest-turn, latest-turn, chosen-turn    loops from the last row down
---     ok-next, ok-stop, ok-end, row-next, row-stop, row-last    the look for refusal 1
+--     rows-begin, row-next, row-stop, row-last                                   the look for refusal 1
 --     filled-le                                                         no more are there than there are rows
 --     chosen-holds, chosen-there                                        what holds of each report holds of the chosen one, which is there
 -- Assumes nothing.
-use mathlib.Core.Path.{_≡_, refl, sym, _∙_, subst}
-use mathlib.Core.Bool.{Bool, true, false, false≢true}
+use mathlib.Core.Path.{_≡_, refl, ap, _∙_, subst}
+use mathlib.Core.Bool.{Bool, true, false}
 use mathlib.Core.List.{List, [], _∷_}
 use mathlib.Core.Logic.{⊎-elim}
 use Prim.Native.Nat.{ℕ, suc, _+_, _-_, _≤_, _<_}
@@ -20,7 +20,7 @@ use Rattle.numbers.proofs.NumberLaws.{le-or-lt}
 use Rattle.state.specs.Statuses.{noReport}
 use Rattle.state.specs.declared.Report.{Report}
 use Rattle.reports.specs.Rows.{countOne, greaterCommit, laterView, betterOf, filledIn, greatestIn, latestViewIn, chosenFrom}
-use Rattle.state.specs.Sound.{reportOk, rowOk, reportsOk}
+use Rattle.state.specs.Sound.{rowOk, reportsOk}
 use Rattle.reports.specs.declared.Best.{Best}
 
 -- ---- loops
@@ -62,42 +62,48 @@ module _ (l : List Report) (n i : ℕ) (d : Report) (pos : 0 < i) (le : i ≤ n)
 
 -- ---- refusal 1
 
--- one turn, from the first row up
-module _ (room : ℕ) (l : List Report) (n i : ℕ) (lt : i < n) (few : n ≤ 7) (seven : length l ≡ 7) (d : Report)
-    (row : d ≡ getD l i noReport) (b : Bool) (e : b ≡ reportOk room d) where
-  pub ok-next : b ≡ true → reportsOk room (drop i (take n l)) ≡ reportsOk room (drop (i + 1) (take n l))
-  unfolding reportsOk if_then_else_
-  ok-next t = rw (rows-next l n i lt (omega arith), ← row, ← e, t, add-one)
+sub-none : (n i : ℕ) → n ≤ i → n - i ≡ 0
+sub-none n i h = omega arith
 
-  pub ok-stop : b ≡ false → reportsOk room (drop i (take n l)) ≡ false
-  unfolding reportsOk if_then_else_
-  ok-stop t = rw (rows-next l n i lt (omega arith), ← row, ← e, t)
+sub-some : (n i : ℕ) → i < n → n - i ≡ suc (n - suc i)
+sub-some n i h = omega arith
 
-pub ok-end : (room : ℕ) (l : List Report) (n i : ℕ) → n ≤ i → reportsOk room (drop i (take n l)) ≡ true
-unfolding reportsOk
-ok-end room l n i h = rw (drop-of-length-le (take n l) {i = i} (omega (arith, length-take n l)))
-
--- the same where row i may be past the first n
-module _ (room : ℕ) (l : List Report) (n i : ℕ) (few : n ≤ 7) (seven : length l ≡ 7) (b : Bool) (e : b ≡ rowOk room n i l) where
-  pub row-next : b ≡ true → reportsOk room (drop i (take n l)) ≡ reportsOk room (drop (i + 1) (take n l))
-  unfolding rowOk
-  row-next t =
-      ⊎-elim (λ h. ok-end room l n i h ∙ sym (ok-end room l n (i + 1) (omega arith)))
-      (λ h. ok-next room l n i h few seven (getD l i noReport) refl b (e ∙ if-false _ _ _ (lt-leb n i h)) t)
+-- one turn of the look over all seven rows, from the first up
+module _ (room : ℕ) (l : List Report) (n i : ℕ) (lt : i < 7) (seven : length l ≡ 7) (b : Bool) (e : b ≡ rowOk room n i l) where
+  row-turn : reportsOk room (n - i) (drop i l) ≡ (if b then reportsOk room (n - (i + 1)) (drop (i + 1) l) else false)
+  unfolding rowOk reportsOk
+  row-turn =
+      ⊎-elim
+      (λ h.
+      rw (
+        drop-cons l i noReport (omega (arith, lt, seven)),
+        add-one i,
+        sub-none n i h,
+        sub-none n (suc i) (omega (arith, h)),
+        e ∙ if-true _ _ _ (le-leb n i h),
+      ))
+      (λ h.
+      rw (drop-cons l i noReport (omega (arith, lt, seven)), add-one i, sub-some n i h, e ∙ if-false _ _ _ (lt-leb n i h)))
       (le-or-lt n i)
 
-  pub row-stop : b ≡ false → reportsOk room (drop i (take n l)) ≡ false
-  unfolding rowOk
-  row-stop t =
-      ⊎-elim (λ h. absurd (false≢true (sym t ∙ e ∙ if-true _ _ _ (le-leb n i h))))
-      (λ h. ok-stop room l n i h few seven (getD l i noReport) refl b (e ∙ if-false _ _ _ (lt-leb n i h)) t)
-      (le-or-lt n i)
+  pub row-next : b ≡ true → reportsOk room (n - i) (drop i l) ≡ reportsOk room (n - (i + 1)) (drop (i + 1) l)
+  row-next t = row-turn ∙ if-true b _ _ t
+
+  pub row-stop : b ≡ false → reportsOk room (n - i) (drop i l) ≡ false
+  row-stop t = row-turn ∙ if-false b _ _ t
+
+pub rows-begin : (room n : ℕ) (l : List Report) → reportsOk room n l ≡ reportsOk room (n - 0) (drop 0 l)
+rows-begin room n l =
+    let e : n ≡ n - 0 = omega arith in
+    ap (λ (k : ℕ). reportsOk room k l) e
 
 -- the seventh row is the last
-pub row-last : (room : ℕ) (l : List Report) (n : ℕ) → n ≤ 7 → length l ≡ 7 → (b : Bool) → b ≡ rowOk room n 6 l
-    → reportsOk room (drop 6 (take n l)) ≡ b
-row-last room l n few seven true e = row-next room l n 6 few seven true e refl ∙ ok-end room l n 7 few
-row-last room l n few seven false e = row-stop room l n 6 few seven false e refl
+pub row-last : (room : ℕ) (l : List Report) (n : ℕ) → length l ≡ 7 → (b : Bool) → b ≡ rowOk room n 6 l
+    → reportsOk room (n - 6) (drop 6 l) ≡ b
+unfolding reportsOk
+row-last room l n seven true e =
+    row-next room l n 6 (omega arith) seven true e refl ∙ rw (drop-of-length-le l {i = 7} (omega (arith, seven)))
+row-last room l n seven false e = row-stop room l n 6 (omega arith) seven false e refl
 
 -- ---- among the rows
 

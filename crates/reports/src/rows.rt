@@ -4,8 +4,9 @@ ghost use Prim.Native.Nat.{_≤_, _<_};
 ghost use lib.ListN.{length, getD, take};
 ghost use Rattle.state.specs.Statuses.{noReport};
 ghost use Rattle.reports.specs.Rows.{withReport, countOne, greaterCommit, laterView, betterOf, filledIn, greatestIn, latestViewIn, chosenFrom};
-ghost use Rattle.state.specs.Sound.{reportOk, rowOk, reportsOk};
+ghost use Rattle.state.specs.Sound.{isNone, reportOk, rowOk, reportsOk, gatheredOk};
 use crate::Best;
+use config::Setup;
 use numbers::Op;
 use numbers::View;
 use state::Report;
@@ -150,11 +151,30 @@ pub fn choose(t: Reports, n: u8) -> Best
     b
 }
 
+// A row without a report has nothing in it.
+fn is_none(d: Report) -> bool
+    ensures { λ r. ⌜ r ≡ isNone d ⌝ }
+{
+    if d.there {
+        return false;
+    }
+    if d.full {
+        return false;
+    }
+    if d.view.0 != 0 {
+        return false;
+    }
+    if d.op.0 != 0 {
+        return false;
+    }
+    d.commit.0 == 0
+}
+
 fn report_ok(d: Report, room: u32) -> bool
     ensures { λ r. ⌜ r ≡ reportOk room d ⌝ }
 {
     if !d.there {
-        return true;
+        return is_none(d);
     }
     if room < d.op.0 {
         return false;
@@ -162,21 +182,21 @@ fn report_ok(d: Report, room: u32) -> bool
     d.commit.0 <= d.op.0
 }
 
-// Refusal 1 on row i, where it is one of the first n.
+// Refusal 1 on row i: from n on there is none.
 fn row_ok(t: Reports, i: u8, n: u8, room: u32) -> bool
     requires { ⌜ i < 7 ⌝ }
     ensures { λ r. ⌜ (r ≡ rowOk room n i (t .rows)) × (length (t .rows) ≡ 7) ⌝ }
 {
     if n <= i {
-        return true;
+        return is_none(report_at(t, i));
     }
     report_ok(report_at(t, i), room)
 }
 
-// Refusal 1 on the first n: given exactly where this is false. Each row is asked for by a number that the compiler knows, so that it keeps no table of rows for this.
-pub fn reports_ok(t: Reports, n: u8, room: u32) -> bool
+// Refusal 1 on the rows: given exactly where this is false. Each row is asked for by a number that the compiler knows, so that it keeps no table of rows for this.
+fn reports_ok(t: Reports, n: u8, room: u32) -> bool
     requires { ⌜ n ≤ 7 ⌝ }
-    ensures { λ r. ⌜ r ≡ reportsOk room (take n (t .rows)) ⌝ }
+    ensures { λ r. ⌜ r ≡ reportsOk room n (t .rows) ⌝ }
 {
     if !row_ok(t, 0, n, room) {
         return false;
@@ -197,4 +217,15 @@ pub fn reports_ok(t: Reports, n: u8, room: u32) -> bool
         return false;
     }
     row_ok(t, 6, n, room)
+}
+
+// Refusal 1 on all that is gathered, in a setup of n replicas and this room: given exactly where this is false.
+pub fn gathered_ok(starts: u8, t: Reports, u: Setup) -> bool
+    requires { ⌜ u .n ≤ 7 ⌝ }
+    ensures { λ r. ⌜ r ≡ gatheredOk u starts (t .rows) ⌝ }
+{
+    if 1u8 << u.n <= starts {
+        return false;
+    }
+    reports_ok(t, u.n, u.room)
 }

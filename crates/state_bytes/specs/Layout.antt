@@ -4,10 +4,10 @@
 -- 3 Recovering; a flag is 0 or 1. Any other number there is a byte without meaning, and refusal 1. Assumes nothing.
 use mathlib.Core.Path.{_≡_}
 use mathlib.Core.Bool.{Bool, true, false, not}
-use mathlib.Core.List.{List, _++_}
+use mathlib.Core.List.{List, [], _∷_, _++_}
 use Prim.Native.Nat.{ℕ, zero, suc, _^_, _<_}
 use lib.Dec.{eqb, leb}
-use lib.ListN.{length, getD, drop}
+use lib.ListN.{length, getD, take, drop}
 use Rattle.numbers.specs.Words.{if_then_else_, _and_}
 use Rattle.numbers.specs.Numbers.{big, num, viewAt, opAt}
 use Rattle.numbers.specs.Cells.{cells, packed}
@@ -87,6 +87,15 @@ pub record ReportsFit (t : Reports) : Type 0 where
 unfoldable pub allReportsOk : ℕ → List ℕ → Bool
 allReportsOk zero s = true
 allReportsOk (suc k) s = flagOk (num 1 0 s) and flagOk (num 1 1 s) and allReportsOk k (drop 14 s)
+
+-- bytes that are all zero
+unfoldable pub allZero : List ℕ → Bool
+allZero [] = true
+allZero (b ∷ bs) = if eqb b 0 then allZero bs else false
+
+-- no report is there and nothing stands in its place, as outside of a view change and a recovery
+unfoldable pub isQuiet : List ℕ → Bool
+isQuiet s = allZero (take 98 (drop 48 s))
 
 -- the state that a run holds
 unfoldable pub stateOf : List ℕ → Replica

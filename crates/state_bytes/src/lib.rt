@@ -4,7 +4,7 @@ ghost use mathlib.Core.Bool.{true};
 ghost use Prim.Native.Nat.{_≤_};
 ghost use lib.ListN.{length};
 ghost use Rattle.numbers.specs.Numbers.{over};
-ghost use Rattle.state_bytes.specs.Layout.{stateOf, encodePlace, encodeVotes, Onward, Clocked, stateOk, HoldsState};
+ghost use Rattle.state_bytes.specs.Layout.{stateOf, encodePlace, encodeVotes, Onward, Clocked, stateOk, isQuiet, HoldsState};
 ghost use Rattle.numbers.specs.Lending.{was, last};
 use state::Replica;
 
@@ -29,6 +29,35 @@ pub fn read_state(run: &[u8]) -> Replica
         sent: flag::flag_at(run, 39),
         nonce: numbers::read_u64(run, 40),
         reports: part::reports_at(run, 48),
+    }
+}
+
+// Whether no report is there: the state outside of a view change and a recovery.
+pub fn is_quiet(run: &[u8]) -> bool
+    requires { ⌜ 146 ≤ length (now run) ⌝ }
+    ensures { λ r. ⌜ r ≡ isQuiet (was run) ⌝ }
+{
+    part::is_zero(run, 48)
+}
+
+// The state that such a run holds: its reports are not read.
+pub fn read_quiet(run: &[u8]) -> Replica
+    requires { ⌜ (146 ≤ length (now run)) × (isQuiet (now run) ≡ true) ⌝ }
+    ensures { λ r. ⌜ r ≡ stateOf (was run) ⌝ }
+{
+    Replica {
+        setup: part::setup_at(run, 0),
+        status: flag::status_of(numbers::read_u8(run, 12)),
+        view: numbers::read_view(run, 13),
+        normal: numbers::read_view(run, 17),
+        catching: flag::flag_at(run, 21),
+        op: numbers::read_op(run, 22),
+        commit: numbers::read_op(run, 26),
+        clock: part::clock_at(run, 30),
+        starts: numbers::read_u8(run, 38),
+        sent: flag::flag_at(run, 39),
+        nonce: numbers::read_u64(run, 40),
+        reports: state::no_reports(),
     }
 }
 
@@ -108,6 +137,9 @@ pub fn state_ok(run: &[u8]) -> bool
     }
     if !flag::flag_ok(run, 39) {
         return false;
+    }
+    if is_quiet(run) {
+        return true;
     }
     part::reports_ok(run, 48)
 }

@@ -1,9 +1,9 @@
 // The parts of the state run.
 ghost use mathlib.Core.Path.{_≡_};
 ghost use Prim.Native.Nat.{_+_, _≤_};
-ghost use lib.ListN.{length, drop};
+ghost use lib.ListN.{length, take, drop};
 ghost use Rattle.numbers.specs.Numbers.{over};
-ghost use Rattle.state_bytes.specs.Layout.{setupOf, encodeSetup, clockOf, encodeClock, reportIn, encodeReport, ReportFits, reportsOf, encodeReports, ReportsFit, allReportsOk};
+ghost use Rattle.state_bytes.specs.Layout.{setupOf, encodeSetup, clockOf, encodeClock, reportIn, encodeReport, ReportFits, reportsOf, encodeReports, ReportsFit, allReportsOk, allZero};
 ghost use Rattle.numbers.specs.Lending.{was, last};
 use crate::flag;
 use clock::Clock;
@@ -103,6 +103,21 @@ pub fn reports_ok(run: &[u8], at: usize) -> bool
         i += 1;
     }
     true
+}
+
+// Whether the 98 bytes of the seven reports are all zero: a few wide looks.
+pub fn is_zero(run: &[u8], at: usize) -> bool
+    requires { ⌜ at + 98 ≤ length (now run) ⌝ }
+    ensures { λ r. ⌜ r ≡ allZero (take 98 (drop at (was run))) ⌝ }
+{
+    let mut i: usize = 0;
+    while i < 12 {
+        if numbers::read_u64(run, at + 8 * i) != 0 {
+            return false;
+        }
+        i += 1;
+    }
+    numbers::read_u16(run, at + 96) == 0
 }
 
 // Seven reports, one for each replica id.

@@ -1,6 +1,6 @@
 -- What refusal 1 asks, kept by the steps that the handlers share.
 --     as-it-was, other, moves, back    a state with its own numbers, with those of s, and s beside the runs that were left
---     none-ok                          no reports
+--     gathered-rows                    what refusal 1 says of each report
 --     settled-held, acked-held         commits, and PrepareOk
 --     asked-held, heard-held, transferred-held, deferred-held    messages alone
 --     sent-kept, left-kept, still-kept    what a handler leaves
@@ -8,10 +8,9 @@
 use mathlib.Core.Path.{_≡_, refl, sym, ap, _∙_}
 use mathlib.Core.Bool.{Bool, true}
 use mathlib.Core.List.{List}
-use Prim.Native.Nat.{ℕ, zero, suc, _-_, max, _≤_}
+use Prim.Native.Nat.{ℕ, _-_, max, _≤_, _<_}
 use native.Mathlib.Omega.{arith}
-use lib.ListN.{length, take, replicate}
-use Rattle.numbers.specs.Words.{if_then_else_}
+use lib.ListN.{length, getD}
 use Rattle.numbers.specs.declared.View.{View}
 use Rattle.numbers.specs.declared.Op.{Op}
 use Rattle.numbers.proofs.WordLaws.{split}
@@ -19,11 +18,13 @@ use Rattle.config.specs.Setup.{setupOk}
 use Rattle.config.specs.declared.Setup.{Setup}
 use Rattle.book.proofs.RunLaws.{committed-lengths}
 use Rattle.state.specs.State.{heardBy, catchingUpIn}
-use Rattle.state.specs.Statuses.{noReport, noReports}
 use Rattle.state.specs.Lengths.{logLength, resultsLength, totalsLength, acksLength, storedLength}
 use Rattle.state.specs.declared.Returned.{Returned}
 use Rattle.state.specs.declared.Replica.{Replica}
-use Rattle.state.specs.Sound.{reportOk, reportsOk}
+use Rattle.state.specs.declared.Report.{Report}
+use Rattle.state.specs.Statuses.{noReport}
+use Rattle.state.specs.Sound.{gatheredOk}
+use Rattle.state.proofs.SoundLaws.{rows-ok-is, gathered-is, none-gathered}
 use Rattle.steps.specs.Steps.{Sound, Spoke, Left, committedTo, settled, askedForState, transferred, deferred, committedAndAcked}
 use Rattle.book.specs.Memory.{Runs, Memory}
 use Rattle.steps.specs.declared.Accept.{Accept}
@@ -34,7 +35,7 @@ use Rattle.steps.specs.Recorded.{Recorded, recorded, onlySent, Gathering
 pub record Held (u : Setup) (t : Replica) (x : Runs) : Type 0 where
   pub sound : Sound t x
   pub setup : t .setup ≡ u
-  pub reports : reportsOk (u .room) (take (u .n) (t .reports .rows)) ≡ true
+  pub reports : gatheredOk u (t .starts) (t .reports .rows) ≡ true
 
 -- with acks and stored logs
 pub record Kept (u : Setup) (d : Recorded) : Type 0 where
@@ -44,14 +45,10 @@ pub record Kept (u : Setup) (d : Recorded) : Type 0 where
 
 -- ---- states
 
-none-of : (room n k : ℕ) → reportsOk room (take n (replicate k noReport)) ≡ true
-unfolding reportsOk reportOk if_then_else_
-none-of room zero k = refl
-none-of room (suc n) zero = refl
-none-of room (suc n) (suc k) = none-of room n k
-
-pub none-ok : (u : Setup) → reportsOk (u .room) (take (u .n) (noReports .rows)) ≡ true
-none-ok u = none-of (u .room) (u .n) 7
+-- each report that is there
+pub gathered-rows : (u : Setup) (starts : ℕ) (l : List Report) → gatheredOk u starts l ≡ true → (i : ℕ) → i < u .n
+    → getD l i noReport .there ≡ true → (getD l i noReport .op .0 ≤ u .room) × (getD l i noReport .commit .0 ≤ getD l i noReport .op .0)
+gathered-rows u starts l h = rows-ok-is (u .room) (u .n) l (gathered-is u starts l h .1)
 
 pub as-it-was : {s : Replica} {m : Memory} → Gathering s m → Held (s .setup) s (m .runs)
 as-it-was h = record { sound = h .sound; setup = refl; reports = h .reports }
@@ -59,7 +56,7 @@ as-it-was h = record { sound = h .sound; setup = refl; reports = h .reports }
 module _ {s : Replica} {x : Runs} (h : Held (s .setup) s x) where
   -- its own numbers and reports
   pub other : (t : Replica) → t .setup ≡ s .setup → t .commit .0 ≤ t .op .0 → t .op .0 ≤ s .setup .room
-      → reportsOk (s .setup .room) (take (s .setup .n) (t .reports .rows)) ≡ true → Held (s .setup) t x
+      → gatheredOk (s .setup) (t .starts) (t .reports .rows) ≡ true → Held (s .setup) t x
   other t e c o r =
       record {
         sound =
@@ -76,7 +73,7 @@ module _ {s : Replica} {x : Runs} (h : Held (s .setup) s x) where
       }
 
   pub moves : (t : Replica) → t .setup ≡ s .setup → t .op .0 ≡ s .op .0 → t .commit .0 ≡ s .commit .0
-      → reportsOk (s .setup .room) (take (s .setup .n) (t .reports .rows)) ≡ true → Held (s .setup) t x
+      → gatheredOk (s .setup) (t .starts) (t .reports .rows) ≡ true → Held (s .setup) t x
   moves t e o c r = other t e (omega (arith, h .sound .commit-le, o, c)) (omega (arith, h .sound .op-le, o)) r
 
   -- the state as it was, with the runs as they were left
@@ -114,8 +111,8 @@ module _ {s : Replica} {x : Runs} (h : Held (s .setup) s x) where
   unfolding deferred
   deferred-held Ignore v out = h
   deferred-held Hear v out = heard-held
-  deferred-held Join v out = asked-held _ _ out (moves (catchingUpIn s v) refl refl refl (none-ok (s .setup)))
-  deferred-held Rejoin v out = asked-held _ _ out (moves (catchingUpIn (heardBy s) v) refl refl refl (none-ok (s .setup)))
+  deferred-held Join v out = asked-held _ _ out (moves (catchingUpIn s v) refl refl refl (none-gathered (s .setup)))
+  deferred-held Rejoin v out = asked-held _ _ out (moves (catchingUpIn (heardBy s) v) refl refl refl (none-gathered (s .setup)))
   deferred-held Take v out = h
 
 -- ---- commits

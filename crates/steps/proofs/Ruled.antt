@@ -22,7 +22,7 @@ use Rattle.state.specs.Answers.{completed}
 use Rattle.state.specs.Lengths.{storedPlace, logLength, storedLength}
 use Rattle.state.specs.declared.Replica.{Replica}
 use Rattle.state.specs.declared.Report.{Report}
-use Rattle.state.proofs.SoundLaws.{rows-ok-is}
+use Rattle.steps.proofs.Held.{gathered-rows}
 use Rattle.steps.specs.Steps.{Spoke, Left, left, committedTo, settled, askedForState, transferred, deferred, prepareOkOf, committedAndAcked}
 use Rattle.book.specs.Memory.{Runs, Memory}
 use Rattle.steps.specs.declared.Accept.{Accept}
@@ -57,13 +57,12 @@ Has s m = Lent (s .setup) (s .op .0) (s .reports .rows) (m .runs .log) (m .store
 
 pub has : {s : Replica} {m : Memory} → Gathering s m → Ruled s m → Has s m
 has {s} {m} h r =
-    let z = sized (s .setup) (h .sound .sized) in
     record {
       sized = h .sound .sized;
       op-le = h .sound .op-le;
       log-long = h .sound .log-long;
       stored-long = h .stored-long;
-      fits = λ i lt t. rows-ok-is (s .setup .room) (s .reports .rows) (s .setup .n) (z .seven) (r .seven) (h .reports) i lt t .0;
+      fits = λ i lt t. gathered-rows (s .setup) (s .starts) (s .reports .rows) (h .reports) i lt t .0;
       log-ok = r .log;
       seven = r .seven;
       stored-ok = r .stored;

@@ -1,11 +1,11 @@
 -- What a call leaves of answer and memory, and what refusal 1 leaves for those that gather reports. Assumes nothing.
 use mathlib.Core.Path.{_≡_}
 use mathlib.Core.Bool.{true}
-use lib.ListN.{length, take}
+use lib.ListN.{length}
 use Rattle.state.specs.Lengths.{acksLength, storedLength}
 use Rattle.state.specs.declared.Returned.{Returned}
 use Rattle.state.specs.declared.Replica.{Replica}
-use Rattle.state.specs.Sound.{reportsOk}
+use Rattle.state.specs.Sound.{gatheredOk}
 use Rattle.steps.specs.Steps.{Sound, Spoke, Left}
 use Rattle.book.specs.Memory.{Memory, Run, memoryBefore, memoryAfter}
 
@@ -34,6 +34,6 @@ ofLeft m d = recorded (d .answer) (record { runs = d .runs; acks = m .acks; stor
 -- what refusal 1 leaves
 pub record Gathering (s : Replica) (m : Memory) : Type 0 where
   pub sound : Sound s (m .runs)
-  pub reports : reportsOk (s .setup .room) (take (s .setup .n) (s .reports .rows)) ≡ true
+  pub reports : gatheredOk (s .setup) (s .starts) (s .reports .rows) ≡ true
   pub acks-long : length (m .acks) ≡ acksLength (s .setup)
   pub stored-long : length (m .stored) ≡ storedLength (s .setup)

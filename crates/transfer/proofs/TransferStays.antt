@@ -17,7 +17,8 @@ use Rattle.transfer.specs.declared.Part.{Part}
 use Rattle.transfer.specs.declared.Use.{Use}
 use Rattle.transfer.specs.declared.Use.the-variants.{Ignore, Hear, Fill, Install}
 use Rattle.transfer.proofs.NewStateLaws.{fill-told, install-told, fill-fits, install-fits}
-use Rattle.steps.proofs.Held.{Held, none-ok, heard-held, acked-held}
+use Rattle.state.proofs.SoundLaws.{none-gathered}
+use Rattle.steps.proofs.Held.{Held, heard-held, acked-held}
 use Rattle.numbers.specs.declared.Op.{Op}
 use Rattle.transfer.specs.GetState.{getStateStep}
 
@@ -41,7 +42,7 @@ module _ (s : Replica) (x : Runs) (h : Held (s .setup) s x) (out : List ℕ) whe
         record {
           sound = install-fits s p part x (h .sound) c _ (install-told s v p e) l refl .0;
           setup = refl;
-          reports = none-ok (s .setup);
+          reports = none-gathered (s .setup);
         }
 
     use-held : (u : Use) → useOf s v p ≡ u → HeldBy (byUse u s p part x out)

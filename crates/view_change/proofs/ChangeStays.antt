@@ -20,7 +20,8 @@ use Rattle.view_change.specs.StartView.{LogPassed, Joined, withLogOf, se
 use Rattle.view_change.specs.declared.StartViewVerdict.{StartViewVerdict}
 use Rattle.view_change.specs.declared.StartViewVerdict.the-variants as Verdicts
 use Rattle.view_change.proofs.StartViewLaws.{join-keeps, joins-sound}
-use Rattle.steps.proofs.Held.{Held, Kept, none-ok, as-it-was, acked-held}
+use Rattle.state.proofs.SoundLaws.{none-gathered}
+use Rattle.steps.proofs.Held.{Held, Kept, as-it-was, acked-held}
 
 -- ---- the start of a view change
 
@@ -49,7 +50,7 @@ module _ (s : Replica) (m : Memory) (h : Gathering s m) (v : View) (o c : Op) (p
             joins-sound s v o c part (m .runs .log) (m .runs .money .results) (m .runs .money .totals) (m .acks) (m .out) (h .sound) k g l
             _ _ refl refl .0;
         setup = refl;
-        reports = none-ok (s .setup);
+        reports = none-gathered (s .setup);
       }
 
   verdict-kept : (d : StartViewVerdict) → StartView.startViewVerdict s v o part (m .runs .log) ≡ d

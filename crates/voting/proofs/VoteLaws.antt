@@ -1,7 +1,7 @@
 -- Votes for a view, on plain variables, as the code's tests and calls give them.
 --     calls-short, calls                               only what goes out first
 --     stays, catches-up, went-out, counts              each way out of `due`
---     voted-gathers, clocked-gathers, asked-gathers    votes and clock are no part of what refusal 1 leaves
+--     voted-gathers, clocked-gathers, asked-gathers    what refusal 1 leaves, with other votes or another clock
 --     too-early, in-time                               each way out of `maybeStep`
 --     joins, is-away, leader-tells, backup-waits       each way out of `sameView`
 --     too-old, moves-on, same-view                     each way out of `startViewChangeStep`
@@ -11,7 +11,7 @@ use mathlib.Core.Bool.{Bool, true, false, not}
 use mathlib.Core.List.{List}
 use Prim.Native.Nat.{ℕ, _/_, _≤_, _<_}
 use native.Mathlib.Omega.{arith}
-use lib.Count.{ones}
+use Rattle.config.specs.Replicas.{countBelow}
 use lib.Dec.{leb}
 use lib.ListN.{length}
 use borrow.Author.Tests.{lt-ltb, le-ltb, not-true, not-false}
@@ -27,6 +27,8 @@ use Rattle.state.specs.Statuses.{isNormal, isChanging}
 use Rattle.state.specs.Answers.{refusal, completed, quiet}
 use Rattle.state.specs.declared.Returned.{Returned}
 use Rattle.state.specs.declared.Replica.{Replica}
+use Rattle.state.specs.Sound.{gatheredOk}
+use Rattle.state.proofs.SoundLaws.{start-gathered}
 use Rattle.steps.specs.Steps.{Sound, spoke}
 use Rattle.view_change.specs.StartView.{sentStartView}
 use Rattle.do_view_change.specs.Begin.{callsFirst, firstLength}
@@ -68,7 +70,7 @@ module _ (t : Replica) (b : Bool) (eb : b ≡ isChanging (t .status)) where
       unfolding reportDue
       went-out f = sym (if-false _ _ _ (ap not (sym eb) ∙ h) ∙ if-false _ _ _ e ∙ if-true _ _ _ f)
 
-      pub counts : t .sent ≡ false → (k : ℕ) → k ≡ ones (t .starts) → leb (t .setup .n / 2) k ≡ reportDue t
+      pub counts : t .sent ≡ false → (k : ℕ) → k ≡ countBelow (t .setup .n) (t .starts) → leb (t .setup .n / 2) k ≡ reportDue t
       unfolding reportDue
       counts f k p =
           ap (leb (t .setup .n / 2)) p
@@ -77,10 +79,11 @@ module _ (t : Replica) (b : Bool) (eb : b ≡ isChanging (t .status)) where
 -- ---- what the calls ask
 
 module _ (s : Replica) (m : Memory) (h : Gathering s m) where
-  pub voted-gathers : (starts : ℕ) (sent : Bool) (t : Replica) → t ≡ withVotes s starts sent → Gathering t m
-  voted-gathers starts sent t e =
+  pub voted-gathers : (starts : ℕ) (sent : Bool) (t : Replica) → t ≡ withVotes s starts sent
+      → gatheredOk (s .setup) starts (s .reports .rows) ≡ true → Gathering t m
+  voted-gathers starts sent t e g =
       subst (λ (x : Replica). Gathering x m) (sym e)
-      (record { sound = sound; reports = h .reports; acks-long = h .acks-long; stored-long = h .stored-long })
+      (record { sound = sound; reports = g; acks-long = h .acks-long; stored-long = h .stored-long })
     where
       sound : Sound (withVotes s starts sent) (m .runs)
       sound =
@@ -114,9 +117,12 @@ module _ (s : Replica) (m : Memory) (h : Gathering s m) where
   bit-low r l = let z = sized (s .setup) (h .sound .sized) in omega (arith, l, z .seven)
 
 -- u after the move to a later view, t with the vote
-pub asked-gathers : (s : Replica) (v : View) (r : ℕ) (m : Memory) (u t : Replica) → u ≡ changingTo s v → t ≡ withStart u r → Gathering s m
-    → Gathering t m
-asked-gathers s v r m u t eu et h = voted-gathers u m (moved-gathers s v m u eu h) _ _ t et
+pub asked-gathers : (s : Replica) (v : View) (r : ℕ) (m : Memory) (u t : Replica) → u ≡ changingTo s v → t ≡ withStart u r
+    → r < s .setup .n → Gathering s m → Gathering t m
+asked-gathers s v r m u t eu et lt h =
+    let g = moved-gathers s v m u eu h in
+    voted-gathers u m g _ _ t et
+    (start-gathered (u .setup) (u .starts) r (u .reports .rows) (subst (λ (x : Replica). r < x .setup .n) (sym eu) lt) (g .reports))
 
 -- ---- maybe_send_do_view_change
 

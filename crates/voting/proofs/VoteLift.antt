@@ -8,7 +8,7 @@ use Prim.Native.Nat.{ℕ, _+_, _/_, _<_}
 use mathlib.Core.Path.{_≡_, refl, ap, _∙_, subst}
 use mathlib.Core.Bool.{Bool, true, false, not}
 use mathlib.Core.List.{List, [], _++_}
-use lib.Count.{ones}
+use Rattle.config.specs.Replicas.{countBelow}
 use lib.Dec.{ltb, leb}
 use lib.ListN.{length, length-append}
 use Rattle.numbers.specs.Words.{if_then_else_, _and_}
@@ -29,6 +29,8 @@ use Rattle.state.specs.State.{leads}
 use Rattle.state.specs.Statuses.{isNormal, isChanging}
 use Rattle.state.specs.Answers.{refusal, completed, quiet}
 use Rattle.state.specs.declared.Replica.{Replica}
+use Rattle.state.specs.Sound.{gatheredOk}
+use Rattle.state.proofs.SoundLaws.{start-gathered}
 use Rattle.steps.specs.Steps.{Spoke, spoke, askedForState}
 use Rattle.view_change.specs.StartViewChange.{callsLength, callsOf}
 use Rattle.view_change.specs.StartView.{sentStartView}
@@ -60,8 +62,8 @@ abbrev varied : Replica → Clock → (starts : ℕ) (sent : Bool) → Replica
 varied t k starts sent = S.withClock (S.withVotes t starts sent) k
 
 module _ (c : Given) (t : Replica) (k : Clock) (starts : ℕ) (sent : Bool) where
-  changing-varied : Changing c t → Changing c (varied t k starts sent)
-  changing-varied h =
+  changing-varied : gatheredOk (t .setup) starts (t .reports .rows) ≡ true → Changing c t → Changing c (varied t k starts sent)
+  changing-varied votes h =
       let g = h .gathering in
       record {
         gathering =
@@ -75,7 +77,7 @@ module _ (c : Given) (t : Replica) (k : Clock) (starts : ℕ) (sent : Bool) wher
                     results-long = g .sound .results-long;
                     totals-long = g .sound .totals-long;
                   };
-              reports = g .reports;
+              reports = votes;
               acks-long = g .acks-long;
               stored-long = g .stored-long;
             };
@@ -112,7 +114,7 @@ module _ (c : Given) (t : Replica) (table : List ClientEntry) (applied : List En
 
   due-is : reportDue t ≡ enough (t .setup) was
   unfolding reportDue enough modelOf
-  due-is = four-tests (isChanging (t .status)) (t .catching) (t .sent) (leb (t .setup .n / 2) (ones (t .starts)))
+  due-is = four-tests (isChanging (t .status)) (t .catching) (t .sent) (leb (t .setup .n / 2) (countBelow (t .setup .n) (t .starts)))
 
   called-shown : Shown c (ofSpoke c (sentFirst (c .state) t first (c .out))) (modelOf (c .state) (c .runs) table applied .book)
       (fitted (length (c .out)) (length (c .reps)) (done was ms []))
@@ -129,7 +131,7 @@ module _ (c : Given) (t : Replica) (table : List ClientEntry) (applied : List En
       Shown c (ofRecorded d) (modelOf (c .state) (c .runs) table applied .book) (fitted (length (c .out)) (length (c .reps)) a))
       _ _ _ _ _ _ due-is
       (λ _.
-      send-shown c (S.withSent t) table applied (changing-varied c t (t .clock) (t .starts) true h) first ms
+      send-shown c (S.withSent t) table applied (changing-varied c t (t .clock) (t .starts) true (h .gathering .reports) h) first ms
       (first-varied c t (t .clock) (t .starts) true first ms f) (stored-varied c t (t .clock) (t .starts) true (c .runs .stored) kept))
       (λ _. called-shown)
 
@@ -143,27 +145,28 @@ module _ (c : Given) (table : List ClientEntry) (applied : List Entry) (h : Chan
   -- ---- on_start_view_change
 
   -- the vote of replica r, from a state t that is read as q
-  voted : (t : Replica) (q : State) (r : ℕ) (first : Bool) (ms : List Sent) → Changing c t → First t first ms → StoredOk t (c .runs .stored)
+  voted : (t : Replica) (q : State) (r : ℕ) (first : Bool) (ms : List Sent) → r < t .setup .n → Changing c t → First t first ms → StoredOk t (c .runs .stored)
       → modelOf t (c .runs) table applied ≡ q
       → Goal (maybeStep (c .state) (S.withStart t r) first (memoryOf c)) (maybeSendDoViewChange (t .setup) (votedFor q r) ms)
   unfolding votedFor setVotes modelOf storeOf
-  voted t q r first ms g f s e =
+  voted t q r first ms lt g f s e =
       let k = t .clock in
       let starts = S.withStart t r .starts in
       subst
       (λ (x : State). Goal (maybeStep (c .state) (S.withStart t r) first (memoryOf c)) (maybeSendDoViewChange (t .setup) (votedFor x r) ms)) e
-      (maybe-shown c (S.withStart t r) table applied (changing-varied c t k starts (t .sent) g) first ms
+      (maybe-shown c (S.withStart t r) table applied (changing-varied c t k starts (t .sent)
+      (start-gathered (t .setup) (t .starts) r (t .reports .rows) lt (g .gathering .reports)) g) first ms
       (first-varied c t k starts (t .sent) first ms f) (stored-varied c t k starts (t .sent) (c .runs .stored) s))
 
   -- one of our view
-  goal-same : (r : ℕ)
+  goal-same : (r : ℕ) → r < c .state .setup .n
       → Goal (sameView (c .state) r (memoryOf c))
       (if isChanging (m .place .status) then maybeSendDoViewChange (c .state .setup) (votedFor m r) [] else
       if isNormal (m .place .status) and isPrimary (c .state .setup) m then done m (sendStartView m r) [] else
       ignored m)
   unfolding sameView leads isPrimary primary modelOf
-  goal-same r =
-      split₂ Goal _ _ _ _ _ _ refl (λ _. voted (c .state) m r false [] h (first-none (c .state)) kept refl) λ _.
+  goal-same r lt =
+      split₂ Goal _ _ _ _ _ _ refl (λ _. voted (c .state) m r false [] lt h (first-none (c .state)) kept refl) λ _.
       subst
       (Goal
       (if not (isNormal (c .state .status)) then recorded (quiet (c .state)) (memoryOf c) else
@@ -185,9 +188,9 @@ module _ (c : Given) (table : List ClientEntry) (applied : List Entry) (h : Chan
       split₂ Goal _ _ _ _ _ _ refl (λ _. idle-shown c table applied) λ _.
       split₂ Goal _ _ _ _ _ _ refl
       (λ _.
-      voted t (changingTo (c .state .setup) m (v .0)) r true (sendStartViewChange (c .state .setup) (v .0)) g (first-calls c t g)
+      voted t (changingTo (c .state .setup) m (v .0)) r true (sendStartViewChange (c .state .setup) (v .0)) lt g (first-calls c t g)
       (changing-stored (c .state) v (c .runs .stored) (kept .bytes)) (change-reads c table applied v h))
-      (λ _. goal-same r)
+      (λ _. goal-same r lt)
 
   -- ---- the ticks; k is what the clock's tick gave
 
@@ -254,12 +257,12 @@ module _ (c : Given) (table : List ClientEntry) (applied : List Entry) (h : Chan
         (done q ms []))
         (changing-reads t (c .runs) table applied next (sized (c .state .setup) (h .gathering .sound .sized) .seven) (h .looks))
         (said-shown c t′ table applied
-        (changing-varied c (S.changingTo (c .state) next) (t′ .clock) 0 false (changing-on c next h)) ms _ _ asking-bytes asking-long))
+        (changing-varied c (S.changingTo (c .state) next) (t′ .clock) 0 false (changing-on c next h .gathering .reports) (changing-on c next h)) ms _ _ asking-bytes asking-long))
 
     -- ---- in ViewChange
 
     ticked : Changing c t
-    ticked = changing-varied c (c .state) (k .clock) (c .state .starts) (c .state .sent) h
+    ticked = changing-varied c (c .state) (k .clock) (c .state .starts) (c .state .sent) (h .gathering .reports) h
 
     ticked-stored : StoredOk t (c .runs .stored)
     ticked-stored = stored-varied c (c .state) (k .clock) (c .state .starts) (c .state .sent) (c .runs .stored) kept

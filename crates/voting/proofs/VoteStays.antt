@@ -1,7 +1,7 @@
 -- StartViewChange, and a tick that starts or goes on with a view change, keep what refusal 1 asks. Assumes nothing.
 use mathlib.Core.Path.{_≡_, refl}
 use mathlib.Core.Bool.{Bool, true, false}
-use Prim.Native.Nat.{ℕ}
+use Prim.Native.Nat.{ℕ, _<_}
 use lib.ListN.{length}
 use Rattle.numbers.specs.declared.View.{View}
 use Rattle.numbers.proofs.WordLaws.{split}
@@ -14,7 +14,8 @@ use Rattle.steps.specs.Recorded.{Gathering, onlySent}
 use Rattle.book.specs.Memory.{Memory}
 use Rattle.voting.specs.Votes.{sentFirst, maybeStep, sameView, startViewChangeStep}
 use Rattle.voting.specs.Tick.{viewAfter, nextView, nextViewAsking, repeated, changeTick}
-use Rattle.steps.proofs.Held.{Held, Kept, none-ok, as-it-was, moves, asked-held, still-kept, sent-kept}
+use Rattle.state.proofs.SoundLaws.{none-gathered, start-gathered}
+use Rattle.steps.proofs.Held.{Held, Kept, as-it-was, moves, asked-held, still-kept, sent-kept}
 use Rattle.view_change.proofs.ChangeStays.{started-held, sent-start-view-held}
 use Rattle.do_view_change.proofs.RecordStays.{send-kept}
 
@@ -41,25 +42,25 @@ module _ (s : Replica) (m : Memory) (h : Gathering s m) where
 
   -- ---- on_start_view_change
 
-  same-view-kept : (r : ℕ) → Kept (s .setup) (sameView s r m)
+  same-view-kept : (r : ℕ) → r < s .setup .n → Kept (s .setup) (sameView s r m)
   unfolding sameView
-  same-view-kept r =
+  same-view-kept r lt =
       split (Kept (s .setup)) _ _ _
       (λ _.
-      maybe-kept s (withStart s r) m here (moves here (withStart s r) refl refl refl (h .reports)) (h .acks-long) (h .stored-long) false)
+      maybe-kept s (withStart s r) m here (moves here (withStart s r) refl refl refl (start-gathered (s .setup) (s .starts) r _ lt (h .reports))) (h .acks-long) (h .stored-long) false)
       λ _.
       split (Kept (s .setup)) _ _ _ (λ _. still-kept h _ here) λ _.
       split (Kept (s .setup)) _ _ _ (λ _. sent-kept h _ (sent-start-view-held r (m .runs .log) (m .out) here)) λ _.
       still-kept h _ here
 
-  pub start-view-change-kept : (v : View) (r : ℕ) → Kept (s .setup) (startViewChangeStep s v r m)
+  pub start-view-change-kept : (v : View) (r : ℕ) → r < s .setup .n → Kept (s .setup) (startViewChangeStep s v r m)
   unfolding startViewChangeStep
-  start-view-change-kept v r =
+  start-view-change-kept v r lt =
       let t = withStart (changingTo s v) r in
       split (Kept (s .setup)) _ _ _ (λ _. still-kept h _ here) λ _.
       split (Kept (s .setup)) _ _ _
-      (λ _. maybe-kept s t m here (moves here t refl refl refl (none-ok (s .setup))) (h .acks-long) (h .stored-long) true)
-      λ _. same-view-kept r
+      (λ _. maybe-kept s t m here (moves here t refl refl refl (start-gathered (s .setup) 0 r _ lt (none-gathered (s .setup)))) (h .acks-long) (h .stored-long) true)
+      λ _. same-view-kept r lt
 
   -- ---- ticks; c is the clock after it
 
@@ -68,7 +69,7 @@ module _ (s : Replica) (m : Memory) (h : Gathering s m) where
     ticked = moves here (withClock s c) refl refl refl (h .reports)
 
     changed : (v : View) → Held (s .setup) (changingTo (withClock s c) v) (m .runs)
-    changed v = moves here (changingTo (withClock s c) v) refl refl refl (none-ok (s .setup))
+    changed v = moves here (changingTo (withClock s c) v) refl refl refl (none-gathered (s .setup))
 
     abbrev Speaks : Spoke → Type 0
     Speaks d = Held (s .setup) (d .answer .state) (m .runs)

@@ -3,7 +3,7 @@
 use mathlib.Core.Bool.{Bool, true, false, not}
 use mathlib.Core.List.{List}
 use Prim.Native.Nat.{ℕ, _/_}
-use lib.Count.{ones}
+use Rattle.config.specs.Replicas.{countBelow}
 use lib.Dec.{ltb, leb}
 use lib.ListN.{length}
 use Rattle.numbers.specs.Words.{if_then_else_}
@@ -32,7 +32,7 @@ reportDue t =
     if not (isChanging (t .status)) then false else
     if t .catching then false else
     if t .sent then false else
-    leb (t .setup .n / 2) (ones (t .starts))
+    leb (t .setup .n / 2) (countBelow (t .setup .n) (t .starts))
 
 -- maybe_send_do_view_change
 unfoldable pub maybeStep : (s t : Replica) (first : Bool) → Memory → Recorded

@@ -26,6 +26,7 @@ pub fn call(s: Replica, t: Replica, first: bool, out: &mut [u8]) -> Returned
 
 // Whether our DoViewChange is due: once, as soon as n/2 distinct ids ask for the view.
 fn is_due(t: Replica) -> bool
+    requires { ⌜ t .setup .n < 8 ⌝ }
     ensures { λ r. ⌜ r ≡ reportDue t ⌝ }
 {
     let status = t.status;
@@ -38,7 +39,7 @@ fn is_due(t: Replica) -> bool
     if t.sent {
         return false;
     }
-    (t.setup.n / 2) as u32 <= config::count(t.starts)
+    (t.setup.n / 2) as u32 <= config::count(t.setup.n, t.starts)
 }
 
 // maybe_send_do_view_change

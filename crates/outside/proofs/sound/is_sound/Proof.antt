@@ -21,12 +21,12 @@ returns-3 : tie.Need-returns-3
 unfolding sound if_then_else_
 returns-3 c = let a = c .before .before .before .before .before .before .before .args in rw (← c .before .before .before .before .before .is-creatable .ensures, c .before .before .before .before .if1 .left, le-ltb (a .s .op .0) (a .s .commit .0) (c .before .before .if2 .left), lt-ltb (a .s .setup .room) (a .s .op .0) (c .if3 .taken))
 
-reports-ok-requires : tie.Need-reports-ok-requires
-reports-ok-requires c κs = let a = c .before .before .before .before .before .before .before .before .args in let z = sized (a .s .setup) (creatable-is (a .s .setup) (a .l) (c .before .before .before .before .before .before .is-creatable .result) (c .before .before .before .before .before .before .is-creatable .ensures) (c .before .before .before .before .before .if1 .left) .0) in omega (arith, z .seven)
+gathered-ok-requires : tie.Need-gathered-ok-requires
+gathered-ok-requires c κs = let a = c .before .before .before .before .before .before .before .before .args in let z = sized (a .s .setup) (creatable-is (a .s .setup) (a .l) (c .before .before .before .before .before .before .is-creatable .result) (c .before .before .before .before .before .before .is-creatable .ensures) (c .before .before .before .before .before .if1 .left) .0) in omega (arith, z .seven)
 
 returns-4 : tie.Need-returns-4
 unfolding sound if_then_else_
-returns-4 c = let a = c .before .before .before .before .before .before .before .before .before .args in rw (← c .before .before .before .before .before .before .before .is-creatable .ensures, c .before .before .before .before .before .before .if1 .left, le-ltb (a .s .op .0) (a .s .commit .0) (c .before .before .before .before .if2 .left), le-ltb (a .s .setup .room) (a .s .op .0) (c .before .before .if3 .left)) (c .reports-ok .ensures)
+returns-4 c = let a = c .before .before .before .before .before .before .before .before .before .args in rw (← c .before .before .before .before .before .before .before .is-creatable .ensures, c .before .before .before .before .before .before .if1 .left, le-ltb (a .s .op .0) (a .s .commit .0) (c .before .before .before .before .if2 .left), le-ltb (a .s .setup .room) (a .s .op .0) (c .before .before .if3 .left)) (c .gathered-ok .ensures)
 
 pub is-sound-spec : {M : Type 1} → statement M
-is-sound-spec = tie.close (tie.spec (λ c κs. search needs) returns returns-2 returns-3 reports-ok-requires returns-4)
+is-sound-spec = tie.close (tie.spec (λ c κs. search needs) returns returns-2 returns-3 gathered-ok-requires returns-4)

@@ -1,6 +1,8 @@
 -- `voting::votes::maybe_send_do_view_change` meets its contract. Assumes nothing.
 use Rattle.voting.proofs.VoteLaws.{voted-gathers, too-early, in-time}
 use Rattle.book.specs.Memory.{memory}
+use native.Mathlib.Omega.{arith}
+use Rattle.config.proofs.SetupLaws.{sized}
 use borrow.Author.Needs.{needs}
 use Rattle.voting.proofs.votes.maybe_send_do_view_change.Statement.{statement}
 use Rattle.voting.proofs.votes.maybe_send_do_view_change.Tie as tie
@@ -21,7 +23,7 @@ send-do-view-change-requires c κs =
     let t = c1 .before .before .before .before .before .before .before .before .before .before in
     let a = t .args in
     let m = memory (a .log .now) (a .results .now) (a .totals .now) (a .acks .now) (a .stored .now) (a .out .now) (a .reps .now) in
-    voted-gathers (a .t) m (t .pre) _ _ _ (c1 .with-sent .ensures)
+    voted-gathers (a .t) m (t .pre) _ _ _ (c1 .with-sent .ensures) (t .pre .reports)
 
 returns-2 : tie.Need-returns-2
 returns-2 c =
@@ -37,11 +39,16 @@ returns-2 c =
 call-requires : tie.Need-call-requires
 call-requires c κs = c .before .before .before .before .before .before .before .before .before .before .pre .sound .sized
 
+is-due-requires : tie.Need-is-due-requires
+is-due-requires c κs =
+    let t = c .before .before .before .before .before .before .before in
+    omega (arith, sized (t .args .t .setup) (t .pre .sound .sized) .seven)
+
 pub maybe-send-do-view-change-spec : {M : Type 1} → statement M
 maybe-send-do-view-change-spec =
     tie.close
     (tie.spec
-    (λ c κs. search needs)
+    is-due-requires
     call-requires
     (λ c. c .before .before .call .kept .1 .1 .1 .0)
     returns

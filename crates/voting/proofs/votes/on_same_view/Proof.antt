@@ -3,6 +3,7 @@ use Rattle.voting.proofs.VoteLaws.{bit-low, voted-gathers, joins, is-aw
 use Rattle.book.specs.Memory.{memory}
 use native.Mathlib.Omega.{arith}
 use Rattle.config.proofs.SetupLaws.{sized}
+use Rattle.state.proofs.SoundLaws.{start-gathered}
 use borrow.Author.Needs.{needs}
 use Rattle.voting.proofs.votes.on_same_view.Statement.{statement}
 use Rattle.voting.proofs.votes.on_same_view.Tie as tie
@@ -19,6 +20,7 @@ maybe-send-do-view-change-requires c κs =
     let a = t .args in
     let m = memory (a .log .now) (a .results .now) (a .totals .now) (a .acks .now) (a .stored .now) (a .out .now) (a .reps .now) in
     voted-gathers (a .s) m (t .pre .0) _ _ _ (c1 .with-start .ensures)
+    (start-gathered (a .s .setup) (a .s .starts) (a .r) (a .s .reports .rows) (t .pre .1) (t .pre .0 .reports))
 
 returns : tie.Need-returns
 returns c =

@@ -24,7 +24,7 @@ maybe-send-do-view-change-requires c κs =
     let t = c2 .before .before .before .before .before .before .before .before .before .before .before .before .before .before in
     let a = t .args in
     let m = memory (a .log .now) (a .results .now) (a .totals .now) (a .acks .now) (a .stored .now) (a .out .now) (a .reps .now) in
-    asked-gathers (a .s) (a .v) (a .r) m _ _ (c2 .changing-to .ensures) (c1 .with-start .ensures) (t .pre .0)
+    asked-gathers (a .s) (a .v) (a .r) m _ _ (c2 .changing-to .ensures) (c1 .with-start .ensures) (t .pre .1) (t .pre .0)
 
 returns-2 : tie.Need-returns-2
 returns-2 c =
