@@ -1,5 +1,5 @@
 -- What reading a state run by places gives.
---     setupOf-at, clockOf-at, reportOf-at, reportsOf-at, stateOf-is                   the parts, and the state
+--     setupOf-at, clockOf-at, reportOf-at, reportsOf-at, stateWith-is                 the parts, and the state
 --     reports-next, reports-stop, reports-stop₂                                       one turn of the look over the reports
 --     not-long, no-status, no-catching, no-heard, no-sent, by-reports, state-long     the tests in order; a run that passes is 146 bytes long
 -- Assumes nothing.
@@ -26,7 +26,7 @@ use Rattle.state.specs.declared.Report.{Report}
 use Rattle.state.specs.declared.Reports.{Reports}
 use Rattle.state_bytes.specs.Layout.{flagOk, flagOf, statusOf, setupOf, clockOf}
 use Rattle.state_bytes.specs.Layout.{reportIn, reportsOf, allReportsOk}
-use Rattle.state_bytes.specs.Layout.{stateOf, stateOk}
+use Rattle.state_bytes.specs.Layout.{stateWith, stateOk}
 
 -- ---- reading by places
 
@@ -105,11 +105,11 @@ module _ (s : List ℕ) (at : ℕ) where
         p6,
       )
 
-pub stateOf-is : (s : List ℕ) {k : ℕ} {setup : Setup} {status : Status} {view normal : View} {catching : Bool} {op commit : Op} {clock : Clock}
-    {starts : ℕ} {sent : Bool} {nonce : ℕ} {reports : Reports}
+pub stateWith-is : (s : List ℕ) (reports : Reports) {k : ℕ} {setup : Setup} {status : Status} {view normal : View} {catching : Bool} {op commit : Op} {clock : Clock}
+    {starts : ℕ} {sent : Bool} {nonce : ℕ}
     → setup ≡ setupOf s → k ≡ num 1 12 s → status ≡ statusOf k → view ≡ viewAt 13 s → normal ≡ viewAt 17 s → catching ≡ flagOf (num 1 21 s)
     → op ≡ opAt 22 s → commit ≡ opAt 26 s → clock ≡ clockOf (drop 30 s) → starts ≡ num 1 38 s → sent ≡ flagOf (num 1 39 s)
-    → nonce ≡ num 8 40 s → reports ≡ reportsOf (drop 48 s)
+    → nonce ≡ num 8 40 s
     → _≡_ {A = Replica} (record {
       setup = setup;
       status = status;
@@ -123,9 +123,8 @@ pub stateOf-is : (s : List ℕ) {k : ℕ} {setup : Setup} {status : Status} {vie
       sent = sent;
       nonce = nonce;
       reports = reports;
-    }) (stateOf s)
-unfolding stateOf
-stateOf-is s p k q r t u v w x y z a b =
+    }) (stateWith s reports)
+stateWith-is s reports p k q r t u v w x y z a =
     λ i. record {
       setup = p i;
       status = (q ∙ ap statusOf k) i;
@@ -138,7 +137,7 @@ stateOf-is s p k q r t u v w x y z a b =
       starts = y i;
       sent = z i;
       nonce = a i;
-      reports = b i;
+      reports = reports;
     }
 
 -- ---- the look over the reports

@@ -97,9 +97,9 @@ allZero (b ∷ bs) = if eqb b 0 then allZero bs else false
 unfoldable pub isQuiet : List ℕ → Bool
 isQuiet s = allZero (take 98 (drop 48 s))
 
--- the state that a run holds
-unfoldable pub stateOf : List ℕ → Replica
-stateOf s =
+-- the state that a run holds, with these reports
+abbrev pub stateWith : List ℕ → Reports → Replica
+stateWith s reports =
     record {
       setup = setupOf s;
       status = statusOf (num 1 12 s);
@@ -112,8 +112,12 @@ stateOf s =
       starts = num 1 38 s;
       sent = flagOf (num 1 39 s);
       nonce = num 8 40 s;
-      reports = reportsOf (drop 48 s);
+      reports = reports;
     }
+
+-- the state that a run holds
+unfoldable pub stateOf : List ℕ → Replica
+stateOf s = stateWith s (reportsOf (drop 48 s))
 
 -- the bytes of a state
 unfoldable pub encodePlace : Replica → List ℕ

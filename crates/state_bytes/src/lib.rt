@@ -4,17 +4,18 @@ ghost use mathlib.Core.Bool.{true};
 ghost use Prim.Native.Nat.{_≤_};
 ghost use lib.ListN.{length};
 ghost use Rattle.numbers.specs.Numbers.{over};
-ghost use Rattle.state_bytes.specs.Layout.{stateOf, encodePlace, encodeVotes, Onward, Clocked, stateOk, isQuiet, HoldsState};
+ghost use Rattle.state_bytes.specs.Layout.{stateWith, stateOf, encodePlace, encodeVotes, Onward, Clocked, stateOk, isQuiet, HoldsState};
 ghost use Rattle.numbers.specs.Lending.{was, last};
 use state::Replica;
+use state::Reports;
 
 mod part; // setup, clock, reports
 mod flag; // flags and the status
 
-// The state that the run holds.
-pub fn read_state(run: &[u8]) -> Replica
+// The state that the run holds, with these reports.
+fn read_with(run: &[u8], reports: Reports) -> Replica
     requires { ⌜ 146 ≤ length (now run) ⌝ }
-    ensures { λ r. ⌜ r ≡ stateOf (was run) ⌝ }
+    ensures { λ r. ⌜ r ≡ stateWith (was run) reports ⌝ }
 {
     Replica {
         setup: part::setup_at(run, 0),
@@ -28,8 +29,16 @@ pub fn read_state(run: &[u8]) -> Replica
         starts: numbers::read_u8(run, 38),
         sent: flag::flag_at(run, 39),
         nonce: numbers::read_u64(run, 40),
-        reports: part::reports_at(run, 48),
+        reports,
     }
+}
+
+// The state that the run holds.
+pub fn read_state(run: &[u8]) -> Replica
+    requires { ⌜ 146 ≤ length (now run) ⌝ }
+    ensures { λ r. ⌜ r ≡ stateOf (was run) ⌝ }
+{
+    read_with(run, part::reports_at(run, 48))
 }
 
 // Whether no report is there: the state outside of a view change and a recovery.
@@ -45,20 +54,7 @@ pub fn read_quiet(run: &[u8]) -> Replica
     requires { ⌜ (146 ≤ length (now run)) × (isQuiet (now run) ≡ true) ⌝ }
     ensures { λ r. ⌜ r ≡ stateOf (was run) ⌝ }
 {
-    Replica {
-        setup: part::setup_at(run, 0),
-        status: flag::status_of(numbers::read_u8(run, 12)),
-        view: numbers::read_view(run, 13),
-        normal: numbers::read_view(run, 17),
-        catching: flag::flag_at(run, 21),
-        op: numbers::read_op(run, 22),
-        commit: numbers::read_op(run, 26),
-        clock: part::clock_at(run, 30),
-        starts: numbers::read_u8(run, 38),
-        sent: flag::flag_at(run, 39),
-        nonce: numbers::read_u64(run, 40),
-        reports: state::no_reports(),
-    }
+    read_with(run, state::no_reports())
 }
 
 // Where the replica stands: 18 bytes.
