@@ -2,3 +2,4 @@ pub mod WordLaws
 pub mod NumberLaws
 pub mod RunLaws
 pub mod CellLaws
+mod TurnLaws

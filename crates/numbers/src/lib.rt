@@ -3,6 +3,7 @@ ghost use mathlib.Core.Path.{_≡_};
 ghost use Prim.Native.Nat.{_+_, _≤_, _<_, _^_};
 ghost use lib.ListN.{length, take, replicate};
 ghost use Rattle.numbers.specs.Numbers.{num, big, within, over, viewAt, opAt};
+ghost use Rattle.numbers.specs.Turned.{low4, turned4, turned8, little4, little8};
 ghost use Rattle.numbers.specs.Lending.{was, last};
 
 // A view number. It is never compared with an op number: the two count unlike things.
@@ -35,6 +36,63 @@ pub fn read_be(s: &[u8], at: usize, k: usize) -> u64
     x
 }
 
+// A byte, as wide as a number.
+fn wide(b: u8) -> u64
+    ensures { λ r. ⌜ (r ≡ b) × (r < 256) ⌝ }
+{
+    b as u64
+}
+
+// Four bytes at place `at`, the lowest first: a compiler makes one load of it.
+fn low4(s: &[u8], at: usize) -> u64
+    requires { ⌜ at + 4 ≤ length (now s) ⌝ }
+    ensures { λ r. ⌜ (r ≡ low4 at (was s)) × (turned4 r ≡ num 4 at (was s)) × (r < 4294967296) ⌝ }
+{
+    wide(s[at]) + 256 * wide(s[at + 1]) + 65536 * wide(s[at + 2]) + 16777216 * wide(s[at + 3])
+}
+
+// Eight bytes, likewise.
+fn low8(s: &[u8], at: usize) -> u64
+    requires { ⌜ at + 8 ≤ length (now s) ⌝ }
+    ensures { λ r. ⌜ turned8 r ≡ num 8 at (was s) ⌝ }
+{
+    low4(s, at) + 4294967296 * low4(s, at + 4)
+}
+
+// The four lowest bytes of x the other way round: one instruction.
+fn turned4(x: u64) -> u64
+    ensures { λ r. ⌜ (r ≡ turned4 x) × (r < 4294967296) ⌝ }
+{
+    16777216 * (x % 256) + 65536 * (x / 256 % 256) + 256 * (x / 65536 % 256) + x / 16777216 % 256
+}
+
+// All eight.
+fn turned8(x: u64) -> u64
+    ensures { λ r. ⌜ r ≡ turned8 x ⌝ }
+{
+    4294967296 * turned4(x) + turned4(x / 4294967296)
+}
+
+// The four lowest bytes of x over the front, the lowest first: one store.
+fn put4(area: &mut [u8], x: u64)
+    requires { ⌜ 4 ≤ length (now area) ⌝ }
+    ensures { λ r. ⌜ last area ≡ over (little4 x) (was area) ⌝ }
+{
+    area[0] = (x % 256) as u8;
+    area[1] = (x / 256 % 256) as u8;
+    area[2] = (x / 65536 % 256) as u8;
+    area[3] = (x / 16777216 % 256) as u8;
+}
+
+// All eight.
+fn put8(area: &mut [u8], x: u64)
+    requires { ⌜ 8 ≤ length (now area) ⌝ }
+    ensures { λ r. ⌜ last area ≡ over (little8 x) (was area) ⌝ }
+{
+    put4(area, x);
+    put4(&mut area[4..], x / 4294967296);
+}
+
 pub fn read_u8(s: &[u8], at: usize) -> u8
     requires { ⌜ at + 1 ≤ length (now s) ⌝ }
     ensures { λ r. ⌜ r ≡ num 1 at (was s) ⌝ }
@@ -53,14 +111,14 @@ pub fn read_u32(s: &[u8], at: usize) -> u32
     requires { ⌜ at + 4 ≤ length (now s) ⌝ }
     ensures { λ r. ⌜ r ≡ num 4 at (was s) ⌝ }
 {
-    read_be(s, at, 4) as u32
+    turned4(low4(s, at)) as u32
 }
 
 pub fn read_u64(s: &[u8], at: usize) -> u64
     requires { ⌜ at + 8 ≤ length (now s) ⌝ }
     ensures { λ r. ⌜ r ≡ num 8 at (was s) ⌝ }
 {
-    read_be(s, at, 4) * 4294967296 + read_be(s, at + 4, 4)
+    turned8(low8(s, at))
 }
 
 pub fn read_view(s: &[u8], at: usize) -> View
@@ -109,14 +167,14 @@ pub fn write_u32(area: &mut [u8], x: u32)
     requires { ⌜ 4 ≤ length (now area) ⌝ }
     ensures { λ r. ⌜ last area ≡ over (big 4 x) (was area) ⌝ }
 {
-    write_be(area, 4, x as u64)
+    put4(area, turned4(x as u64))
 }
 
 pub fn write_u64(area: &mut [u8], x: u64)
     requires { ⌜ 8 ≤ length (now area) ⌝ }
     ensures { λ r. ⌜ last area ≡ over (big 8 x) (was area) ⌝ }
 {
-    write_be(area, 8, x)
+    put8(area, turned8(x))
 }
 
 // The first n bytes of `src` over the front of `area`.
