@@ -1,6 +1,7 @@
 """Recorded calls in the format of ../shared/vectors/FORMAT.md: the runs of a trace, and a choice of them.
 
-A run is a list of lines, each split into words: its creation with the answer and the state, then call, answer and state of each call."""
+A run is a list of lines, each split into words: its creation with the answer and the state, then call, answer and state of each call.
+A line `+` behind a state (host/README.md), which not every trace has, is the end of the state's line here."""
 MOST_TIMEOUT = 65535                       # T is a u16
 KINDS = range(1, 12)
 SMALL_ROOM = 8                             # the greatest L of the Rust's own record
@@ -15,7 +16,10 @@ def runs_of(lines):
             continue
         if words[0] in ("N", "R", "C"):
             runs.append([])
-        runs[-1].append(words)
+        if words[0] == "+":
+            runs[-1][-1] += words
+        else:
+            runs[-1].append(words)
     return runs
 
 

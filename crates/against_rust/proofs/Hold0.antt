@@ -2,7 +2,7 @@
 use mathlib.Core.Path.{refl}
 use Rattle.against_rust.specs.Shape.{RunHolds}
 use Rattle.against_rust.proofs.OpenRuns.{open-runs}
-use Rattle.against_rust.specs.Runs0.{run0, run1, run2, run3, run4, run5, run6, run7, run8, run9, run10, run11, run12, run13, run14, run15, run16, run17, run18, run19, run20, run21, run22, run23, run24, run25, run26, run27, run28, run29, run30, run31, run32, run33, run34, run35, run36, run37, run38, run39, run40, run41, run42, run43, run44, run45, run46, run47, run48}
+use Rattle.against_rust.specs.Runs0.{run0, run1, run2, run3, run4, run5, run6, run7, run8, run9, run10, run11, run12, run13, run14, run15, run16, run17, run18, run19, run20, run21, run22, run23, run24, run25, run26, run27, run28, run29, run30, run31, run32, run33, run34, run35, run36, run37, run38, run39}
 
 pub hold0 : RunHolds run0
 unfolding open-runs run0
@@ -163,39 +163,3 @@ hold38 = refl
 pub hold39 : RunHolds run39
 unfolding open-runs run39
 hold39 = refl
-
-pub hold40 : RunHolds run40
-unfolding open-runs run40
-hold40 = refl
-
-pub hold41 : RunHolds run41
-unfolding open-runs run41
-hold41 = refl
-
-pub hold42 : RunHolds run42
-unfolding open-runs run42
-hold42 = refl
-
-pub hold43 : RunHolds run43
-unfolding open-runs run43
-hold43 = refl
-
-pub hold44 : RunHolds run44
-unfolding open-runs run44
-hold44 = refl
-
-pub hold45 : RunHolds run45
-unfolding open-runs run45
-hold45 = refl
-
-pub hold46 : RunHolds run46
-unfolding open-runs run46
-hold46 = refl
-
-pub hold47 : RunHolds run47
-unfolding open-runs run47
-hold47 = refl
-
-pub hold48 : RunHolds run48
-unfolding open-runs run48
-hold48 = refl

@@ -2,7 +2,43 @@
 use mathlib.Core.Path.{refl}
 use Rattle.against_rust.specs.Shape.{RunHolds}
 use Rattle.against_rust.proofs.OpenRuns.{open-runs}
-use Rattle.against_rust.specs.Runs1.{run49, run50, run51, run52, run53, run54, run55, run56, run57, run58, run59, run60, run61, run62, run63, run64, run65, run66, run67, run68, run69, run70, run71, run72, run73, run74, run75, run76, run77, run78, run79, run80, run81, run82, run83, run84, run85, run86, run87, run88, run89, run90, run91, run92, run93, run94, run95, run96, run97, run98, run99}
+use Rattle.against_rust.specs.Runs1.{run40, run41, run42, run43, run44, run45, run46, run47, run48, run49, run50, run51, run52, run53, run54, run55, run56, run57, run58, run59, run60, run61, run62, run63, run64, run65, run66, run67, run68, run69, run70, run71, run72, run73, run74, run75, run76, run77, run78, run79, run80, run81, run82, run83, run84, run85, run86, run87, run88, run89, run90, run91, run92, run93}
+
+pub hold40 : RunHolds run40
+unfolding open-runs run40
+hold40 = refl
+
+pub hold41 : RunHolds run41
+unfolding open-runs run41
+hold41 = refl
+
+pub hold42 : RunHolds run42
+unfolding open-runs run42
+hold42 = refl
+
+pub hold43 : RunHolds run43
+unfolding open-runs run43
+hold43 = refl
+
+pub hold44 : RunHolds run44
+unfolding open-runs run44
+hold44 = refl
+
+pub hold45 : RunHolds run45
+unfolding open-runs run45
+hold45 = refl
+
+pub hold46 : RunHolds run46
+unfolding open-runs run46
+hold46 = refl
+
+pub hold47 : RunHolds run47
+unfolding open-runs run47
+hold47 = refl
+
+pub hold48 : RunHolds run48
+unfolding open-runs run48
+hold48 = refl
 
 pub hold49 : RunHolds run49
 unfolding open-runs run49
@@ -183,27 +219,3 @@ hold92 = refl
 pub hold93 : RunHolds run93
 unfolding open-runs run93
 hold93 = refl
-
-pub hold94 : RunHolds run94
-unfolding open-runs run94
-hold94 = refl
-
-pub hold95 : RunHolds run95
-unfolding open-runs run95
-hold95 = refl
-
-pub hold96 : RunHolds run96
-unfolding open-runs run96
-hold96 = refl
-
-pub hold97 : RunHolds run97
-unfolding open-runs run97
-hold97 = refl
-
-pub hold98 : RunHolds run98
-unfolding open-runs run98
-hold98 = refl
-
-pub hold99 : RunHolds run99
-unfolding open-runs run99
-hold99 = refl

@@ -2,7 +2,31 @@
 use mathlib.Core.Path.{refl}
 use Rattle.against_rust.specs.Shape.{RunHolds}
 use Rattle.against_rust.proofs.OpenRuns.{open-runs}
-use Rattle.against_rust.specs.Runs2.{run100, run101, run102, run103, run104, run105, run106, run107, run108, run109, run110, run111, run112}
+use Rattle.against_rust.specs.Runs2.{run94, run95, run96, run97, run98, run99, run100, run101, run102, run103, run104, run105, run106, run107, run108, run109, run110, run111, run112}
+
+pub hold94 : RunHolds run94
+unfolding open-runs run94
+hold94 = refl
+
+pub hold95 : RunHolds run95
+unfolding open-runs run95
+hold95 = refl
+
+pub hold96 : RunHolds run96
+unfolding open-runs run96
+hold96 = refl
+
+pub hold97 : RunHolds run97
+unfolding open-runs run97
+hold97 = refl
+
+pub hold98 : RunHolds run98
+unfolding open-runs run98
+hold98 = refl
+
+pub hold99 : RunHolds run99
+unfolding open-runs run99
+hold99 = refl
 
 pub hold100 : RunHolds run100
 unfolding open-runs run100

@@ -1,5 +1,5 @@
 -- What a recorded run is: a setup, a creation and calls, each with what was answered; and what it says of the model: that it answers just so.
--- The fields are those of ../shared/vectors/FORMAT.md, in its order. Assumes nothing.
+-- The fields are those of ../shared/vectors/FORMAT.md, in its order, and of the line `+` of host/README.md. Assumes nothing.
 use Prim.Native.Nat.{ℕ, _+_, _-_, _*_, _%_}
 use mathlib.Core.Path.{_≡_}
 use mathlib.Core.Bool.{Bool, true, false}
@@ -13,7 +13,7 @@ use Rattle.entries.specs.Entries.{encodeEntry}
 use Rattle.config.specs.declared.Setup.{Setup}
 use Rattle.fees.specs.declared.Outcome.{Outcome}
 use Rattle.frames.specs.Looks.{statusNumber}
-use Rattle.model.specs.State.{ClientEntry, State, Answer, after}
+use Rattle.model.specs.State.{ClientEntry, Held, Reported, Response, State, Answer, after}
 use Rattle.model.specs.State.Answer.{refused, done}
 use Rattle.model.specs.Sending.{messagesOut, repliesOut}
 use Rattle.model.specs.Steps.{onFrame, onTick, create, recover}
@@ -22,16 +22,22 @@ use Rattle.model.specs.Steps.{onFrame, onTick, create, recover}
 unfoldable pub hex : ℕ → ℕ → List ℕ
 hex k x = big k x
 
--- what is seen of a call: its number, the bytes of its messages and of its replies, 14 numbers of the state, 5 digests of it ([]: not recorded)
+-- what is seen of a call: its number, the bytes of its messages and of its replies, 14 numbers of the state, 5 digests of it ([]: not recorded),
+-- and the nonce with a digest of the stored messages ([]: not recorded)
 pub record Seen : Type 0 where
   pub number : ℕ
   pub messages : List ℕ
   pub replies : List ℕ
   pub numbers : List ℕ
   pub digests : List ℕ
+  pub kept : List ℕ
 
+unfoldable pub sawAll : ℕ → (messages replies numbers digests kept : List ℕ) → Seen
+sawAll k out rs ns ds ks = record { number = k; messages = out; replies = rs; numbers = ns; digests = ds; kept = ks }
+
+-- nothing of the nonce and the stored messages was recorded
 unfoldable pub saw : ℕ → (messages replies numbers digests : List ℕ) → Seen
-saw k out rs ns ds = record { number = k; messages = out; replies = rs; numbers = ns; digests = ds }
+saw k out rs ns ds = sawAll k out rs ns ds []
 
 -- a creation: the first, or after a crash, with a view, a nonce and the size of the area for messages
 pub data Start : Type 0 where
@@ -95,6 +101,36 @@ digestsOf m =
     fnv (packed encodeEntry (m .book .log)) ∷ fnv (packed rowBytes (m .book .table)) ∷ fnv (packed (big 8) (m .book .totals))
     ∷ fnv (m .votes .acks) ∷ fnv (packed encodeEntry (m .book .applied)) ∷ []
 
+-- a stored log: whether there is one, view, op number, commit number, entries
+unfoldable pub heldBytes : ℕ → Option Held → List ℕ
+heldBytes v none = 0 ∷ big 4 v ++ big 4 0 ++ big 4 0
+heldBytes v (some h) = 1 ∷ big 4 v ++ big 4 (length (h .log)) ++ big 4 (h .commit) ++ packed encodeEntry (h .log)
+
+-- a stored DoViewChange, which has a log
+unfoldable pub reportBytes : Reported → List ℕ
+reportBytes d = heldBytes (d .lastNormal) (some (d .held))
+
+-- a stored RecoveryResponse
+unfoldable pub responseBytes : Response → List ℕ
+responseBytes d = heldBytes (d .view) (d .held)
+
+-- what is stored of each replica behind its id, the first one's being i
+unfoldable pub storedBytes : {A : Type 0} → (A → List ℕ) → ℕ → List (Option A) → List ℕ
+storedBytes f i [] = []
+storedBytes f i (none ∷ xs) = storedBytes f (i + 1) xs
+storedBytes f i (some x ∷ xs) = i ∷ f x ++ storedBytes f (i + 1) xs
+
+-- nonce reports; where DoViewChanges are stored there are no responses, and the other way round
+unfoldable pub keptOf : State → List ℕ
+keptOf m =
+    m .store .nonce
+    ∷ fnv (storedBytes reportBytes 0 (m .store .reports) ++ storedBytes responseBytes 0 (m .store .responses)) ∷ []
+
+-- the nonce and that digest, where they were recorded
+unfoldable pub keptLike : List ℕ → State → List ℕ
+keptLike [] m = []
+keptLike (k ∷ ks) m = keptOf m
+
 -- the digests, where they were recorded
 unfoldable pub digestsLike : List ℕ → State → List ℕ
 digestsLike [] m = []
@@ -102,8 +138,9 @@ digestsLike (d ∷ ds) m = digestsOf m
 
 -- what is seen of the model's answer, of what was recorded; a refusal leaves the state as it was
 unfoldable pub shown : Seen → State → Answer → Seen
-shown w m (refused k) = saw k [] [] (numbersOf m) (digestsLike (w .digests) m)
-shown w m (done m′ out rs) = saw 0 (messagesOut out) (repliesOut rs) (numbersOf m′) (digestsLike (w .digests) m′)
+shown w m (refused k) = sawAll k [] [] (numbersOf m) (digestsLike (w .digests) m) (keptLike (w .kept) m)
+shown w m (done m′ out rs) =
+    sawAll 0 (messagesOut out) (repliesOut rs) (numbersOf m′) (digestsLike (w .digests) m′) (keptLike (w .kept) m′)
 
 -- what was recorded of a call
 unfoldable pub wanted : Line → Seen

@@ -29,6 +29,9 @@ const LATER: [(usize, usize); 8] = [
     (8, 0),
 ];
 
+/// What a replica stores.
+const STORED: [&str; 2] = ["DoViewChanges", "RecoveryResponses"];
+
 /// Counts of one thread, or of all.
 #[derive(Default)]
 pub struct Counts {
@@ -46,6 +49,8 @@ pub struct Counts {
     pub garbage: u64,
     /// Comparisons of what the Rust shows in its Debug text only.
     pub deep: u64,
+    /// The stored messages that were compared so, with the entries of their logs: DoViewChanges, and RecoveryResponses.
+    pub stored: [(u64, u64); 2],
     /// Refusals by number; place 0 isn't used.
     pub numbers: [u64; 12],
     /// Done and refused calls by status and kind.
@@ -81,6 +86,14 @@ impl Counts {
         self.numbers[number] += 1;
     }
 
+    /// A whole inside was compared, in this status, with so many stored messages that have so many entries.
+    pub fn inside(&mut self, status: usize, (messages, entries): (u64, u64)) {
+        self.deep += 1;
+        let stored = &mut self.stored[usize::from(status == 3)];
+        stored.0 += messages;
+        stored.1 += entries;
+    }
+
     /// All calls that were compared.
     pub fn calls(&self) -> u64 {
         self.done + self.refused + self.tries + self.creations + self.client
@@ -98,6 +111,10 @@ impl Counts {
         self.client += other.client;
         self.garbage += other.garbage;
         self.deep += other.deep;
+        for (mine, its) in self.stored.iter_mut().zip(other.stored) {
+            mine.0 += its.0;
+            mine.1 += its.1;
+        }
         for (mine, its) in self.numbers.iter_mut().zip(other.numbers) {
             *mine += its;
         }
@@ -118,9 +135,15 @@ impl Counts {
         }
     }
 
-    /// What a run has to have met and didn't: refusal numbers, calls of each kind in each status, and later causes.
+    /// What a run has to have met and didn't: stored messages with entries, refusal numbers, calls of each kind in each status, and
+    /// later causes.
     pub fn missing(&self) -> Vec<String> {
         let mut missing = Vec::new();
+        for (name, (_, entries)) in STORED.iter().zip(self.stored) {
+            if entries == 0 {
+                missing.push(format!("stored {name} with entries"));
+            }
+        }
         for (number, count) in self.numbers.iter().enumerate().skip(1) {
             if *count == 0 {
                 missing.push(format!("refusal {number}"));
@@ -165,6 +188,17 @@ impl Counts {
             format_args!(
                 "calls compared {}: done {}, refused {}, refused tries before a call {}, creations {}, a client's {}; whole insides {}; besides, calls on memory of no call {}",
                 self.calls(), self.done, self.refused, self.tries, self.creations, self.client, self.deep, self.garbage
+            ),
+        );
+        let stored = STORED.iter().zip(self.stored);
+        let stored = stored
+            .map(|(name, (messages, entries))| format!("{name} {messages} with {entries} entries"));
+        let stored: Vec<String> = stored.collect();
+        line(
+            text,
+            format_args!(
+                "stored messages compared in whole insides: {}",
+                stored.join(", ")
             ),
         );
         let numbers = (1..12).map(|number| format!("{number}: {}", self.numbers[number]));

@@ -1,8 +1,10 @@
-//! What the Rust shows in its Debug text only, compared with the library's bytes: the last normal view, the clock, the votes, the
-//! reports that are there, the acks of uncommitted ops, and the client table. A row that goes astray shows outside only much
-//! later, if at all. Acks of committed ops can't be told from outside, and what a view change gathered has no meaning outside it.
+//! What the Rust shows in its Debug text only, compared with the library's bytes: the last normal view, the clock, the votes, every
+//! stored report with its numbers and its log, the nonce, the acks of uncommitted ops, and the client table. A row that goes astray
+//! shows outside only much later, if at all. Acks of committed ops can't be told from outside, and the votes of a view change have
+//! no meaning outside it.
 
 use schedules::inside::{inside, Inside, Row};
+use schedules::run::hex;
 use schedules::rust::Setup;
 use vsr_rs::{Replica, Status};
 use whitherhaul::raw::{state, Memory};
@@ -20,8 +22,34 @@ pub fn reports(memory: &Memory) -> u64 {
     (0..7).filter(there).fold(0, |set, id| set | 1 << id)
 }
 
-/// Whether both sides are the same inside.
-pub fn same(setup: Setup, replica: &Replica<Ledger>, memory: &Memory) -> Result<(), String> {
+/// What is compared of the stored reports, as the Rust's (`schedules::stored`): of each that is there its id, then the bytes of
+/// the state behind the mark, which are whether it has a log, view, op and commit number, then the entries of its log, where they
+/// fit the run.
+pub fn stored(memory: &Memory) -> Vec<u8> {
+    let mut bytes = Vec::new();
+    let log = 32 * number(memory, state::ROOM, 4) as usize;
+    for id in (0..7).filter(|id| reports(memory) >> id & 1 == 1) {
+        let at = state::REPORTS + state::REPORT * id;
+        let entries = 32 * number(memory, at + 6, 4) as usize;
+        bytes.push(id as u8);
+        bytes.extend(&memory.state[at + 1..at + state::REPORT]);
+        let place = memory.stored.get(log * id..log * id + entries);
+        bytes.extend(place.unwrap_or(&[]));
+    }
+    bytes
+}
+
+/// The nonce of the recovery.
+pub fn nonce(memory: &Memory) -> u64 {
+    number(memory, state::NONCE, 8)
+}
+
+/// Whether both sides are the same inside; how many stored reports there are, and how many entries in their logs.
+pub fn same(
+    setup: Setup,
+    replica: &Replica<Ledger>,
+    memory: &Memory,
+) -> Result<(u64, u64), String> {
     let rust = inside(replica);
     let timeout = setup.timeout as u64;
     let clock = state::CLOCK;
@@ -41,18 +69,31 @@ pub fn same(setup: Setup, replica: &Replica<Ledger>, memory: &Memory) -> Result<
             n(state::CATCHING_UP, 1),
             rust.catching_up.into(),
         ),
+        ("nonce", nonce(memory), rust.nonce),
     ])?;
-    match replica.status() {
-        Status::ViewChange => equal([
+    if replica.status() == Status::ViewChange {
+        equal([
             ("starts", n(state::STARTS, 1), rust.starts),
             ("sent", n(state::SENT, 1), rust.sent.into()),
-            ("reports", reports(memory), rust.reports),
-        ])?,
-        Status::Recovering => equal([("responses", reports(memory), rust.responses)])?,
-        Status::Normal | Status::StateTransfer => {}
+        ])?;
     }
     acks(replica, memory, &rust)?;
-    rows(memory, &rust)
+    rows(memory, &rust)?;
+    same_stored(memory, &rust)
+}
+
+/// The stored reports.
+fn same_stored(memory: &Memory, rust: &Inside) -> Result<(u64, u64), String> {
+    let (library, due) = (stored(memory), rust.stored());
+    if library != due {
+        let (library, due) = (hex(&library), hex(&due));
+        return Err(format!(
+            "stored reports: the library has {library}, the Rust {due}"
+        ));
+    }
+    let reports = || rust.reports.iter().chain(&rust.responses);
+    let entries = reports().map(|report| report.log.len() as u64).sum();
+    Ok((reports().count() as u64, entries))
 }
 
 /// Whether named numbers are the same on both sides.

@@ -193,8 +193,8 @@ impl Pair {
             counts.moves[due.status][after] += 1;
         }
         if lends.deep {
-            counts.deep += 1;
-            deep::same(self.rust.setup, &self.rust.replica, &self.memory)?;
+            let stored = deep::same(self.rust.setup, &self.rust.replica, &self.memory)?;
+            counts.inside(status_number(self.rust.replica.status()), stored);
         }
         Ok(due.number == 0)
     }

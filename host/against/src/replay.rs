@@ -1,5 +1,5 @@
-//! A recorded trace (`../shared/vectors/FORMAT.md`), given to the library through the C calls: numbers, message and reply bytes, the
-//! state line, and after a refusal every lent byte.
+//! A recorded trace (`../shared/vectors/FORMAT.md`; host/README.md for the line `+`), given to the library through the C calls:
+//! numbers, message and reply bytes, the lines of the state, and after a refusal every lent byte.
 
 use crate::deep;
 use crate::facts::{number, Facts};
@@ -63,6 +63,7 @@ struct Replay {
     answer: Option<Answer>,
     compared: BTreeMap<&'static str, usize>,
     states: usize,
+    stored: usize,
     refused: BTreeMap<u8, usize>,
     left_out: BTreeMap<&'static str, usize>,
 }
@@ -74,6 +75,7 @@ impl Default for Replay {
             answer: None,
             compared: BTreeMap::new(),
             states: 0,
+            stored: 0,
             refused: BTreeMap::new(),
             left_out: BTreeMap::new(),
         }
@@ -139,8 +141,11 @@ impl Replay {
             ("I", 2) => self.idle(number_of(words[1])?),
             ("=", 4) => self.compare(words),
             (":", 20) => self.state(&words[1..]),
+            ("+", 3) => self.stored(&words[1..]),
             (";", 4) => self.record(&words[1..]),
-            _ => Err(String::from("a line that FORMAT.md doesn't have")),
+            _ => Err(String::from(
+                "a line that neither FORMAT.md nor host/README.md has",
+            )),
         }
     }
 
@@ -323,6 +328,25 @@ impl Replay {
         Ok(())
     }
 
+    /// The line behind the state line: the nonce, and a digest of the stored reports.
+    fn stored(&mut self, words: &[&str]) -> Result<(), String> {
+        let Running::Replica(replica) = &self.running else {
+            return Err(String::from("the stored reports of no replica"));
+        };
+        let digest = schedules::run::fnv(&deep::stored(&replica.memory));
+        let given = [
+            deep::nonce(&replica.memory).to_string(),
+            format!("{digest:016x}"),
+        ];
+        if given != words {
+            return Err(format!(
+                "nonce and stored reports: the library has {given:?}, due is {words:?}"
+            ));
+        }
+        self.stored += 1;
+        Ok(())
+    }
+
     /// The state of a client.
     fn record(&mut self, words: &[&str]) -> Result<(), String> {
         let client = whitherhaul::Client::from_record(
@@ -356,9 +380,10 @@ impl Replay {
             false => by(&self.left_out),
         };
         format!(
-            "{file}: {calls} answers compared ({}), {} states\nrefused by number: {refused}\nleft out: {left_out}\n",
+            "{file}: {calls} answers compared ({}), {} states, {} of them with nonce and stored reports\nrefused by number: {refused}\nleft out: {left_out}\n",
             by(&self.compared),
-            self.states
+            self.states,
+            self.stored
         )
     }
 }

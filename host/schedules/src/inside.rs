@@ -1,7 +1,8 @@
 //! What the Rust's replica holds beyond its public getters, read from its derived `Debug` text, which is public too:
-//! the clock, the votes, the stored messages and the client table; and what its client holds. Top fields stand behind four
-//! spaces there.
+//! the clock, the votes, the stored messages, the nonce and the client table; and what its client holds. Top fields stand behind
+//! four spaces there.
 
+use crate::stored::{reports, Report};
 use vsr_rs::{Client, Replica};
 use wire::fees::{Charge, Ledger, Outcome};
 
@@ -13,7 +14,8 @@ pub struct Row {
     pub reply: Option<Outcome>,
 }
 
-/// The fields of FORMAT.md's state line that have no getter; sets are one bit for each replica id.
+/// What a replica's two lines of a trace say and no getter does; sets are one bit for each replica id. Where DoViewChanges are
+/// stored there are no responses, and the other way round.
 pub struct Inside {
     pub last_normal: u64,
     pub heard: bool,
@@ -23,10 +25,24 @@ pub struct Inside {
     pub starts: u64,
     pub sent: bool,
     pub catching_up: bool,
-    pub reports: u64,
-    pub responses: u64,
+    pub reports: Vec<Report>,
+    pub responses: Vec<Report>,
+    pub nonce: u64,
     pub acks: Vec<(u64, u64)>,
     pub rows: Vec<Row>,
+}
+
+impl Inside {
+    /// What is compared of the stored messages: one after another, as `Report::bytes` has each.
+    pub fn stored(&self) -> Vec<u8> {
+        let reports = self.reports.iter().chain(&self.responses);
+        reports.flat_map(Report::bytes).collect()
+    }
+}
+
+/// Whose reports there are, as a number.
+pub fn senders(reports: &[Report]) -> u64 {
+    bits(&reports.iter().map(|report| report.id).collect::<Vec<_>>())
 }
 
 /// Reads all of it.
@@ -44,8 +60,9 @@ pub fn inside(replica: &Replica<Ledger>) -> Inside {
         starts: set("start_view_change_from"),
         sent: flag("do_view_change_sent"),
         catching_up: flag("catching_up"),
-        reports: set("do_view_change_from"),
-        responses: set("recovery_responses"),
+        reports: reports(&field(&text, "do_view_change_from")),
+        responses: reports(&field(&text, "recovery_responses")),
+        nonce: number("recovery_nonce"),
         acks: acks(&field(&text, "acks")),
         rows: rows(&field(&text, "client_table")),
     }
@@ -78,12 +95,12 @@ fn field(text: &str, name: &str) -> Vec<String> {
 }
 
 /// How many spaces a line begins with.
-fn depth(line: &str) -> usize {
+pub(crate) fn depth(line: &str) -> usize {
     line.len() - line.trim_start().len()
 }
 
 /// The number that a text begins with, after spaces.
-fn leading_number(text: &str) -> u64 {
+pub(crate) fn leading_number(text: &str) -> u64 {
     let text = text.trim_start();
     let end = text.find(|c: char| !c.is_ascii_digit());
     text[..end.unwrap_or(text.len())]

@@ -11,6 +11,7 @@ pub mod examples;
 pub mod inside;
 pub mod run;
 pub mod rust;
+pub mod stored;
 
 /// How a trace names the Rust that answered.
 pub fn answered_by() -> &'static str {

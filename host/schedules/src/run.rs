@@ -1,8 +1,9 @@
-//! One replica of the Rust with all calls that it was given, and what it answered to each, as lines of FORMAT.md. How a
-//! refusal is told: see `rust`. 9 and 10 are told by what the Rust sent, where a call lends areas of its own lengths
-//! (`call_in`); else they are as long as what it sent. 2 is told by hand (`malformed`), 1 doesn't occur.
+//! One replica of the Rust with all calls that it was given, and what it answered to each, as lines of FORMAT.md, with one more
+//! line behind the state (`+`, host/README.md). How a refusal is told: see `rust`. 9 and 10 are told by what the Rust sent, where
+//! a call lends areas of its own lengths (`call_in`); else they are as long as what it sent. 2 is told by hand (`malformed`), 1
+//! doesn't occur.
 
-use crate::inside::{inside, Inside, Row};
+use crate::inside::{inside, senders, Inside, Row};
 use crate::rust::{status_number, Rust};
 use std::fmt::Write;
 use vsr_rs::{Replica, Status};
@@ -54,7 +55,7 @@ impl Run {
                 format!("R {sizes} {view} {nonce} {area}\n")
             }
         };
-        let creation = head + &answer_line(&answer, 0) + &state_line(setup, &rust.replica);
+        let creation = head + &answer_line(&answer, 0) + &state_lines(setup, &rust.replica);
         let run = Run {
             rust,
             creation,
@@ -103,7 +104,7 @@ impl Run {
 
     /// Keeps the lines of a call, with its answer and the state after it.
     fn record(&mut self, before: Status, line: &str, kind: usize, code: usize, answer: &Answer) {
-        let state = state_line(self.rust.setup, &self.rust.replica);
+        let state = state_lines(self.rust.setup, &self.rust.replica);
         let mark = Mark {
             before: status_number(before),
             kind,
@@ -116,11 +117,12 @@ impl Run {
         self.calls.push(Recorded { lines, mark });
     }
 
-    /// The state line after the last call.
+    /// The two lines of the state after the last call.
     pub fn state(&self) -> &str {
         let last = self.calls.last();
         let lines = last.map_or(&self.creation, |call| &call.lines);
-        lines.lines().last().expect("a state line")
+        let start = lines.find(':').expect("a state line");
+        &lines[start..]
     }
 }
 
@@ -141,9 +143,19 @@ fn answer_line(answer: &Answer, code: usize) -> String {
     format!("= {code} {messages} {}\n", hex(&answer.reply_bytes()))
 }
 
-/// FORMAT.md's state line.
-fn state_line(setup: Setup, replica: &Replica<Ledger>) -> String {
+/// FORMAT.md's state line, and behind it the nonce with a digest of the stored messages.
+fn state_lines(setup: Setup, replica: &Replica<Ledger>) -> String {
     let i = inside(replica);
+    let stored = fnv(&i.stored());
+    format!(
+        "{}+ {} {stored:016x}\n",
+        state_line(setup, replica, &i),
+        i.nonce
+    )
+}
+
+/// FORMAT.md's state line.
+fn state_line(setup: Setup, replica: &Replica<Ledger>, i: &Inside) -> String {
     let numbers = [
         status_number(replica.status()) as u64,
         replica.view_number() as u64,
@@ -157,14 +169,14 @@ fn state_line(setup: Setup, replica: &Replica<Ledger>) -> String {
         i.starts,
         i.sent.into(),
         i.catching_up.into(),
-        i.reports,
-        i.responses,
+        senders(&i.reports),
+        senders(&i.responses),
     ];
     let mut line = String::from(":");
     for number in numbers {
         write!(line, " {number}").expect("a string takes all");
     }
-    for bytes in digested(setup, replica, &i) {
+    for bytes in digested(setup, replica, i) {
         write!(line, " {:016x}", fnv(&bytes)).expect("a string takes all");
     }
     line + "\n"

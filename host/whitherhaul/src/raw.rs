@@ -80,6 +80,8 @@ pub mod state {
     pub const LENGTH: usize = 146;
     /// n (1), id (1), T (2), L (4), M (4).
     pub const SETUP: usize = 0;
+    /// L (4), of the setup.
+    pub const ROOM: usize = 4;
     /// 0 Normal, 1 StateTransfer, 2 ViewChange, 3 Recovering (1).
     pub const STATUS: usize = 12;
     /// The view (4).

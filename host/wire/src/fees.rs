@@ -22,7 +22,7 @@ pub struct Charge {
 }
 
 /// An entry as on the wire, client and request number too.
-#[derive(Clone, Copy, Debug, PartialEq, Eq)]
+#[derive(Clone, Copy, Debug, Default, PartialEq, Eq)]
 pub struct Entry {
     pub client: u64,
     pub request: u64,

@@ -1,9 +1,10 @@
 //! What the comparisons have to notice.
 
 use super::*;
+use schedules::directed::{back, do_view_change, fee, response, NEW};
 use vsr_rs::Message;
 use wire::fees::{Entry, FEE};
-use wire::frames::frame;
+use wire::frames::{frame, Fees};
 
 /// A primary of three with a committed fee, and one that isn't.
 fn pair() -> Pair {
@@ -14,7 +15,6 @@ fn pair() -> Pair {
         room: 4,
         members: 2,
     };
-    let mut pair = Pair::new(setup, Start::New).expect("a pair").0;
     let request = |client: u64| Message::Request {
         client_id: client as usize,
         request_number: 0,
@@ -31,9 +31,15 @@ fn pair() -> Pair {
         op_number: 1,
         replica_id: 2,
     };
-    for message in [request(7), prepare_ok, request(8)] {
+    given(setup, NEW, vec![request(7), prepare_ok, request(8)])
+}
+
+/// A replica that was given these frames.
+fn given(setup: Setup, start: Start, frames: Vec<Fees>) -> Pair {
+    let mut pair = Pair::new(setup, start).expect("a pair").0;
+    for message in frames {
         let step = Step {
-            frame: Some(frame(0, &message)),
+            frame: Some(frame(setup.id, &message)),
             lends: Lends::default(),
         };
         let done = pair.step(step, &mut Counts::default());
@@ -42,18 +48,45 @@ fn pair() -> Pair {
     pair
 }
 
+/// Replica 0 of five with two stored reports, of replicas 1 and 3: DoViewChanges, or RecoveryResponses of which the second has no
+/// log.
+fn with_reports(recovering: bool) -> Pair {
+    let setup = Setup {
+        n: 5,
+        id: 0,
+        timeout: 3,
+        room: 2,
+        members: 2,
+    };
+    let log = [fee(1, 0), fee(2, 0)];
+    if recovering {
+        let frames = vec![response(6, 1, Some((&log, 1))), response(6, 3, None)];
+        return given(setup, back(5), frames);
+    }
+    let frames = vec![
+        do_view_change(5, 1, 3, &log, 1),
+        do_view_change(5, 3, 4, &log[..1], 0),
+    ];
+    given(setup, NEW, frames)
+}
+
 /// Whether the comparisons after a call notice what was done to the library's memory.
 fn noticed(change: impl FnOnce(&mut Memory)) -> bool {
-    let mut pair = pair();
+    noticed_in(pair(), change)
+}
+
+fn noticed_in(mut pair: Pair, change: impl FnOnce(&mut Memory)) -> bool {
     change(&mut pair.memory);
     let inside = deep::same(pair.rust.setup, &pair.rust.replica, &pair.memory);
-    pair.same().and(inside).is_err()
+    pair.same().and(inside.map(|_| ())).is_err()
 }
 
 #[test]
 fn every_changed_byte_is_noticed() {
     assert!(!noticed(|_| {}));
-    for place in state::STATUS..state::STARTS {
+    let marks = (0..7).map(|id| state::REPORTS + state::REPORT * id);
+    let places = (state::STATUS..state::STARTS).chain(state::NONCE..state::REPORTS);
+    for place in places.chain(marks) {
         assert!(
             noticed(|m| m.state[place] ^= 1),
             "byte {place} of the state"
@@ -82,6 +115,31 @@ fn every_changed_byte_is_noticed() {
             noticed(|m| m.table[place] ^= 1),
             "byte {place} of the table"
         );
+    }
+}
+
+#[test]
+fn every_changed_byte_of_a_report_is_noticed() {
+    for recovering in [false, true] {
+        assert!(!noticed_in(with_reports(recovering), |_| {}));
+        let marks = (0..7).map(|id| state::REPORTS + state::REPORT * id);
+        let whole = [1, 3].map(|id| state::REPORTS + state::REPORT * id);
+        let whole = whole.into_iter().flat_map(|at| at..at + state::REPORT);
+        for place in marks.chain(whole) {
+            let change = |m: &mut Memory| m.state[place] ^= 1;
+            assert!(
+                noticed_in(with_reports(recovering), change),
+                "byte {place} of the state"
+            );
+        }
+        let last = if recovering { 0 } else { 32 };
+        for place in (64..128).chain(192..192 + last) {
+            let change = |m: &mut Memory| m.stored[place] ^= 1;
+            assert!(
+                noticed_in(with_reports(recovering), change),
+                "byte {place} of the stored logs"
+            );
+        }
     }
 }
 

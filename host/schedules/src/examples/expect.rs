@@ -3,12 +3,13 @@
 use crate::inside::inside;
 use crate::run::hex;
 use crate::run::{Answer, Run};
+use crate::stored::Report;
 use std::fmt::Debug;
 use vsr_rs::Reply;
 use wire::fees::{Entry, Outcome};
 use wire::frames::{frame, reply_frame, Fees};
 
-/// Places of numbers in FORMAT.md's state line.
+/// Places of numbers in a state's two lines, FORMAT.md's state line and the one behind it.
 pub const LAST_NORMAL: usize = 2;
 pub const HEARD: usize = 5;
 pub const WAITING: usize = 6;
@@ -19,6 +20,7 @@ pub const SENT: usize = 10;
 pub const CATCHING_UP: usize = 11;
 pub const REPORTS: usize = 12;
 pub const RESPONSES: usize = 13;
+pub const NONCE: usize = 20;
 
 /// What a call has to give.
 pub struct Expect {
@@ -29,6 +31,7 @@ pub struct Expect {
     replies: Vec<u8>,
     log: Option<Vec<Entry>>,
     acks: Option<Vec<(u64, u64)>>,
+    stored: Option<Vec<u8>>,
 }
 
 fn expect(number: usize, same: bool, numbers: Vec<(usize, u64)>) -> Expect {
@@ -40,6 +43,7 @@ fn expect(number: usize, same: bool, numbers: Vec<(usize, u64)>) -> Expect {
         replies: Vec::new(),
         log: None,
         acks: None,
+        stored: None,
     }
 }
 
@@ -94,7 +98,7 @@ impl Expect {
         self
     }
 
-    /// This number at that place of the state line.
+    /// This number at that place of the state's lines.
     pub fn has(mut self, place: usize, number: u64) -> Expect {
         self.numbers.push((place, number));
         self
@@ -112,8 +116,16 @@ impl Expect {
         self
     }
 
-    /// What of it a call didn't give, each behind the words that say which call: the run with it, the state line before it, and
-    /// its answer.
+    /// Just these DoViewChanges or RecoveryResponses are stored, with all that they say but the view of a DoViewChange and the nonce;
+    /// in rising order of sender.
+    pub fn stores(mut self, messages: &[Fees]) -> Expect {
+        let reports = messages.iter().map(Report::of);
+        self.stored = Some(reports.flat_map(|report| report.bytes()).collect());
+        self
+    }
+
+    /// What of it a call didn't give, each behind the words that say which call: the run with it, the state lines before it,
+    /// and its answer.
     pub fn faults(self, at: &str, run: &Run, before: &str, answer: &Answer) -> Vec<String> {
         let mut faults = Faults(at, Vec::new());
         let number = run.calls.last().map_or(0, |call| call.mark.code);
@@ -128,7 +140,7 @@ impl Expect {
             faults.unless("state", run.state(), before);
         }
         for (place, number) in self.numbers {
-            let found = run.state().split(' ').nth(place + 1);
+            let found = run.state().split_whitespace().nth(place + 1);
             let what = format!("number {place} of the state");
             faults.unless(&what, found, Some(number.to_string().as_str()));
         }
@@ -138,6 +150,10 @@ impl Expect {
         }
         if let Some(acks) = self.acks {
             faults.unless("acks", inside(&run.rust.replica).acks, acks);
+        }
+        if let Some(stored) = self.stored {
+            let found = inside(&run.rust.replica).stored();
+            faults.unless("stored messages", hex(&found), hex(&stored));
         }
         faults.1
     }

@@ -40,8 +40,8 @@ fn chosen() -> Vec<Example> {
             .frame(start_view_change(2, 0), change(2, 1, 0).sends(&[0, 1], start_view_change(2, 2)).has(REPORTS, 4))
             .frame(do_view_change(2, 0, 0, &[B], 0), normal(2, 1, 0).sends(&[0, 1], start_view(2, &[A], 0)).log(&[A])),
         fresh(3, 0, "A later report of a sender replaces its earlier one, and doesn't count twice; our own id counts")
-            .frame(from(2, 0, &[A, B]), begins().has(REPORTS, 4))
-            .frame(from(2, 0, &[C]), change(3, 0, 0).has(REPORTS, 4))
+            .frame(from(2, 0, &[A, B]), begins().stores(&[from(2, 0, &[A, B])]))
+            .frame(from(2, 1, &[C]), change(3, 0, 0).stores(&[from(2, 1, &[C])]))
             .frame(from(0, 0, &[]), starts(&[C])),
     ]
 }
@@ -95,7 +95,8 @@ fn committed() -> Vec<Example> {
     vec![
         fresh(5, 0, "The commit number is the greatest of all reports, not the chosen one's; the commits are replied to, with the new view")
             .frame(do_view_change(5, 1, 0, &[A, B], 2), change(5, 0, 0).sends(all, start_view_change(5, 0)))
-            .frame(do_view_change(5, 2, 1, &[A, B], 1), change(5, 0, 0))
+            .frame(do_view_change(5, 2, 1, &[A, B], 1), change(5, 0, 0).stores(&[do_view_change(5, 1, 0, &[A, B], 2),
+                do_view_change(5, 2, 1, &[A, B], 1)]))
             .frame(do_view_change(5, 4, 1, &[A, B, C], 0), normal(5, 3, 2).sends(all, start_view(5, &[A, B, C], 2)).replies(5, A, 1, 10)
                 .replies(5, B, 1, 30).acks(&[(3, 1)]))
             .frame(prepare_ok(5, 3, 1), normal(5, 3, 2).acks(&[(3, 3)]))
@@ -191,6 +192,7 @@ fn sent_again() -> Vec<Example> {
 /// Replica 0 of 5 with A as op 1 changes to view 5; its own report is stored, then replaced by an empty one in its name.
 fn replaced(title: &str) -> Example {
     let all = &[1, 2, 3, 4];
+    let own = |log: &[Entry]| do_view_change(5, 0, 0, log, 0);
     fresh(5, 0, title)
         .frame(request(A), normal(0, 1, 0).sends(all, prepare(0, 1, 0, A)))
         .frame(
@@ -202,12 +204,9 @@ fn replaced(title: &str) -> Example {
         )
         .frame(
             start_view_change(5, 2),
-            change(5, 1, 0).has(SENT, 1).has(REPORTS, 1),
+            change(5, 1, 0).has(SENT, 1).stores(&[own(&[A])]),
         )
-        .frame(
-            do_view_change(5, 0, 0, &[], 0),
-            change(5, 1, 0).has(REPORTS, 1),
-        )
+        .frame(own(&[]), change(5, 1, 0).stores(&[own(&[])]))
 }
 
 fn own_report() -> Vec<Example> {
@@ -224,13 +223,13 @@ fn own_report() -> Vec<Example> {
         .tick(
             change(5, 1, 0)
                 .sends(all, start_view_change(5, 0))
-                .has(REPORTS, 1),
+                .stores(&[do_view_change(5, 0, 0, &[A], 0)]),
         )
         .frame(
             do_view_change(5, 1, 0, &[], 0),
             change(5, 1, 0).has(REPORTS, 3),
         )
-        .frame(do_view_change(5, 2, 0, &[], 0), starts(&[A])),
+        .frame(do_view_change(5, 2, 0, &[], 0), starts(&[A]).stores(&[])),
         replaced(
             "A primary-to-be without a tick between: the report in our name stands, and A is gone",
         )

@@ -45,6 +45,11 @@ fn responses() -> Vec<Example> {
             .frame(answer(0, 0, 2), nothing())
             .frame(answer_with(0, 2, 0, &[A], 1), nothing())
             .frame(answer(0, 1, 2), recovering(0).has(RESPONSES, 4)),
+        made(3, 1, 3, 8, Start::Back { view: 0, nonce: u64::MAX }, "A nonce of 2^64-1 stays after the recovery that it was for, and in the next view")
+            .frame(answer(0, u64::MAX - 1, 2), nothing())
+            .frame(answer(0, u64::MAX, 2), recovering(0).has(NONCE, u64::MAX))
+            .frame(answer_with(0, u64::MAX, 0, &[A], 0), back_with(0, &[A], 0).has(NONCE, u64::MAX))
+            .frame(start_view(1, &[A], 0), normal(1, 1, 0).sends(&[1], prepare_ok(1, 1, 1)).has(NONCE, u64::MAX)),
         recovered(3, 1, 0, "The quorum waits for the primary of the latest view, with state: another one's state isn't taken, nor the primary's \
             form 0")
             .frame(response(0, 2, b), recovering(0).has(RESPONSES, 4))
@@ -74,12 +79,12 @@ fn latest_views() -> Vec<Example> {
             .frame(response(3, 0, a), back_with(3, &[A], 1)),
         recovered(3, 0, 0, "Surprise: a later response of a sender replaces an earlier one, even with a lower view: Normal in view 4 after \
             hearing of view 5")
-            .frame(response(5, 2, None), recovering(0).has(RESPONSES, 4))
-            .frame(response(3, 2, None), recovering(0).has(RESPONSES, 4))
-            .frame(response(4, 1, a), back_with(4, &[A], 1)),
+            .frame(response(5, 2, None), recovering(0).stores(&[response(5, 2, None)]))
+            .frame(response(3, 2, None), recovering(0).stores(&[response(3, 2, None)]))
+            .frame(response(4, 1, a), back_with(4, &[A], 1).stores(&[])),
         recovered(3, 1, 0, "A later response replaces an earlier one: the primary's second state is taken")
-            .frame(response(0, 0, a), recovering(0))
-            .frame(response(0, 0, Some((&[A, B], 1))), recovering(0).has(RESPONSES, 1))
+            .frame(response(0, 0, a), recovering(0).stores(&[response(0, 0, a)]))
+            .frame(response(0, 0, Some((&[A, B], 1))), recovering(0).stores(&[response(0, 0, Some((&[A, B], 1)))]))
             .frame(response(0, 2, None), back_with(0, &[A, B], 1)),
         recovered(3, 0, 0, "A response in our own name counts, also as the primary's; a primary that came by recovery has no acks")
             .frame(response(0, 0, Some((&[A], 0))), recovering(0).has(RESPONSES, 1))
