@@ -43,8 +43,9 @@ extern "C" {
 #define WHITHERHAUL_REFUSED_REPLIES 10      /* the replies don't fit `reps` */
 #define WHITHERHAUL_REFUSED_NUMBERS 11      /* client: the next request number is 2^64-1 */
 
-/* Sizes: n is 3 to 7, an id 0 to n-1, L and M 1 to 4,096, T (timeout, in ticks) 1 to 65,535. */
+/* Sizes: n is 3 to 7, an id 0 to n-1, T (timeout, in ticks) 1 to 65,535, L and M 1 to 4,096. A creation refuses any other number by 1. */
 #define WHITHERHAUL_MOST_REPLICAS 7
+#define WHITHERHAUL_MOST_TIMEOUT 65535
 #define WHITHERHAUL_MOST_ROOM 4096
 #define WHITHERHAUL_MOST_MEMBERS 4096
 
@@ -148,7 +149,7 @@ struct whitherhaul_said {
  * A replica for the first time: Normal, in view 0, with an empty log. Totals, acks and table are zeroed, the state is written;
  * log, results, stored and old stay as they were. 0 or 1.
  */
-uint8_t whitherhaul_create(uint8_t n, uint8_t id, uint16_t timeout, uint32_t room, uint32_t members,
+uint8_t whitherhaul_create(uint32_t n, uint32_t id, uint32_t timeout, uint32_t room, uint32_t members,
                            uint8_t *state, size_t state_length,
                            const uint8_t *log, size_t log_length,
                            const uint8_t *results, size_t results_length,
@@ -162,7 +163,7 @@ uint8_t whitherhaul_create(uint8_t n, uint8_t id, uint16_t timeout, uint32_t roo
  * A replica that lost its memory in a crash: Recovering, in the view that its owner kept, with a nonce that it never used
  * before. It asks all others by Recovery frames, 20 (n-1) bytes of `out`; there are no replies. 0, 1 or 9.
  */
-uint8_t whitherhaul_recover(uint8_t n, uint8_t id, uint16_t timeout, uint32_t room, uint32_t members,
+uint8_t whitherhaul_recover(uint32_t n, uint32_t id, uint32_t timeout, uint32_t room, uint32_t members,
                             uint32_t view, uint64_t nonce,
                             uint8_t *state, size_t state_length,
                             const uint8_t *log, size_t log_length,
@@ -203,7 +204,7 @@ uint8_t whitherhaul_on_idle(uint8_t *state, size_t state_length,
                             struct whitherhaul_counts *counts);
 
 /* A new client of n replicas. Its id must be its own for ever. 0 or 1. */
-uint8_t whitherhaul_client_create(uint8_t n, uint64_t id, uint8_t *record, size_t record_length);
+uint8_t whitherhaul_client_create(uint32_t n, uint64_t id, uint8_t *record, size_t record_length);
 
 /* A request, in place of one that waits: its frame (39 bytes) is for the primary. Member is any number. 0, 1, 2, 9 or 11. */
 uint8_t whitherhaul_client_request(uint8_t *record, size_t record_length,

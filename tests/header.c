@@ -44,9 +44,19 @@ static uint32_t number_at(const uint8_t *run, size_t at)
 #define RUNS(r)                                                                                                        \
     RUN(r, log), RUN(r, results), RUN(r, totals), RUN(r, acks), RUN(r, stored), RUN(r, table), RUN(r, old)
 
-static uint8_t create(struct replica *r, uint8_t n, uint8_t id)
+static uint8_t create_with(struct replica *r, uint32_t n, uint32_t id, uint32_t timeout)
 {
-    return whitherhaul_create(n, id, 3, ROOM, MEMBERS, RUN(r, state), RUNS(r));
+    return whitherhaul_create(n, id, timeout, ROOM, MEMBERS, RUN(r, state), RUNS(r));
+}
+
+static uint8_t create(struct replica *r, uint32_t n, uint32_t id)
+{
+    return create_with(r, n, id, 3);
+}
+
+static uint8_t recover_with(struct replica *r, uint32_t n, uint32_t id, uint32_t timeout, size_t out_length)
+{
+    return whitherhaul_recover(n, id, timeout, ROOM, MEMBERS, 4, 9, RUN(r, state), RUNS(r), r->out, out_length, &r->counts);
 }
 
 static uint8_t idle(struct replica *r, size_t out_length)
@@ -126,6 +136,33 @@ static void refusals(void)
     expect(idle(&r, sizeof r.out) == WHITHERHAUL_REFUSED_SIZES, "a byte of the state without meaning");
 }
 
+/* Numbers whose low bytes alone would be inside the sizes: n, id, T. */
+static void wide_numbers(void)
+{
+    static const uint32_t wide[][3] = {{256 + N, 0, 3},          {65536 + N, 0, 3},
+                                       {UINT32_MAX, 0, 3},       {N, 256, 3},
+                                       {N, 65536, 3},            {N, UINT32_MAX, 3},
+                                       {N, 0, 65536},            {N, 0, 65539},
+                                       {N, 0, UINT32_MAX},       {256 + N, 256, 65539}};
+    static struct replica r, before;
+    uint8_t record[WHITHERHAUL_CLIENT_BYTES] = {0x5A};
+    size_t i;
+    for (i = 0; i < sizeof wide / sizeof wide[0]; i++) {
+        memset(&r, 0x5A, sizeof r);
+        before = r;
+        expect(create_with(&r, wide[i][0], wide[i][1], wide[i][2]) == WHITHERHAUL_REFUSED_SIZES, "a creation with a wide number");
+        expect(memcmp(&r, &before, sizeof r) == 0, "it changes nothing");
+        before.counts.messages = before.counts.replies = 0;
+        expect(recover_with(&r, wide[i][0], wide[i][1], wide[i][2], sizeof r.out) == WHITHERHAUL_REFUSED_SIZES,
+               "a recovery with a wide number");
+        expect(memcmp(&r, &before, sizeof r) == 0, "it changes nothing but the counts");
+    }
+    expect(create_with(&r, N, 0, WHITHERHAUL_MOST_TIMEOUT) == WHITHERHAUL_DONE, "the greatest T");
+    expect(number_at(r.state, WHITHERHAUL_STATE_SETUP_AT) == 0x0300FFFF, "stands in the state");
+    expect(whitherhaul_client_create(256 + N, 7, record, sizeof record) == WHITHERHAUL_REFUSED_SIZES && record[0] == 0x5A,
+           "a client of 259 replicas");
+}
+
 static void recovery(void)
 {
     static struct replica r;
@@ -133,10 +170,10 @@ static void recovery(void)
     uint8_t code;
 
     r.counts.replies = 77;
-    code = whitherhaul_recover(N, 1, 3, ROOM, MEMBERS, 4, 9, RUN(&r, state), RUNS(&r), r.out, 39, &r.counts);
+    code = recover_with(&r, N, 1, 3, 39);
     expect(code == WHITHERHAUL_REFUSED_MESSAGES && r.counts.messages == 0 && r.counts.replies == 0,
            "a recovery whose frames don't fit");
-    code = whitherhaul_recover(N, 1, 3, ROOM, MEMBERS, 4, 9, RUN(&r, state), RUNS(&r), r.out, 40, &r.counts);
+    code = recover_with(&r, N, 1, 3, 40);
     expect(code == WHITHERHAUL_DONE && r.counts.messages == 40 && r.counts.replies == 0, "a recovery");
     expect(memcmp(r.out, asked, 20) == 0 && r.out[26] == 2, "its Recovery frames");
     expect(r.state[WHITHERHAUL_STATE_STATUS_AT] == WHITHERHAUL_RECOVERING, "it is Recovering");
@@ -235,6 +272,7 @@ int main(void)
 {
     marked_examples();
     refusals();
+    wide_numbers();
     recovery();
     layout();
     client();

@@ -2,7 +2,6 @@
 
 A run is a list of lines, each split into words: its creation with the answer and the state, then call, answer and state of each call.
 A line `+` behind a state (host/README.md), which not every trace has, is the end of the state's line here."""
-MOST_TIMEOUT = 65535                       # T is a u16
 KINDS = range(1, 12)
 SMALL_ROOM = 8                             # the greatest L of the Rust's own record
 
@@ -31,12 +30,6 @@ def is_client(run):
 def refused_creation(run):
     """Whether there is no state behind the creation."""
     return run[1][1] != "0"
-
-
-def wanted(run):
-    """Whether a run says something: its creation was refused or has its state recorded, and its sizes fit the types."""
-    fits = is_client(run) or int(run[0][3]) <= MOST_TIMEOUT
-    return fits and (refused_creation(run) or len(run) > 2)
 
 
 def calls_of(run):
@@ -73,19 +66,20 @@ def kind_of(call):
 
 
 def causes(creation):
-    """Which sizes of a replica's creation are wrong."""
+    """Which sizes of a replica's creation are wrong; of n, id and T also where the low byte, or the low two, would be inside."""
     n, own, timeout, room, members = (int(word) for word in creation[1:6])
-    wrong = {"n low": n < 3, "n high": n > 7, "id": own >= n, "T": timeout == 0, "no L": room == 0, "L high": room > 4096,
-             "no M": members == 0, "M high": members > 4096}
+    wrong = {"n low": n < 3, "n high": 7 < n < 256, "n wide": n > 255, "id": n <= own < 256, "id wide": max(n, 256) <= own, "no T": timeout == 0,
+             "T wide": timeout > 65535, "no L": room == 0, "L high": room > 4096, "no M": members == 0, "M high": members > 4096}
     return tuple(name for name, it_is in wrong.items() if it_is)
 
 
 def shown_by_creation(run):
-    """What a creation shows: a refusal by its cause, if there is only one."""
-    if not refused_creation(run):
-        return set()
-    wrong = causes(run[0])
-    return {("created", run[0][0], run[1][1], wrong if len(wrong) < 2 else "several")}
+    """What a creation shows: a refusal by its cause, if there is only one; done, which sizes are the greatest there are."""
+    kind, code, wrong = run[0][0], run[1][1], causes(run[0])
+    if refused_creation(run):
+        return {("created", kind, code, wrong if len(wrong) < 2 else "several")}
+    most = zip("nTLM", run[0][1:2] + run[0][3:6], ("7", "65535", "4096", "4096"))
+    return {("created", kind, code, name) for name, word, greatest in most if word == greatest}
 
 
 def one_short(calls, place):
@@ -156,7 +150,8 @@ def best_front(shown, known, taken):
 
 
 def picked(runs, most):
-    """Fronts of runs that show the most in at most so many calls together, in the trace's order. The same runs give the same choice."""
+    """Fronts of runs that show the most in at most so many calls together, in the trace's order, and whether others show something
+    that these don't. The same runs give the same choice."""
     shown = {place: shown_by(run) for place, run in enumerate(runs)}
     known, lengths, left = set(), {}, most
     while True:
@@ -169,7 +164,7 @@ def picked(runs, most):
                 best = (gain / (length - taken + 2), place, length)
         worth, place, length = best
         if worth == 0:
-            return [front(runs[place], lengths[place]) for place in sorted(lengths)]
+            return [front(runs[place], lengths[place]) for place in sorted(lengths)], bool(shown)
         left -= length - lengths.get(place, 0)
         lengths[place] = length
         known.update(*shown[place][:length + 1])

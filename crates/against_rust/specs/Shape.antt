@@ -22,8 +22,8 @@ use Rattle.model.specs.Steps.{onFrame, onTick, create, recover}
 unfoldable pub hex : ℕ → ℕ → List ℕ
 hex k x = big k x
 
--- what is seen of a call: its number, the bytes of its messages and of its replies, 14 numbers of the state, 5 digests of it ([]: not recorded),
--- and the nonce with a digest of the stored messages ([]: not recorded)
+-- what is seen of a call: its number, the bytes of its messages and of its replies, 14 numbers of the state, 5 digests of it, and the nonce with
+-- a digest of the stored messages. Each of the last three is [] where it wasn't recorded.
 pub record Seen : Type 0 where
   pub number : ℕ
   pub messages : List ℕ
@@ -78,6 +78,11 @@ numbersOf m =
     statusNumber (m .place .status) ∷ m .place .view ∷ m .place .lastNormal ∷ length (m .book .log) ∷ m .book .commit ∷ flag (m .clock .heard)
     ∷ m .clock .waiting ∷ m .clock .stable ∷ m .clock .attempts ∷ m .votes .starts ∷ flag (m .votes .sent) ∷ flag (m .place .catchingUp)
     ∷ bitsOf 1 (m .store .reports) ∷ bitsOf 1 (m .store .responses) ∷ []
+
+-- the numbers, where they were recorded
+unfoldable pub numbersLike : List ℕ → State → List ℕ
+numbersLike [] m = []
+numbersLike (k ∷ ks) m = numbersOf m
 
 -- FNV-1a over 64 bits, from h on
 unfoldable pub fnvFrom : ℕ → List ℕ → ℕ
@@ -138,9 +143,9 @@ digestsLike (d ∷ ds) m = digestsOf m
 
 -- what is seen of the model's answer, of what was recorded; a refusal leaves the state as it was
 unfoldable pub shown : Seen → State → Answer → Seen
-shown w m (refused k) = sawAll k [] [] (numbersOf m) (digestsLike (w .digests) m) (keptLike (w .kept) m)
+shown w m (refused k) = sawAll k [] [] (numbersLike (w .numbers) m) (digestsLike (w .digests) m) (keptLike (w .kept) m)
 shown w m (done m′ out rs) =
-    sawAll 0 (messagesOut out) (repliesOut rs) (numbersOf m′) (digestsLike (w .digests) m′) (keptLike (w .kept) m′)
+    sawAll 0 (messagesOut out) (repliesOut rs) (numbersLike (w .numbers) m′) (digestsLike (w .digests) m′) (keptLike (w .kept) m′)
 
 -- what was recorded of a call
 unfoldable pub wanted : Line → Seen

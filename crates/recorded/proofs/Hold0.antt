@@ -2,7 +2,7 @@
 use mathlib.Core.Path.{refl}
 use Rattle.against_rust.specs.Shape.{RunHolds}
 use Rattle.against_rust.proofs.OpenRuns.{open-runs}
-use Rattle.recorded.specs.Runs0.{run0, run1, run2, run3, run4, run5, run6, run7, run8, run9, run10, run11, run12, run13, run14, run15, run16}
+use Rattle.recorded.specs.Runs0.{run0, run1, run2, run3, run4, run5, run6, run7, run8, run9, run10, run11, run12, run13, run14, run15, run16, run17, run18, run19, run20}
 
 pub hold0 : RunHolds run0
 unfolding open-runs run0
@@ -71,3 +71,19 @@ hold15 = refl
 pub hold16 : RunHolds run16
 unfolding open-runs run16
 hold16 = refl
+
+pub hold17 : RunHolds run17
+unfolding open-runs run17
+hold17 = refl
+
+pub hold18 : RunHolds run18
+unfolding open-runs run18
+hold18 = refl
+
+pub hold19 : RunHolds run19
+unfolding open-runs run19
+hold19 = refl
+
+pub hold20 : RunHolds run20
+unfolding open-runs run20
+hold20 = refl

@@ -2,23 +2,7 @@
 use mathlib.Core.Path.{refl}
 use Rattle.against_rust.specs.Shape.{RunHolds}
 use Rattle.against_rust.proofs.OpenRuns.{open-runs}
-use Rattle.recorded.specs.Runs1.{run17, run18, run19, run20, run21, run22, run23, run24, run25, run26, run27, run28, run29, run30, run31, run32, run33, run34, run35, run36, run37}
-
-pub hold17 : RunHolds run17
-unfolding open-runs run17
-hold17 = refl
-
-pub hold18 : RunHolds run18
-unfolding open-runs run18
-hold18 = refl
-
-pub hold19 : RunHolds run19
-unfolding open-runs run19
-hold19 = refl
-
-pub hold20 : RunHolds run20
-unfolding open-runs run20
-hold20 = refl
+use Rattle.recorded.specs.Runs1.{run21, run22, run23, run24, run25, run26, run27, run28, run29, run30, run31, run32, run33, run34, run35, run36, run37, run38, run39, run40, run41, run42, run43, run44, run45}
 
 pub hold21 : RunHolds run21
 unfolding open-runs run21
@@ -87,3 +71,35 @@ hold36 = refl
 pub hold37 : RunHolds run37
 unfolding open-runs run37
 hold37 = refl
+
+pub hold38 : RunHolds run38
+unfolding open-runs run38
+hold38 = refl
+
+pub hold39 : RunHolds run39
+unfolding open-runs run39
+hold39 = refl
+
+pub hold40 : RunHolds run40
+unfolding open-runs run40
+hold40 = refl
+
+pub hold41 : RunHolds run41
+unfolding open-runs run41
+hold41 = refl
+
+pub hold42 : RunHolds run42
+unfolding open-runs run42
+hold42 = refl
+
+pub hold43 : RunHolds run43
+unfolding open-runs run43
+hold43 = refl
+
+pub hold44 : RunHolds run44
+unfolding open-runs run44
+hold44 = refl
+
+pub hold45 : RunHolds run45
+unfolding open-runs run45
+hold45 = refl

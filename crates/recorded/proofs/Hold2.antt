@@ -2,39 +2,7 @@
 use mathlib.Core.Path.{refl}
 use Rattle.against_rust.specs.Shape.{RunHolds}
 use Rattle.against_rust.proofs.OpenRuns.{open-runs}
-use Rattle.recorded.specs.Runs2.{run38, run39, run40, run41, run42, run43, run44, run45, run46, run47, run48, run49}
-
-pub hold38 : RunHolds run38
-unfolding open-runs run38
-hold38 = refl
-
-pub hold39 : RunHolds run39
-unfolding open-runs run39
-hold39 = refl
-
-pub hold40 : RunHolds run40
-unfolding open-runs run40
-hold40 = refl
-
-pub hold41 : RunHolds run41
-unfolding open-runs run41
-hold41 = refl
-
-pub hold42 : RunHolds run42
-unfolding open-runs run42
-hold42 = refl
-
-pub hold43 : RunHolds run43
-unfolding open-runs run43
-hold43 = refl
-
-pub hold44 : RunHolds run44
-unfolding open-runs run44
-hold44 = refl
-
-pub hold45 : RunHolds run45
-unfolding open-runs run45
-hold45 = refl
+use Rattle.recorded.specs.Runs2.{run46, run47, run48, run49, run50, run51, run52, run53, run54, run55, run56, run57}
 
 pub hold46 : RunHolds run46
 unfolding open-runs run46
@@ -51,3 +19,35 @@ hold48 = refl
 pub hold49 : RunHolds run49
 unfolding open-runs run49
 hold49 = refl
+
+pub hold50 : RunHolds run50
+unfolding open-runs run50
+hold50 = refl
+
+pub hold51 : RunHolds run51
+unfolding open-runs run51
+hold51 = refl
+
+pub hold52 : RunHolds run52
+unfolding open-runs run52
+hold52 = refl
+
+pub hold53 : RunHolds run53
+unfolding open-runs run53
+hold53 = refl
+
+pub hold54 : RunHolds run54
+unfolding open-runs run54
+hold54 = refl
+
+pub hold55 : RunHolds run55
+unfolding open-runs run55
+hold55 = refl
+
+pub hold56 : RunHolds run56
+unfolding open-runs run56
+hold56 = refl
+
+pub hold57 : RunHolds run57
+unfolding open-runs run57
+hold57 = refl

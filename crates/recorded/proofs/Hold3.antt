@@ -2,39 +2,7 @@
 use mathlib.Core.Path.{refl}
 use Rattle.against_rust.specs.Shape.{RunHolds}
 use Rattle.against_rust.proofs.OpenRuns.{open-runs}
-use Rattle.recorded.specs.Runs3.{run50, run51, run52, run53, run54, run55, run56, run57, run58, run59, run60, run61, run62, run63, run64, run65, run66}
-
-pub hold50 : RunHolds run50
-unfolding open-runs run50
-hold50 = refl
-
-pub hold51 : RunHolds run51
-unfolding open-runs run51
-hold51 = refl
-
-pub hold52 : RunHolds run52
-unfolding open-runs run52
-hold52 = refl
-
-pub hold53 : RunHolds run53
-unfolding open-runs run53
-hold53 = refl
-
-pub hold54 : RunHolds run54
-unfolding open-runs run54
-hold54 = refl
-
-pub hold55 : RunHolds run55
-unfolding open-runs run55
-hold55 = refl
-
-pub hold56 : RunHolds run56
-unfolding open-runs run56
-hold56 = refl
-
-pub hold57 : RunHolds run57
-unfolding open-runs run57
-hold57 = refl
+use Rattle.recorded.specs.Runs3.{run58, run59, run60, run61, run62, run63, run64, run65, run66, run67, run68, run69, run70, run71, run72, run73, run74}
 
 pub hold58 : RunHolds run58
 unfolding open-runs run58
@@ -71,3 +39,35 @@ hold65 = refl
 pub hold66 : RunHolds run66
 unfolding open-runs run66
 hold66 = refl
+
+pub hold67 : RunHolds run67
+unfolding open-runs run67
+hold67 = refl
+
+pub hold68 : RunHolds run68
+unfolding open-runs run68
+hold68 = refl
+
+pub hold69 : RunHolds run69
+unfolding open-runs run69
+hold69 = refl
+
+pub hold70 : RunHolds run70
+unfolding open-runs run70
+hold70 = refl
+
+pub hold71 : RunHolds run71
+unfolding open-runs run71
+hold71 = refl
+
+pub hold72 : RunHolds run72
+unfolding open-runs run72
+hold72 = refl
+
+pub hold73 : RunHolds run73
+unfolding open-runs run73
+hold73 = refl
+
+pub hold74 : RunHolds run74
+unfolding open-runs run74
+hold74 = refl

@@ -117,7 +117,7 @@ pub fn again(case: &Case) -> Result<(), String> {
 impl Both {
     fn new(case: &Case) -> Result<Both, String> {
         let mut record = vec![0x5a; raw::CLIENT];
-        let number = raw::client_create(case.n, case.id, &mut record);
+        let number = raw::client_create(case.n.into(), case.id, &mut record);
         let mut due = vec![0; raw::CLIENT];
         due[0] = case.n;
         due[1..9].copy_from_slice(&case.id.to_be_bytes());

@@ -1,5 +1,6 @@
-//! Creations: setups inside and outside the sizes, runs of right and wrong lengths, areas for the Recovery frames around what they
-//! need. Judged by document 01 alone: the Rust has no sizes.
+//! Creations: setups inside and outside the sizes, also with numbers whose low bytes alone would be inside, runs of right and wrong
+//! lengths, areas for the Recovery frames around what they need; and creations of clients. Judged by document 01 alone: the Rust
+//! has no sizes.
 
 use crate::counts::Counts;
 use crate::play::{Fault, Found};
@@ -8,8 +9,26 @@ use whitherhaul::raw::{self, Memory};
 use whitherhaul::Setup;
 use wire::random::Random;
 
+/// Numbers that are outside the sizes, whatever they are of, and inside if they were cut to one byte or to two.
+const WIDE: [u32; 8] = [
+    1 << 16,
+    (1 << 16) + 3,
+    (1 << 16) + 4,
+    (1 << 24) + 5,
+    (1 << 31) + (1 << 16) + 6,
+    u32::MAX - 0xffff,
+    u32::MAX - 0xfffb,
+    u32::MAX,
+];
+
 /// Plays some.
 pub fn play(random: &mut Random, counts: &mut Counts) -> Result<(), Fault> {
+    let number = client(random).map_err(|text| Fault {
+        text,
+        found: Found::Creation,
+    })?;
+    counts.creations += 1;
+    counts.numbers[1] += u64::from(number);
     for _ in 0..20 {
         let asked = Asked::any(random);
         let number = asked.tried().map_err(|text| Fault {
@@ -24,6 +43,32 @@ pub fn play(random: &mut Random, counts: &mut Counts) -> Result<(), Fault> {
     Ok(())
 }
 
+/// Tries the creation of a client; the number.
+fn client(random: &mut Random) -> Result<u8, String> {
+    let n = match random.below(3) {
+        0 => random.pick(&WIDE),
+        1 => random.pick(&[0, 1, 2, 8, 255, 256, 259]),
+        _ => random.pick(&[3, 4, 5, 6, 7]),
+    };
+    let id = random.number();
+    let longer = random.pick(&[-54, -1, 0, 0, 0, 1]);
+    let mut record = vec![0x5a; (raw::CLIENT as i32 + longer) as usize];
+    let mut due = record.clone();
+    let number = u8::from(!(3..=7).contains(&n) || longer != 0);
+    if number == 0 {
+        due.fill(0);
+        due[0] = n as u8;
+        due[1..9].copy_from_slice(&id.to_be_bytes());
+    }
+    let given = raw::client_create(n, id, &mut record);
+    if given != number || record != due {
+        return Err(format!(
+            "a client of {n} replicas, {longer} bytes longer, gives {given} and {record:?}"
+        ));
+    }
+    Ok(number)
+}
+
 /// A creation; with view and nonce, and how many bytes the area is longer than what is needed, if it is a recovery.
 #[derive(Debug)]
 struct Asked {
@@ -34,8 +79,13 @@ struct Asked {
 
 impl Asked {
     fn any(random: &mut Random) -> Asked {
-        let replicas = random.pick(&[3, 3, 4, 5, 6, 7, 7, 0, 1, 2, 8, 255]);
-        let many = [1, 1, 2, 2, 8, 8, 8, 8, 0, 4097, u32::MAX];
+        let wide = |random: &mut Random, number| match random.below(16) {
+            0 => random.pick(&WIDE),
+            _ => number,
+        };
+        let replicas = random.pick(&[3, 3, 4, 5, 6, 7, 7, 0, 1, 2, 8, 255, 256, 259]);
+        let replicas = wide(random, replicas);
+        let many = [1, 1, 2, 2, 8, 8, 8, 8, 0, 4097, (1 << 16) + 8, u32::MAX];
         let mut room = random.pick(&many);
         let mut members = random.pick(&many);
         if random.chance(3) {
@@ -43,14 +93,16 @@ impl Asked {
         }
         let id = match random.below(10) {
             0 => replicas,
-            1 => random.number() as u8,
-            _ => random.below(usize::from(replicas).max(1)) as u8,
+            1 => random.number() as u8 as u32,
+            2 => 256 + random.below(7) as u32,
+            _ => random.below(replicas.clamp(1, 7) as usize) as u32,
         };
+        let timeout = random.pick(&[1, 2, 3, 3, 3, 3, 0, 256, 65_535, 65_536]);
         Asked {
             setup: Setup {
                 replicas,
-                id,
-                timeout: random.pick(&[1, 2, 3, 3, 3, 0, 256, 65_535]),
+                id: wide(random, id),
+                timeout: wide(random, timeout),
                 room,
                 members,
             },
@@ -80,7 +132,7 @@ impl Asked {
         } = self.setup;
         (3..=7).contains(&replicas)
             && id < replicas
-            && timeout >= 1
+            && (1..=65_535).contains(&timeout)
             && (1..=4096).contains(&room)
             && (1..=4096).contains(&members)
             && self.wrong.is_none()
@@ -97,7 +149,7 @@ impl Asked {
             make_wrong(&mut memory, wrong);
         }
         let mut due = memory.clone();
-        let needed = 20 * (usize::from(self.setup.replicas).max(1) - 1);
+        let needed = 20 * (self.setup.replicas.clamp(1, 256) as usize - 1);
         let length = self.back.map_or(0, |back| (needed as i64 + back.2).max(0)) as usize;
         let number = match self.is_inside() {
             false => 1,
@@ -139,8 +191,9 @@ impl Asked {
             None => (0, 0, 0),
             Some((view, nonce, _)) => (view, nonce, 3),
         };
-        let mut state = vec![setup.replicas, setup.id];
-        state.extend(setup.timeout.to_be_bytes());
+        let (replicas, own) = (setup.replicas as u8, setup.id as u8);
+        let mut state = vec![replicas, own];
+        state.extend((setup.timeout as u16).to_be_bytes());
         state.extend(setup.room.to_be_bytes());
         state.extend(setup.members.to_be_bytes());
         state.push(status);
@@ -153,9 +206,9 @@ impl Asked {
         state.extend([0; 98]);
         memory.state = state;
         if self.back.is_some() {
-            let others = (0..setup.replicas).filter(|id| *id != setup.id);
+            let others = (0..replicas).filter(|id| *id != own);
             for (id, frame) in others.zip(out.chunks_exact_mut(20)) {
-                frame[..8].copy_from_slice(&[0, 0, 0, 16, 1, 10, id, setup.id]);
+                frame[..8].copy_from_slice(&[0, 0, 0, 16, 1, 10, id, own]);
                 frame[8..16].copy_from_slice(&nonce.to_be_bytes());
                 frame[16..].copy_from_slice(&view.to_be_bytes());
             }

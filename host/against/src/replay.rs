@@ -50,7 +50,7 @@ struct Replica {
     facts: Facts,
 }
 
-/// The answer of the call that was given last; none of one that was left out.
+/// The answer of the call that was given last.
 #[derive(Default)]
 struct Answer {
     code: u8,
@@ -65,7 +65,6 @@ struct Replay {
     states: usize,
     stored: usize,
     refused: BTreeMap<u8, usize>,
-    left_out: BTreeMap<&'static str, usize>,
 }
 
 impl Default for Replay {
@@ -77,20 +76,14 @@ impl Default for Replay {
             states: 0,
             stored: 0,
             refused: BTreeMap::new(),
-            left_out: BTreeMap::new(),
         }
     }
 }
 
-/// A decimal number of some type; none where it doesn't fit.
-fn fits<T: TryFrom<u64>>(word: &str) -> Result<Option<T>, String> {
-    let number: u64 = word.parse().map_err(|_| format!("no number: {word}"))?;
-    Ok(T::try_from(number).ok())
-}
-
-/// The same where it has to fit.
+/// A decimal number of some type.
 fn number_of<T: TryFrom<u64>>(word: &str) -> Result<T, String> {
-    fits(word)?.ok_or(format!("out of range: {word}"))
+    let number: u64 = word.parse().map_err(|_| format!("no number: {word}"))?;
+    T::try_from(number).map_err(|_| format!("no argument of the C call: {word}"))
 }
 
 fn bytes_of(word: &str) -> Result<Vec<u8>, String> {
@@ -102,24 +95,15 @@ fn bytes_of(word: &str) -> Result<Vec<u8>, String> {
     bytes.map_err(|_| String::from("no hex"))
 }
 
-/// The setup of five words; none where a number doesn't fit the C call.
-fn setup_of(words: &[&str]) -> Result<Option<whitherhaul::Setup>, String> {
-    let (Some(replicas), Some(id), Some(timeout), Some(room), Some(members)) = (
-        fits(words[0])?,
-        fits(words[1])?,
-        fits(words[2])?,
-        fits(words[3])?,
-        fits(words[4])?,
-    ) else {
-        return Ok(None);
-    };
-    Ok(Some(whitherhaul::Setup {
-        replicas,
-        id,
-        timeout,
-        room,
-        members,
-    }))
+/// The setup of five words.
+fn setup_of(words: &[&str]) -> Result<whitherhaul::Setup, String> {
+    Ok(whitherhaul::Setup {
+        replicas: number_of(words[0])?,
+        id: number_of(words[1])?,
+        timeout: number_of(words[2])?,
+        room: number_of(words[3])?,
+        members: number_of(words[4])?,
+    })
 }
 
 impl Replay {
@@ -157,10 +141,7 @@ impl Replay {
         area: usize,
     ) -> Result<(), String> {
         self.running = Running::Nothing;
-        let Some(setup) = setup_of(words)? else {
-            return self
-                .leave_out("creations with a number that doesn't fit the C call's argument");
-        };
+        let setup = setup_of(words)?;
         let mut memory = Memory::of(&setup);
         let before = memory.clone();
         let mut out = vec![0xa5; area.min(setup.longest_messages() + SLACK)];
@@ -208,12 +189,8 @@ impl Replay {
     /// A client, with the view and the next number that the line says.
     fn client(&mut self, words: &[&str]) -> Result<(), String> {
         self.running = Running::Nothing;
-        let Some(n) = fits(words[0])? else {
-            return self
-                .leave_out("creations with a number that doesn't fit the C call's argument");
-        };
         let mut record = vec![0; raw::CLIENT];
-        let code = raw::client_create(n, number_of(words[1])?, &mut record);
+        let code = raw::client_create(number_of(words[0])?, number_of(words[1])?, &mut record);
         if code == 0 {
             record[9..13].copy_from_slice(&number_of::<u32>(words[2])?.to_be_bytes());
             record[13..21].copy_from_slice(&number_of::<u64>(words[3])?.to_be_bytes());
@@ -224,9 +201,7 @@ impl Replay {
     }
 
     fn request(&mut self, words: &[&str]) -> Result<(), String> {
-        let (Some(operation), Some(member)) = (fits(words[0])?, fits(words[1])?) else {
-            return self.leave_out("requests with a number that doesn't fit the C call's argument");
-        };
+        let (operation, member) = (number_of(words[0])?, number_of(words[1])?);
         let mut area = vec![0xa5; number_of::<usize>(words[3])?.min(300)];
         let record = self.client_record()?;
         let before = record.clone();
@@ -284,25 +259,13 @@ impl Replay {
         });
     }
 
-    fn leave_out(&mut self, reason: &'static str) -> Result<(), String> {
-        *self.left_out.entry(reason).or_default() += 1;
-        self.answer = None;
-        Ok(())
-    }
-
     /// The answer's line.
     fn compare(&mut self, words: &[&str]) -> Result<(), String> {
-        let Some(answer) = self.answer.take() else {
-            return match words[1] {
-                "0" => Err(String::from("a call was left out that is done")),
-                _ => Ok(()),
-            };
-        };
         let Answer {
             code,
             messages,
             replies,
-        } = answer;
+        } = self.answer.take().ok_or("the answer of no call")?;
         let given = format!("= {code} {} {}", hex(&messages), hex(&replies));
         let due = words.join(" ");
         if given != due {
@@ -368,20 +331,15 @@ impl Replay {
 
     fn told(&self, file: &str) -> String {
         let calls: usize = self.compared.values().sum();
-        let by = |counts: &BTreeMap<&str, usize>| {
-            let words = counts.iter().map(|(name, count)| format!("{name} {count}"));
-            words.collect::<Vec<_>>().join(", ")
-        };
+        let words = self.compared.iter();
+        let words = words.map(|(name, count)| format!("{name} {count}"));
+        let words = words.collect::<Vec<_>>().join(", ");
         let refused = self.refused.iter();
         let refused = refused.map(|(number, count)| format!("{number}: {count}"));
         let refused = refused.collect::<Vec<_>>().join(", ");
-        let left_out = match self.left_out.is_empty() {
-            true => String::from("nothing"),
-            false => by(&self.left_out),
-        };
         format!(
-            "{file}: {calls} answers compared ({}), {} states, {} of them with nonce and stored reports\nrefused by number: {refused}\nleft out: {left_out}\n",
-            by(&self.compared),
+            "{file}: {calls} answers compared ({}), {} states, {} of them with nonce and stored reports\nrefused by number: {refused}\n",
+            words,
             self.states,
             self.stored
         )
@@ -402,9 +360,9 @@ fn kept(code: u8, memory: &Memory, before: &Memory, past: &[u8]) -> Result<(), S
 impl Replica {
     fn new(setup: whitherhaul::Setup, memory: Memory, view: u32) -> Replica {
         let sizes = Setup {
-            n: setup.replicas.into(),
-            id: setup.id.into(),
-            timeout: setup.timeout.into(),
+            n: setup.replicas as usize,
+            id: setup.id as usize,
+            timeout: setup.timeout as usize,
             room: setup.room as usize,
             members: setup.members as usize,
         };

@@ -14,7 +14,7 @@ pub const MEMBERS: u32 = 4_096;
 fn setup(id: u8) -> Setup {
     Setup {
         replicas: 3,
-        id,
+        id: id.into(),
         timeout: 3,
         room: ROOM,
         members: MEMBERS,

@@ -249,7 +249,7 @@ fn crashes(requests: u64, random: &mut Random) -> Vec<u64> {
 fn desk<L: Library>(place: u64, desks: u64, list: &List) -> Desk<L> {
     let own = |line: &usize| u64::from(list.charges[*line].member) % desks == place;
     Desk {
-        side: L::desk(REPLICAS, place + 1),
+        side: L::desk(REPLICAS.into(), place + 1),
         charges: (0..list.charges.len()).filter(own).collect(),
         done: 0,
         waits: None,

@@ -48,7 +48,7 @@ pub trait Library {
     fn applied(replica: &Self::Replica) -> Vec<Entry>;
     fn total(replica: &Self::Replica, member: u32) -> u64;
 
-    fn desk(replicas: u8, id: u64) -> Self::Desk;
+    fn desk(replicas: u32, id: u64) -> Self::Desk;
     /// Sends a charge: its number, and the message with its addressee.
     fn request(desk: &mut Self::Desk, charge: &Charge) -> (u64, (u8, Self::Message));
     /// Whether the reply answers the charge that waits.

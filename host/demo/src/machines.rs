@@ -6,7 +6,7 @@ use crate::library::{Answer, Library, Standing};
 use whitherhaul::Setup;
 
 /// Idle periods without the leader before a backup asks for the next view.
-const TIMEOUT: u16 = 5;
+const TIMEOUT: u32 = 5;
 
 /// A machine: its replica, or the step at which it is back; and the view, which survives a crash.
 pub struct Machine<L: Library> {
@@ -19,8 +19,8 @@ impl<L: Library> Machine<L> {
     /// A machine's first start. Its log has room for the whole list.
     pub fn new(id: u8, list: &List) -> Machine<L> {
         let setup = Setup {
-            replicas: REPLICAS,
-            id,
+            replicas: REPLICAS.into(),
+            id: id.into(),
             timeout: TIMEOUT,
             room: list.charges.len() as u32,
             members: list.members,

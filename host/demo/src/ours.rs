@@ -72,7 +72,7 @@ impl Library for Whitherhaul {
         replica.total(member)
     }
 
-    fn desk(replicas: u8, id: u64) -> Client {
+    fn desk(replicas: u32, id: u64) -> Client {
         Client::new(replicas, id).expect("a number of replicas inside the sizes")
     }
 

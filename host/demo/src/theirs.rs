@@ -17,9 +17,9 @@ pub struct Desk {
 
 type Letters = Vec<(u8, Fees)>;
 
-fn config(replicas: u8, timeout: u16) -> Config {
-    let mut config = wire::config(usize::from(replicas));
-    config.set_primary_timeout(usize::from(timeout));
+fn config(replicas: u32, timeout: u32) -> Config {
+    let mut config = wire::config(replicas as usize);
+    config.set_primary_timeout(timeout as usize);
     config
 }
 
@@ -53,14 +53,13 @@ impl Library for VsrRs {
     fn replica(setup: &Setup) -> Replica<Ledger> {
         let config = config(setup.replicas, setup.timeout);
         let ledger = Ledger::new(setup.members as usize);
-        Replica::new(usize::from(setup.id), config, ledger)
+        Replica::new(setup.id as usize, config, ledger)
     }
 
     fn recovered(setup: &Setup, view: u32, nonce: u64) -> (Replica<Ledger>, Letters) {
         let config = config(setup.replicas, setup.timeout);
         let ledger = Ledger::new(setup.members as usize);
-        let mut replica =
-            Replica::recover(usize::from(setup.id), config, ledger, view as usize, nonce);
+        let mut replica = Replica::recover(setup.id as usize, config, ledger, view as usize, nonce);
         let asked = letters(replica.drain_messages());
         (replica, asked)
     }
@@ -99,7 +98,7 @@ impl Library for VsrRs {
         replica.state_machine().totals[member as usize]
     }
 
-    fn desk(replicas: u8, id: u64) -> Desk {
+    fn desk(replicas: u32, id: u64) -> Desk {
         Desk {
             client: Client::new(id as usize, config(replicas, 1)),
             next: 0,

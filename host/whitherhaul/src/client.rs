@@ -16,7 +16,7 @@ pub struct Client {
 
 impl Client {
     /// A new client of so many replicas. Refusal 1 where they aren't 3 to 7.
-    pub fn new(replicas: u8, id: u64) -> Result<Client, Refusal> {
+    pub fn new(replicas: u32, id: u64) -> Result<Client, Refusal> {
         let mut record = [0; raw::CLIENT];
         Refusal::check(raw::client_create(replicas, id, &mut record))?;
         Ok(Client {

@@ -33,7 +33,7 @@ impl Memory {
     pub fn of(setup: &Setup) -> Memory {
         let room = setup.room.clamp(1, 4096) as usize;
         let members = setup.members.clamp(1, 4096) as usize;
-        let replicas = usize::from(setup.replicas.clamp(3, 7));
+        let replicas = setup.replicas.clamp(3, 7) as usize;
         Memory {
             state: vec![0; state::LENGTH],
             log: vec![0; 32 * room],
@@ -134,9 +134,9 @@ impl Counts {
 
 extern "C" {
     fn whitherhaul_create(
-        n: u8,
-        id: u8,
-        timeout: u16,
+        n: u32,
+        id: u32,
+        timeout: u32,
         room: u32,
         members: u32,
         state: *mut u8,
@@ -157,9 +157,9 @@ extern "C" {
         old_length: usize,
     ) -> u8;
     fn whitherhaul_recover(
-        n: u8,
-        id: u8,
-        timeout: u16,
+        n: u32,
+        id: u32,
+        timeout: u32,
         room: u32,
         members: u32,
         view: u32,
@@ -232,7 +232,7 @@ extern "C" {
         reps_length: usize,
         counts: *mut [u64; 2],
     ) -> u8;
-    fn whitherhaul_client_create(n: u8, id: u64, record: *mut u8, record_length: usize) -> u8;
+    fn whitherhaul_client_create(n: u32, id: u64, record: *mut u8, record_length: usize) -> u8;
     fn whitherhaul_client_request(
         record: *mut u8,
         record_length: usize,
@@ -410,7 +410,7 @@ pub fn on_idle(memory: &mut Memory, out: &mut [u8], reps: &mut [u8]) -> (u8, Cou
 }
 
 /// A client's record for the first time. 0 or 1.
-pub fn client_create(replicas: u8, id: u64, record: &mut [u8]) -> u8 {
+pub fn client_create(replicas: u32, id: u64, record: &mut [u8]) -> u8 {
     // Safety: the pointer comes with the length of its slice.
     unsafe { whitherhaul_client_create(replicas, id, record.as_mut_ptr(), record.len()) }
 }

@@ -4,15 +4,15 @@ use crate::frames::{u32_at, u64_at, Entry, Outcome, Sent};
 use crate::raw::{self, state, Counts, Memory};
 use crate::Refusal;
 
-/// What a replica is made with. All replicas of a ledger have the same but for `id`.
+/// What a replica is made with. All replicas of a ledger have the same but for `id`. Any other number is refusal 1.
 #[derive(Clone, Copy, Debug, PartialEq, Eq, Hash)]
 pub struct Setup {
     /// How many replicas there are, n: 3 to 7.
-    pub replicas: u8,
+    pub replicas: u32,
     /// Which of them this is: 0 to n-1.
-    pub id: u8,
+    pub id: u32,
     /// How many ticks it waits for the primary, T: 1 to 65,535; 3 is a good number.
-    pub timeout: u16,
+    pub timeout: u32,
     /// How many entries the log can hold, L: 1 to 4,096.
     pub room: u32,
     /// How many members have a total, M: 1 to 4,096.
@@ -23,7 +23,7 @@ impl Setup {
     /// The longest that the messages of one call can be: those of the primary's tick, a Commit and up to L Prepares to each other
     /// replica. No other call sends more.
     pub fn longest_messages(&self) -> usize {
-        let others = usize::from(self.replicas.clamp(3, 7)) - 1;
+        let others = self.replicas.clamp(3, 7) as usize - 1;
         others * (15 + 51 * self.room.min(4096) as usize)
     }
 
@@ -170,8 +170,8 @@ impl Replica {
     }
 
     /// Which replica leads the view.
-    pub fn primary(&self) -> u8 {
-        (self.view() % u32::from(self.setup.replicas)) as u8
+    pub fn primary(&self) -> u32 {
+        self.view() % self.setup.replicas
     }
 
     /// Whether it leads the view.

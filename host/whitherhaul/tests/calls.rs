@@ -161,9 +161,22 @@ fn setups_outside_the_sizes() {
             replicas: 8,
             ..SETUP
         },
+        Setup {
+            replicas: 259,
+            ..SETUP
+        },
+        Setup {
+            replicas: u32::MAX,
+            ..SETUP
+        },
         Setup { id: 3, ..SETUP },
+        Setup { id: 256, ..SETUP },
         Setup {
             timeout: 0,
+            ..SETUP
+        },
+        Setup {
+            timeout: 65_539,
             ..SETUP
         },
         Setup { room: 0, ..SETUP },
@@ -229,7 +242,9 @@ fn a_client_and_its_numbers() {
         Client::from_record(record).unwrap_err(),
         Refusal::OutsideSizes
     );
-    assert_eq!(Client::new(2, 9).unwrap_err(), Refusal::OutsideSizes);
+    for replicas in [2, 8, 259, 65_539] {
+        assert_eq!(Client::new(replicas, 9).unwrap_err(), Refusal::OutsideSizes);
+    }
 }
 
 #[test]
