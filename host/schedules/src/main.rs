@@ -10,8 +10,8 @@
 //!
 //! Each round plays one cluster of 3, 4, 5 and 7 replicas, and adversaries on single replicas of them. With MOST only that
 //! many of their calls are kept, chosen so that as many different things as possible happen. The runs by hand come last.
-//! `client` plays the Rust's client instead, a run of CALLS calls for each number of replicas. `examples` writes the directed
-//! examples: what their calls have to give is written beside them.
+//! `client` plays the Rust's client instead, a run of CALLS calls for each number of replicas, and directed examples. `examples`
+//! writes the directed examples of replicas. What the calls of directed examples have to give is written beside them.
 
 use schedules::run::{Mark, Run};
 use schedules::{adversary, choose, client, cluster, directed, examples};
@@ -105,17 +105,25 @@ fn replicas(seed: u64, rounds: usize, most: usize) {
     }
 }
 
+/// Prints a trace, or what of its examples isn't as it was to be.
+fn told(trace: Result<String, String>) -> ExitCode {
+    match trace {
+        Ok(trace) => {
+            print!("{trace}");
+            ExitCode::SUCCESS
+        }
+        Err(faults) => {
+            eprintln!("{faults}");
+            ExitCode::FAILURE
+        }
+    }
+}
+
 fn main() -> ExitCode {
     match asked() {
         Some(Asked::Replicas(seed, rounds, most)) => replicas(seed, rounds, most),
-        Some(Asked::Client(seed, calls)) => print!("{}", client::trace(seed, calls)),
-        Some(Asked::Examples) => match examples::trace() {
-            Ok(trace) => print!("{trace}"),
-            Err(faults) => {
-                eprintln!("{faults}");
-                return ExitCode::FAILURE;
-            }
-        },
+        Some(Asked::Client(seed, calls)) => return told(client::trace(seed, calls)),
+        Some(Asked::Examples) => return told(examples::trace()),
         None => {
             eprintln!("usage: schedules SEED ROUNDS [MOST] | client SEED CALLS | examples");
             return ExitCode::from(2);

@@ -76,6 +76,10 @@ fn commits() -> Vec<Example> {
             .frame(commit(0, LAST_VIEW), asks(1, 1)),
         holding("A Commit past our log, by one: what we have isn't committed either", &[A])
             .frame(commit(0, 2), asks(1, 0)),
+        holding("A Prepare past our log commits nothing either, though its commit number is within our log; NewState does", &[A])
+            .frame(prepare(0, 3, 1, C), asks(1, 0))
+            .tick(asks(1, 0))
+            .frame(new_state(0, 1, &[B, C], 1), acked(3, 1).log(&[A, B, C])),
         holding("A Commit of a lower number takes nothing back; one of our op number commits all, without a reply", &[A, B])
             .frame(commit(0, 1), normal(0, 2, 1))
             .frame(commit(0, 0), normal(0, 2, 1))
@@ -120,6 +124,12 @@ fn transfers() -> Vec<Example> {
         gap("A used NewState commits up to its commit number, and commits without replies; the next Prepare goes on from there")
             .frame(new_state(0, 1, &[B, C], 3), acked(3, 3))
             .frame(prepare(0, 4, 3, F), acked(4, 3)),
+        fresh(5, 3, "Within a view only its primary is asked for state: of five in view 1 replica 1, and on each tick again")
+            .frame(start_view(1, &[A], 0), normal(1, 1, 0).sends(&[1], prepare_ok(1, 1, 3)))
+            .frame(prepare(1, 3, 0, C), transfer(1, 1, 0).sends(&[1], get_state(3, 1, 1)))
+            .tick(transfer(1, 1, 0).sends(&[1], get_state(3, 1, 1)))
+            .tick(transfer(1, 1, 0).sends(&[1], get_state(3, 1, 1)))
+            .frame(new_state(1, 1, &[B, C], 0), normal(1, 3, 0).sends(&[1], prepare_ok(1, 3, 3))),
         fresh(3, 1, "State transfer of a fresh backup: L = 8 entries fit")
             .frame(commit(0, 8), asks(0, 0))
             .frame(new_state(0, 0, &eight(), 8), acked(8, 8).log(&eight())),
