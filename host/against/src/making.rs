@@ -9,7 +9,7 @@ use whitherhaul::raw::{self, Memory};
 use whitherhaul::Setup;
 use wire::random::Random;
 
-/// Numbers that are outside the sizes, whatever they are of, and inside if they were cut to one byte or to two.
+/// Numbers outside the sizes, most of which would be inside if they were cut to one byte or to two.
 const WIDE: [u32; 8] = [
     1 << 16,
     (1 << 16) + 3,
@@ -69,6 +69,36 @@ fn client(random: &mut Random) -> Result<u8, String> {
     Ok(number)
 }
 
+/// A setup, in some of its numbers outside the sizes or not.
+fn any_setup(random: &mut Random) -> Setup {
+    let wide = |random: &mut Random, number| match random.below(16) {
+        0 => random.pick(&WIDE),
+        _ => number,
+    };
+    let replicas = random.pick(&[3, 3, 4, 5, 6, 7, 7, 0, 1, 2, 8, 255, 256, 259]);
+    let replicas = wide(random, replicas);
+    let many = [1, 1, 2, 2, 8, 8, 8, 8, 0, 4097, (1 << 16) + 8, u32::MAX];
+    let mut room = random.pick(&many);
+    let mut members = random.pick(&many);
+    if random.chance(3) {
+        (room, members) = (4096, 4096);
+    }
+    let id = match random.below(10) {
+        0 => replicas,
+        1 => random.number() as u8 as u32,
+        2 => 256 + random.below(7) as u32,
+        _ => random.below(replicas.clamp(1, 7) as usize) as u32,
+    };
+    let timeout = random.pick(&[1, 2, 3, 3, 3, 3, 0, 256, 65_535, 65_536]);
+    Setup {
+        replicas,
+        id: wide(random, id),
+        timeout: wide(random, timeout),
+        room,
+        members,
+    }
+}
+
 /// A creation; with view and nonce, and how many bytes the area is longer than what is needed, if it is a recovery.
 #[derive(Debug)]
 struct Asked {
@@ -79,33 +109,8 @@ struct Asked {
 
 impl Asked {
     fn any(random: &mut Random) -> Asked {
-        let wide = |random: &mut Random, number| match random.below(16) {
-            0 => random.pick(&WIDE),
-            _ => number,
-        };
-        let replicas = random.pick(&[3, 3, 4, 5, 6, 7, 7, 0, 1, 2, 8, 255, 256, 259]);
-        let replicas = wide(random, replicas);
-        let many = [1, 1, 2, 2, 8, 8, 8, 8, 0, 4097, (1 << 16) + 8, u32::MAX];
-        let mut room = random.pick(&many);
-        let mut members = random.pick(&many);
-        if random.chance(3) {
-            (room, members) = (4096, 4096);
-        }
-        let id = match random.below(10) {
-            0 => replicas,
-            1 => random.number() as u8 as u32,
-            2 => 256 + random.below(7) as u32,
-            _ => random.below(replicas.clamp(1, 7) as usize) as u32,
-        };
-        let timeout = random.pick(&[1, 2, 3, 3, 3, 3, 0, 256, 65_535, 65_536]);
         Asked {
-            setup: Setup {
-                replicas,
-                id: wide(random, id),
-                timeout: wide(random, timeout),
-                room,
-                members,
-            },
+            setup: any_setup(random),
             back: random.chance(50).then(|| {
                 let view = random.pick(&[0, 1, 7, u32::MAX]);
                 (view, random.number(), random.pick(&[-1000, -1, 0, 0, 1]))
@@ -165,11 +170,7 @@ impl Asked {
             None => (raw::create(&self.setup, &mut memory), 0),
             Some((view, nonce, _)) => raw::recover(&self.setup, view, nonce, &mut memory, &mut out),
         };
-        let bytes = if number == 0 && self.back.is_some() {
-            needed
-        } else {
-            0
-        };
+        let bytes = needed * usize::from(number == 0 && self.back.is_some());
         if usize::from(given) != number || count != bytes {
             return Err(format!(
                 "gives {given} and {count} bytes, {number} and {bytes} are due"

@@ -4,6 +4,8 @@
 //! The Rust knows no refusals, and none of these calls is one: every operation keeps the entry rules, and areas are just as long
 //! as what the Rust sent.
 
+mod examples;
+
 use crate::adversary::cents;
 use crate::inside::{client_inside, ClientInside};
 use crate::run::hex;
@@ -138,162 +140,46 @@ impl Run {
     }
 }
 
-/// Document 01's fee of client 7, and a question.
-const CHARGE: Charge = Charge {
-    operation: FEE,
-    member: 3,
-    cents: 4_500,
-};
-const QUESTION: Charge = Charge {
-    operation: ASK,
-    member: 3,
-    cents: 0,
-};
-
-/// A run of client 7 of three replicas with a title that says what it shows, and what of it isn't as it was to be.
-struct Example {
-    title: &'static str,
-    run: Run,
-    calls: usize,
-    faults: Vec<String>,
+/// Plays a client of so many replicas, with so many calls, and at its end the last view and the greatest number.
+fn played(random: &mut Random, n: usize, calls: usize) -> Run {
+    let mut run = Run::new(n, random.pick(&[0, 7, 1 << 40, u64::MAX]));
+    for _ in 0..calls {
+        run.step(random);
+    }
+    run.request(FEE, 3, 4_500);
+    run.reply(u64::MAX, u32::MAX as usize);
+    run.request(ASK, 3, 0);
+    run.idle();
+    run
 }
 
-impl Example {
-    fn new(title: &'static str) -> Example {
-        Example {
-            title,
-            run: Run::new(3, 7),
-            calls: 0,
-            faults: Vec::new(),
-        }
-    }
-
-    /// The next request, which is to have this number; its frame is for this replica.
-    fn request(mut self, charge: Charge, number: u64, primary: usize) -> Example {
-        self.run
-            .request(charge.operation, charge.member, charge.cents);
-        let state = (number + 1, Some(number));
-        self.gives(0, &requests(&[primary], number, charge), state)
-    }
-
-    /// A reply of this number and view, which answers the one that waits or doesn't; what waits after it.
-    fn reply(mut self, number: u64, view: usize, answers: bool, pending: Option<u64>) -> Example {
-        let next = self.run.inside().next;
-        self.run.reply(number, view);
-        self.gives(answers.into(), &[], (next, pending))
-    }
-
-    /// An idle call that sends this request to all three.
-    fn again(mut self, number: u64, charge: Charge) -> Example {
-        let next = self.run.inside().next;
-        self.run.idle();
-        let bytes = requests(&[0, 1, 2], number, charge);
-        self.gives(0, &bytes, (next, Some(number)))
-    }
-
-    /// An idle call that sends nothing.
-    fn silent(mut self) -> Example {
-        let next = self.run.inside().next;
-        self.run.idle();
-        self.gives(0, &[], (next, None))
-    }
-
-    /// What the last call has to give: code, bytes, and the next and the pending number after it.
-    fn gives(mut self, code: usize, bytes: &[u8], state: (u64, Option<u64>)) -> Example {
-        self.calls += 1;
-        let i = self.run.inside();
-        let answer = format!("= {code} {} -", hex(bytes));
-        let given = self.run.lines.lines().rev().nth(1).unwrap_or_default();
-        if given != answer || (i.next, i.pending) != state {
-            let (title, call) = (self.title, self.calls);
-            let fault = format!(
-                "{title}: call {call}: {given}, next {}, pending {:?}; wanted {answer}, {state:?}",
-                i.next, i.pending
-            );
-            self.faults.push(fault);
-        }
-        self
-    }
-}
-
-/// The frames of a request of client 7 for these replicas.
-fn requests(to: &[usize], request_number: u64, op: Charge) -> Vec<u8> {
-    let mut bytes = Vec::new();
-    for id in to {
-        let message = Message::Request {
-            client_id: 7,
-            request_number: request_number as usize,
-            op,
-        };
-        write_frame(&mut bytes, *id, &message);
-    }
-    bytes
-}
-
-/// The directed examples.
-fn directed() -> [Example; 2] {
-    [
-        Example::new("A new request replaces one that waits: the older one's reply answers nothing, and only the newer one is sent again")
-            .request(CHARGE, 0, 0)
-            .request(QUESTION, 1, 0)
-            .reply(0, 0, false, Some(1))
-            .again(1, QUESTION)
-            .reply(1, 0, true, None)
-            .silent(),
-        Example::new("A reply that answers nothing raises the view all the same: the next request goes to that view's primary")
-            .reply(9, 4, false, None)
-            .request(CHARGE, 0, 1)
-            .reply(5, 2, false, Some(0))
-            .again(0, CHARGE)
-            .reply(0, 3, true, None),
-    ]
-}
-
-/// Plays a client of each size, with so many calls each, and at its end the last view and the greatest number, then the directed
-/// examples; all as a trace, or what of the examples isn't as it was to be.
+/// Plays a client of each size, with so many calls each, then the directed examples; all as a trace, or what of the examples isn't
+/// as it was to be.
 pub fn trace(seed: u64, calls: usize) -> Result<String, String> {
     let mut random = Random::new(seed);
     let mut lines = String::new();
     let mut kinds = BTreeMap::new();
-    let mut count = 0;
     for n in SIZES {
-        let mut run = Run::new(n, random.pick(&[0, 7, 1 << 40, u64::MAX]));
-        for _ in 0..calls {
-            run.step(&mut random);
-        }
-        run.request(FEE, 3, 4_500);
-        run.reply(u64::MAX, u32::MAX as usize);
-        run.request(ASK, 3, 0);
-        run.idle();
-        count += calls + 4;
+        let run = played(&mut random, n, calls);
         lines += &run.lines;
         for (kind, times) in run.kinds {
             *kinds.entry(kind).or_insert(0) += times;
         }
     }
-    let examples = directed();
-    let faults: Vec<&str> = examples
-        .iter()
-        .flat_map(|e| &e.faults)
-        .map(|f| &**f)
-        .collect();
-    if !faults.is_empty() {
-        return Err(faults.join("\n"));
-    }
-    for example in &examples {
-        count += example.calls;
-        lines += &format!("# {}\n{}", example.title, example.run.lines);
-    }
+    let examples = examples::all()?;
+    let (runs, count) = (
+        examples.runs + SIZES.len(),
+        examples.calls + SIZES.len() * (calls + 4),
+    );
     let rust = crate::answered_by();
     let mut text =
         format!("# Answers of {rust}'s client, written by host/schedules: seed {seed}.\n");
-    let runs = SIZES.len() + examples.len();
     text += &format!(
-        "# {runs} runs, {count} calls; the last {} are directed examples. Of the others:\n",
-        examples.len()
+        "# {runs} runs, {count} calls; the last {} runs are directed examples. Of the others:\n",
+        examples.runs
     );
     for (kind, times) in kinds {
         text += &format!("# {kind}: {times}\n");
     }
-    Ok(text + "\n" + &lines)
+    Ok(text + "\n" + &lines + &examples.text)
 }

@@ -152,44 +152,19 @@ fn refusals_have_numbers_and_words() {
 
 #[test]
 fn setups_outside_the_sizes() {
+    let of = |replicas| Setup { replicas, ..SETUP };
+    let named = |id| Setup { id, ..SETUP };
+    let waiting = |timeout| Setup { timeout, ..SETUP };
+    let with_room = |room| Setup { room, ..SETUP };
+    let with_members = |members| Setup { members, ..SETUP };
     let outside = [
-        Setup {
-            replicas: 2,
-            ..SETUP
-        },
-        Setup {
-            replicas: 8,
-            ..SETUP
-        },
-        Setup {
-            replicas: 259,
-            ..SETUP
-        },
-        Setup {
-            replicas: u32::MAX,
-            ..SETUP
-        },
-        Setup { id: 3, ..SETUP },
-        Setup { id: 256, ..SETUP },
-        Setup {
-            timeout: 0,
-            ..SETUP
-        },
-        Setup {
-            timeout: 65_539,
-            ..SETUP
-        },
-        Setup { room: 0, ..SETUP },
-        Setup {
-            room: u32::MAX,
-            ..SETUP
-        },
-        Setup {
-            members: 4097,
-            ..SETUP
-        },
+        [2, 8, 259, u32::MAX].map(of),
+        [3, 255, 256, u32::MAX].map(named),
+        [0, 65_536, 65_539, u32::MAX].map(waiting),
+        [0, 4097, 65_544, u32::MAX].map(with_room),
+        [0, 4097, 65_544, u32::MAX].map(with_members),
     ];
-    for setup in outside {
+    for setup in outside.into_iter().flatten() {
         assert_eq!(Replica::new(&setup).unwrap_err(), Refusal::OutsideSizes);
         assert_eq!(
             Replica::recover(&setup, 1, 1).unwrap_err(),

@@ -124,12 +124,6 @@ fn transfers() -> Vec<Example> {
         gap("A used NewState commits up to its commit number, and commits without replies; the next Prepare goes on from there")
             .frame(new_state(0, 1, &[B, C], 3), acked(3, 3))
             .frame(prepare(0, 4, 3, F), acked(4, 3)),
-        fresh(5, 3, "Within a view only its primary is asked for state: of five in view 1 replica 1, and on each tick again")
-            .frame(start_view(1, &[A], 0), normal(1, 1, 0).sends(&[1], prepare_ok(1, 1, 3)))
-            .frame(prepare(1, 3, 0, C), transfer(1, 1, 0).sends(&[1], get_state(3, 1, 1)))
-            .tick(transfer(1, 1, 0).sends(&[1], get_state(3, 1, 1)))
-            .tick(transfer(1, 1, 0).sends(&[1], get_state(3, 1, 1)))
-            .frame(new_state(1, 1, &[B, C], 0), normal(1, 3, 0).sends(&[1], prepare_ok(1, 3, 3))),
         fresh(3, 1, "State transfer of a fresh backup: L = 8 entries fit")
             .frame(commit(0, 8), asks(0, 0))
             .frame(new_state(0, 0, &eight(), 8), acked(8, 8).log(&eight())),
@@ -199,7 +193,7 @@ fn transfer_ticks() -> Vec<Example> {
     ]
 }
 
-/// Who answers a GetState, and with what.
+/// Whom a GetState asks, who answers it, and with what.
 fn get_states() -> Vec<Example> {
     let two = |title| {
         fresh(3, 0, title)
@@ -215,6 +209,12 @@ fn get_states() -> Vec<Example> {
     let says =
         |to: usize, start, log: &[Entry]| normal(0, 2, 0).sends(&[to], new_state(0, start, log, 0));
     vec![
+        fresh(5, 3, "Within a view only its primary is asked for state: of five in view 1 replica 1, and on each tick again")
+            .frame(start_view(1, &[A], 0), normal(1, 1, 0).sends(&[1], prepare_ok(1, 1, 3)))
+            .frame(prepare(1, 3, 0, C), transfer(1, 1, 0).sends(&[1], get_state(3, 1, 1)))
+            .tick(transfer(1, 1, 0).sends(&[1], get_state(3, 1, 1)))
+            .tick(transfer(1, 1, 0).sends(&[1], get_state(3, 1, 1)))
+            .frame(new_state(1, 1, &[B, C], 0), normal(1, 3, 0).sends(&[1], prepare_ok(1, 3, 3))),
         two("GetState is answered with the log after its op number, also with none of it; past our log, or of another view, it isn't answered")
             .frame(get_state(1, 0, 0), says(1, 0, &[A, B]))
             .frame(get_state(2, 0, 1), says(2, 1, &[B]))
