@@ -8,3 +8,4 @@ pub mod DoViewChangeLift
 pub mod RecordStays
 pub mod RecordRuled
 pub mod RefusedRecord
+pub mod RecordSuffices

@@ -6,3 +6,4 @@ pub mod RunBytes
 pub mod BytesStay
 pub mod RefusedStays
 pub mod HandlersLift
+pub mod Suffice

@@ -11,3 +11,4 @@ pub mod PrimaryTickLift
 pub mod NormalStays
 pub mod NormalRuled
 pub mod RefusedNormal
+pub mod NormalSuffices

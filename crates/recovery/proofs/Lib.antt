@@ -6,3 +6,4 @@ pub mod RecoveryLift
 pub mod RecoveryRuled
 pub mod RefusedRecovery
 pub mod RecoveryStays
+pub mod RecoverySuffices

@@ -6,3 +6,5 @@ pub mod AckLift
 pub mod Held
 pub mod Ruled
 pub mod RefusedSteps
+pub mod AreaLaws
+pub mod StepsSuffice

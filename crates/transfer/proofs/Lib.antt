@@ -4,3 +4,4 @@ pub mod TransferLift
 pub mod TransferStays
 pub mod TransferRuled
 pub mod RefusedTransfer
+pub mod TransferSuffices

@@ -4,3 +4,4 @@ pub mod StartViewLift
 pub mod ChangeStays
 pub mod ChangeRuled
 pub mod RefusedChange
+pub mod ChangeSuffices

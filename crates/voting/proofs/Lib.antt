@@ -4,3 +4,4 @@ pub mod VoteLift
 pub mod VoteRuled
 pub mod RefusedVote
 pub mod VoteStays
+pub mod VoteSuffices
