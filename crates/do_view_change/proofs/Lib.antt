@@ -9,3 +9,4 @@ pub mod RecordStays
 pub mod RecordRuled
 pub mod RefusedRecord
 pub mod RecordSuffices
+pub mod RecordReplies

@@ -7,3 +7,4 @@ pub mod BytesStay
 pub mod RefusedStays
 pub mod HandlersLift
 pub mod Suffice
+pub mod ReplyStays

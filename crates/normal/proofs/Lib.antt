@@ -12,3 +12,4 @@ pub mod NormalStays
 pub mod NormalRuled
 pub mod RefusedNormal
 pub mod NormalSuffices
+pub mod NormalReplies

@@ -3,3 +3,4 @@ pub mod Prepare
 pub mod PrepareOk
 pub mod Commit
 pub mod Tick
+pub mod Telling

@@ -7,3 +7,4 @@ pub mod RecoveryRuled
 pub mod RefusedRecovery
 pub mod RecoveryStays
 pub mod RecoverySuffices
+pub mod RecoveryReplies

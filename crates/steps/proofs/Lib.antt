@@ -8,3 +8,5 @@ pub mod Ruled
 pub mod RefusedSteps
 pub mod AreaLaws
 pub mod StepsSuffice
+pub mod ReplyLaws
+pub mod SilentSteps

@@ -5,3 +5,4 @@ pub mod TransferStays
 pub mod TransferRuled
 pub mod RefusedTransfer
 pub mod TransferSuffices
+pub mod TransferReplies

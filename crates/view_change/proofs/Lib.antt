@@ -5,3 +5,4 @@ pub mod ChangeStays
 pub mod ChangeRuled
 pub mod RefusedChange
 pub mod ChangeSuffices
+pub mod ChangeReplies

@@ -5,3 +5,4 @@ pub mod VoteRuled
 pub mod RefusedVote
 pub mod VoteStays
 pub mod VoteSuffices
+pub mod VoteReplies
