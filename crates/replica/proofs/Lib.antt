@@ -9,3 +9,4 @@ mod KnownLaws
 pub mod DemandLaws
 pub mod FoundLift
 pub mod MarkedHold
+pub mod SufficeLaws

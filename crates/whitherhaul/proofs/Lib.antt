@@ -1,2 +1,3 @@
 pub mod ReplicaLaws
 pub mod ClientLaws
+pub mod SufficeLaws
