@@ -10,3 +10,4 @@ pub mod DemandLaws
 pub mod FoundLift
 pub mod MarkedHold
 pub mod SufficeLaws
+pub mod ReplyLaws

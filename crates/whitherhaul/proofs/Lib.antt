@@ -1,3 +1,4 @@
 pub mod ReplicaLaws
 pub mod ClientLaws
 pub mod SufficeLaws
+pub mod ReplyLaws
