@@ -131,7 +131,7 @@ pub fn write_replies(
     requires { ⌜ (from + count ≤ 4096) × ((36 * count ≤ length (now area)) × ((9 * (from + count) ≤ length (now results)) × (entryPlace (from + count) ≤ length (now log)))) ⌝ }
     ensures { λ r. ⌜ last area ≡ over (replies v (was log) (was results) from count) (was area) ⌝ }
 {
-    let mut k = 0;
+    let mut k: usize = 0;
     while k < count {
         let i = from + k;
         let e = entries::entry_in(log, i);

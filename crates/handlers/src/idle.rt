@@ -43,11 +43,11 @@ fn tick_asking(s: Replica, t: Ticked, out: &mut [u8]) -> Returned
     requires { ⌜ setupOk (s .setup) ≡ true ⌝ }
     ensures { λ a. ⌜ spoke a (last out) ≡ askTick s t (was out) ⌝ }
 {
-    let c = t.clock;
+    let clock = t.clock;
     if t.up {
-        return voting::tick::next_view_asking(s, c, out);
+        return voting::tick::next_view_asking(s, clock, out);
     }
-    transfer::tick_transfer(s, c, out)
+    transfer::tick_transfer(s, clock, out)
 }
 
 // on_idle
