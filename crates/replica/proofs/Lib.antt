@@ -7,6 +7,7 @@ pub mod PromiseLaws
 pub mod CallLaws
 mod KnownLaws
 pub mod DemandLaws
+pub mod CreateDemands
 pub mod FoundLift
 pub mod MarkedHold
 pub mod SufficeLaws

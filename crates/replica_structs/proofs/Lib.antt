@@ -8,3 +8,4 @@ pub mod PromiseLaws
 pub mod CarryLaws
 pub mod Carried
 pub mod Tabling
+pub mod DemandLaws

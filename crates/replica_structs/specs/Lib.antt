@@ -1,3 +1,4 @@
 pub mod Core
 pub mod Calls
 pub mod Promise
+pub mod Demands

@@ -2,3 +2,4 @@ pub mod ReplicaLaws
 pub mod ClientLaws
 pub mod SufficeLaws
 pub mod ReplyLaws
+pub mod DemandLaws
