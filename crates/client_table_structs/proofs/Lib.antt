@@ -5,3 +5,4 @@ pub mod FoundLaws
 pub mod Lending
 pub mod Passed
 pub mod Rowed
+pub mod OneAnswer

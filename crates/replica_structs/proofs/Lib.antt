@@ -9,3 +9,4 @@ pub mod CarryLaws
 pub mod Carried
 pub mod Tabling
 pub mod DemandLaws
+pub mod OneAnswer

@@ -3,3 +3,4 @@ pub mod ClientLaws
 pub mod SufficeLaws
 pub mod ReplyLaws
 pub mod DemandLaws
+pub mod OneAnswer
