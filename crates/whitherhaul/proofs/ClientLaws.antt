@@ -4,6 +4,7 @@
 --     no-reply, reply-refused, reply-done                on_reply
 --     no-tick, idle-ran                                  on_idle
 --     read-malformed, read-said                          a Reply, read
+--     kept, reply-quiet                                  what a refused call leaves
 -- Assumes nothing.
 use mathlib.Core.Path.{_≡_, refl, sym, ap, _∙_}
 use mathlib.Core.Bool.{true, false, not, false≢true}
@@ -32,7 +33,7 @@ use Rattle.whitherhaul.specs.Clients.{ClientHeld, ClientCreateRan, Reque
 -- ---- the run after a call
 
 module _ (c : Client) (run : List ℕ) where
-  kept : {k : ℕ} → (k ≡ 0 → ⊥) → run ≡ keptRecord k c run
+  pub kept : {k : ℕ} → (k ≡ 0 → ⊥) → run ≡ keptRecord k c run
   unfolding keptRecord
   kept {k} h = sym (if-false _ _ _ (ne-eqb k 0 h))
 
@@ -150,7 +151,7 @@ module _ (run : List ℕ) (operation member cents : ℕ) (area : List ℕ) where
 -- ---- on_reply
 
 -- a refused reply isn't heard
-reply-quiet : (c : Client) (number : ℕ) (v : View) → (repliedOf c number v .answer .refusal ≡ 0 → ⊥)
+pub reply-quiet : (c : Client) (number : ℕ) (v : View) → (repliedOf c number v .answer .refusal ≡ 0 → ⊥)
     → (repliedOf c number v .answer .done ≡ false) × (repliedOf c number v .client ≡ c)
 unfolding repliedOf
 reply-quiet c number v =

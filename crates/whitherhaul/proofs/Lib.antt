@@ -4,3 +4,4 @@ pub mod SufficeLaws
 pub mod ReplyLaws
 pub mod DemandLaws
 pub mod OneAnswer
+pub mod ClientDemands
