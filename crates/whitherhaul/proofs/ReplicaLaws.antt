@@ -1,6 +1,7 @@
 -- The promises of the replica's calls, from what the replica's own calls and `keep` promise.
 --     keep-refused, keep-done                                      the state run after a call
 --     no-message, no-tick, no-creation, no-recovery                a run that holds no state, or has another length
+--     create-unsized, recover-unsized                              a setup outside the sizes
 --     message-ran, idle-ran, create-ran, recover-ran               a call of the replica
 --     usual-kept, leading-kept                                     what a usual call leaves of the state
 -- Assumes nothing.
@@ -12,15 +13,19 @@ use Prim.Native.Nat.{ℕ}
 use native.Mathlib.Omega.{arith}
 use lib.ListN.{length}
 use borrow.Author.Tests.{ne-eqb, eq-eqb}
+use Rattle.numbers.specs.Words.{if_then_else_}
 use Rattle.numbers.specs.declared.View.{View}
 use Rattle.numbers.proofs.WordLaws.{if-true, if-false, split}
 use Rattle.numbers.proofs.NumberLaws.{eq-or-not}
+use Rattle.config.specs.Setup.{setupOk}
 use Rattle.config.specs.declared.Setup.{Setup}
+use Rattle.state.specs.Answers.{refusal}
 use Rattle.state.specs.declared.Returned.{Returned}
 use Rattle.state.specs.declared.Replica.{Replica}
 use Rattle.state_bytes.specs.Layout.{stateOf, Onward, Clocked, stateOk, HoldsState}
 use Rattle.usual.specs.Usual.{isUsual, isLeading}
 use Rattle.usual.proofs.UsualLaws.{usual-onward, leading-clocked}
+use Rattle.outside.specs.Sound.{noReplica}
 use Rattle.outside.specs.Creation.{Started, createStep, recoverStep}
 use Rattle.replica.specs.Calls.{messageCall, idleCall, cleared, createCall, recoverCall}
 use Rattle.replica.specs.Lent.{Lent, Called, called}
@@ -28,7 +33,8 @@ use Rattle.replica.specs.Promise.{MessagePromise, IdlePromise, CreatePromise, R
 use Rattle.replica.specs.Demands.{Untouched}
 use Rattle.replica.proofs.PromiseLaws.{message-promised, idle-promised, create-promised, recover-promised}
 use Rattle.replica.proofs.DemandLaws.{message-untouched, tick-untouched}
-use Rattle.whitherhaul.specs.Replicas.{ran, keptState, leaves, messageRun, idleRun, createRun, recoverRun, StateHeld, KeptIn}
+use Rattle.replica.proofs.CreateDemands.{create-outside, recover-outside}
+use Rattle.whitherhaul.specs.Replicas.{Ran, ran, keptState, leaves, messageRun, idleRun, createRun, recoverRun, StateHeld, KeptIn}
 use Rattle.whitherhaul.specs.Replicas.{MessageRan, IdleRan, CreateRan, RecoverRan}
 
 -- ---- keep
@@ -141,6 +147,11 @@ create-sends : (u : Setup) (x : Lent) → (createCall u x .answer .messages ≡ 
 unfolding createCall cleared createStep
 create-sends u x = split (λ (d : Started). (d .answer .messages ≡ 0) × (d .answer .replies ≡ 0)) _ _ _ (λ _. (refl, refl)) (λ _. (refl, refl))
 
+-- what one that is refused by 1 leaves
+outside-leaves : (state : List ℕ) (x : Lent) → leaves state (called (refusal 1 noReplica) x) ≡ ran 1 (0 ∷ 0 ∷ []) state x
+unfolding keptState if_then_else_
+outside-leaves state x = refl
+
 module _ (u : Setup) (state : List ℕ) (x : Lent) where
   pub no-creation : (length state ≡ 146 → ⊥) → CreateRan u state x (ran 1 (0 ∷ 0 ∷ []) state x)
   unfolding createRun
@@ -151,10 +162,22 @@ module _ (u : Setup) (state : List ℕ) (x : Lent) where
         call = create-promised u x _ refl;
       }
 
-  pub create-ran : (a : Returned) (y : Lent) {after : List ℕ} {code : ℕ} → length state ≡ 146 → CreatePromise u x (called a y)
-      → KeptIn a state after code → CreateRan u state x (ran code (0 ∷ 0 ∷ []) after y)
+  pub create-unsized : setupOk u ≡ false → CreateRan u state x (ran 1 (0 ∷ 0 ∷ []) state x)
   unfolding createRun
-  create-ran a y {after} {code} l p k =
+  create-unsized h =
+      record {
+        exact =
+            split (λ (d : Ran). ran 1 (0 ∷ 0 ∷ []) state x ≡ d) _ _ _ (λ _. refl)
+            (λ _. sym (outside-leaves state x) ∙ ap (leaves state) (sym (create-outside u x h)));
+        next = λ z. absurd (not-0 z);
+        call = create-promised u x _ refl;
+      }
+
+  pub create-ran : (w : Setup) (a : Returned) (y : Lent) {after : List ℕ} {code : ℕ} → length state ≡ 146 → w ≡ u
+      → CreatePromise w x (called a y) → KeptIn a state after code → CreateRan u state x (ran code (0 ∷ 0 ∷ []) after y)
+  unfolding createRun
+  create-ran w a y {after} {code} l same q k =
+      let p = subst (λ (z : Setup). CreatePromise z x (called a y)) same q in
       let d = createCall u x in
       let sends = create-sends u x in
       let m : 0 ≡ a .messages = sym (sends .0) ∙ sym (ap (λ (z : Called). z .answer .messages) (p .exact)) in
@@ -175,10 +198,22 @@ module _ (u : Setup) (v : View) (nonce : ℕ) (state : List ℕ) (x : Lent) wher
         call = recover-promised u v nonce x _ refl;
       }
 
-  pub recover-ran : (a : Returned) (y : Lent) {after : List ℕ} {code : ℕ} → length state ≡ 146 → RecoverPromise u v nonce x (called a y)
-      → KeptIn a state after code → RecoverRan u v nonce state x (ran code (a .messages ∷ a .replies ∷ []) after y)
+  pub recover-unsized : setupOk u ≡ false → RecoverRan u v nonce state x (ran 1 (0 ∷ 0 ∷ []) state x)
   unfolding recoverRun
-  recover-ran a y l p k =
+  recover-unsized h =
+      record {
+        exact =
+            split (λ (d : Ran). ran 1 (0 ∷ 0 ∷ []) state x ≡ d) _ _ _ (λ _. refl)
+            (λ _. sym (outside-leaves state x) ∙ ap (leaves state) (sym (recover-outside u x h v nonce)));
+        next = λ z. absurd (not-0 z);
+        call = recover-promised u v nonce x _ refl;
+      }
+
+  pub recover-ran : (w : Setup) (a : Returned) (y : Lent) {after : List ℕ} {code : ℕ} → length state ≡ 146 → w ≡ u
+      → RecoverPromise w v nonce x (called a y) → KeptIn a state after code → RecoverRan u v nonce state x (ran code (a .messages ∷ a .replies ∷ []) after y)
+  unfolding recoverRun
+  recover-ran w a y l same q k =
+      let p = subst (λ (z : Setup). RecoverPromise z v nonce x (called a y)) same q in
       let d = recoverCall u v nonce x in
       record {
         exact = left a y k d (p .exact) ∙ sym (if-false _ _ _ (ap not (eq-eqb (length state) 146 l)));

@@ -9,7 +9,7 @@ use numbers::View;
 
 // create
 #[no_mangle]
-pub extern "C" fn whitherhaul_client_create(n: u8, id: u64, held: &mut [u8]) -> u8
+pub extern "C" fn whitherhaul_client_create(n: u32, id: u64, held: &mut [u8]) -> u8
     ensures { λ r. ⌜ ClientCreateRan n id (was held) (record { code = r; run = last held }) ⌝ }
 {
     if held.len() != 54 {

@@ -7,7 +7,6 @@ ghost use Rattle.state_bytes.specs.Layout.{stateOf, Onward, Clocked, stateOk};
 ghost use Rattle.whitherhaul.specs.Replicas.{KeptIn, CreateRan, RecoverRan, MessageRan, IdleRan, Ends};
 ghost use Rattle.numbers.specs.Lending.{was, last};
 ghost use Rattle.book.specs.Memory.{unlent};
-use config::Setup;
 use numbers::View;
 use state::Returned;
 
@@ -50,12 +49,12 @@ fn keep_clocked(a: Returned, state: &mut [u8]) -> u8
     0
 }
 
-// new
+// new. The setup's numbers may be any: those outside the sizes are refused before they are put into the setup's fields.
 #[no_mangle]
 pub extern "C" fn whitherhaul_create(
-    n: u8,
-    id: u8,
-    timeout: u16,
+    n: u32,
+    id: u32,
+    timeout: u32,
     room: u32,
     members: u32,
     state: &mut [u8],
@@ -72,13 +71,10 @@ pub extern "C" fn whitherhaul_create(
     if state.len() != 146 {
         return 1;
     }
-    let u = Setup {
-        n,
-        id,
-        timeout,
-        room,
-        members,
-    };
+    if !config::sizes_ok(n, id, timeout, room, members) {
+        return 1;
+    }
+    let u = config::setup_of(n, id, timeout, room, members);
     keep(
         replica::create::create(u, log, results, totals, acks, stored, table, old),
         state,
@@ -88,9 +84,9 @@ pub extern "C" fn whitherhaul_create(
 // recover
 #[no_mangle]
 pub extern "C" fn whitherhaul_recover(
-    n: u8,
-    id: u8,
-    timeout: u16,
+    n: u32,
+    id: u32,
+    timeout: u32,
     room: u32,
     members: u32,
     view: u32,
@@ -112,13 +108,10 @@ pub extern "C" fn whitherhaul_recover(
     if state.len() != 146 {
         return 1;
     }
-    let u = Setup {
-        n,
-        id,
-        timeout,
-        room,
-        members,
-    };
+    if !config::sizes_ok(n, id, timeout, room, members) {
+        return 1;
+    }
+    let u = config::setup_of(n, id, timeout, room, members);
     let a = replica::create::recover(
         u,
         View(view),
