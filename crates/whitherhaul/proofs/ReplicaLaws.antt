@@ -6,13 +6,13 @@
 --     usual-kept, leading-kept                                     what a usual call leaves of the state
 -- Assumes nothing.
 use mathlib.Core.Path.{_≡_, refl, sym, ap, _∙_, subst}
-use mathlib.Core.Bool.{true, false, not, false≢true}
+use mathlib.Core.Bool.{Bool, true, false, not, false≢true}
 use mathlib.Core.List.{List, [], _∷_}
 use mathlib.Core.Logic.{⊎-elim}
-use Prim.Native.Nat.{ℕ}
+use Prim.Native.Nat.{ℕ, _≤_, _<_}
 use native.Mathlib.Omega.{arith}
 use lib.ListN.{length}
-use borrow.Author.Tests.{ne-eqb, eq-eqb}
+use borrow.Author.Tests.{ne-eqb, eq-eqb, not-false, lt-ltb, le-ltb, ltb-false}
 use Rattle.numbers.specs.Words.{if_then_else_}
 use Rattle.numbers.specs.declared.View.{View}
 use Rattle.numbers.proofs.WordLaws.{if-true, if-false, split}
@@ -22,7 +22,7 @@ use Rattle.config.specs.declared.Setup.{Setup}
 use Rattle.state.specs.Answers.{refusal}
 use Rattle.state.specs.declared.Returned.{Returned}
 use Rattle.state.specs.declared.Replica.{Replica}
-use Rattle.state_bytes.specs.Layout.{stateOf, Onward, Clocked, stateOk, HoldsState}
+use Rattle.state_bytes.specs.Layout.{stateOf, Onward, Clocked, stateOk, isQuiet, HoldsState}
 use Rattle.usual.specs.Usual.{isUsual, isLeading}
 use Rattle.usual.proofs.UsualLaws.{usual-onward, leading-clocked}
 use Rattle.outside.specs.Sound.{noReplica}
@@ -34,7 +34,7 @@ use Rattle.replica.specs.Demands.{Untouched}
 use Rattle.replica.proofs.PromiseLaws.{message-promised, idle-promised, create-promised, recover-promised}
 use Rattle.replica.proofs.DemandLaws.{message-untouched, tick-untouched}
 use Rattle.replica.proofs.CreateDemands.{create-outside, recover-outside}
-use Rattle.whitherhaul.specs.Replicas.{Ran, ran, keptState, leaves, messageRun, idleRun, createRun, recoverRun, StateHeld, KeptIn}
+use Rattle.whitherhaul.specs.Replicas.{Ran, ran, keptState, leaves, messageRun, idleRun, createRun, recoverRun, StateHeld, KeptIn, mayBeUsual}
 use Rattle.whitherhaul.specs.Replicas.{MessageRan, IdleRan, CreateRan, RecoverRan}
 
 -- ---- keep
@@ -220,3 +220,25 @@ module _ (u : Setup) (v : View) (nonce : ℕ) (state : List ℕ) (x : Lent) wher
         next = λ z. done-held a y k d (p .exact) (sym (k .number) ∙ z);
         call = recover-promised u v nonce x d refl;
       }
+
+-- ---- a frame that may be a usual one
+
+fails : (a b : Bool) → (if a then false else b) ≡ true → (a ≡ false) × (b ≡ true)
+unfolding if_then_else_
+fails true b p = absurd (false≢true p)
+fails false b p = (refl, p)
+
+pub may-short : (state frame : List ℕ) → length frame < 7 → false ≡ mayBeUsual state frame
+unfolding mayBeUsual
+may-short state frame h = sym (if-true _ _ _ (lt-ltb (length frame) 7 h))
+
+pub may-long : (state frame : List ℕ) → 7 ≤ length frame → {b : Bool} → b ≡ isQuiet state → b ≡ mayBeUsual state frame
+unfolding mayBeUsual
+may-long state frame h e = e ∙ sym (if-false _ _ _ (le-ltb (length frame) 7 h))
+
+pub may-is : (state frame : List ℕ) {b : Bool} → b ≡ mayBeUsual state frame → not b ≡ false → (7 ≤ length frame) × (isQuiet state ≡ true)
+unfolding mayBeUsual
+may-is state frame {b} e n =
+    let t = sym e ∙ not-false b n in
+    let p = fails _ _ t in
+    (ltb-false (length frame) 7 (p .0), p .1)

@@ -1,10 +1,10 @@
 -- The replica's calls at the C boundary: the state lies in a lent run, and a call that isn't refused leaves its next state there. A run that holds no state is
 -- refused by 1, and a refused call leaves that run and all else as it was, with counts of 0. Assumes nothing.
 use mathlib.Core.Path.{_≡_}
-use mathlib.Core.Bool.{true, not}
+use mathlib.Core.Bool.{Bool, true, false, not}
 use mathlib.Core.List.{List, [], _∷_}
 use Prim.Native.Nat.{ℕ}
-use lib.Dec.{eqb}
+use lib.Dec.{eqb, ltb}
 use lib.ListN.{length}
 use Rattle.numbers.specs.Words.{if_then_else_}
 use Rattle.numbers.specs.declared.View.{View}
@@ -14,7 +14,7 @@ use Rattle.state.specs.declared.Replica.{Replica}
 use Rattle.replica.specs.Calls.{messageCall, idleCall, createCall, recoverCall}
 use Rattle.replica.specs.Lent.{Lent, Called, lentBefore, lentAfter}
 use Rattle.replica.specs.Promise.{MessagePromise, IdlePromise, CreatePromise, RecoverPromise}
-use Rattle.state_bytes.specs.Layout.{stateOf, encodeState, stateOk, HoldsState}
+use Rattle.state_bytes.specs.Layout.{stateOf, encodeState, stateOk, isQuiet, HoldsState}
 use Rattle.numbers.specs.Lending.{last}
 use Rattle.book.specs.Memory.{Run}
 
@@ -94,6 +94,10 @@ pub record RecoverRan (u : Setup) (v : View) (nonce : ℕ) (state : List ℕ) (x
   pub exact : d ≡ recoverRun u v nonce state x
   pub next : d .code ≡ 0 → StateHeld (d .state) (recoverCall u v nonce x .answer .state)
   pub call : RecoverPromise u v nonce x (recoverCall u v nonce x)
+
+-- whether a frame may be a usual one: it names a kind, and no report is there
+unfoldable pub mayBeUsual : (state frame : List ℕ) → Bool
+mayBeUsual state frame = if ltb (length frame) 7 then false else isQuiet state
 
 -- what the state run holds after an answer
 pub record KeptIn (a : Returned) (before after : List ℕ) (code : ℕ) : Type 0 where

@@ -3,8 +3,8 @@ ghost use mathlib.Core.Path.{_≡_};
 ghost use mathlib.Core.Bool.{true};
 ghost use mathlib.Core.List.{[], _∷_};
 ghost use lib.ListN.{length};
-ghost use Rattle.state_bytes.specs.Layout.{stateOf, Onward, Clocked, stateOk};
-ghost use Rattle.whitherhaul.specs.Replicas.{KeptIn, CreateRan, RecoverRan, MessageRan, IdleRan, Ends};
+ghost use Rattle.state_bytes.specs.Layout.{stateOf, Onward, Clocked, stateOk, isQuiet};
+ghost use Rattle.whitherhaul.specs.Replicas.{KeptIn, mayBeUsual, CreateRan, RecoverRan, MessageRan, IdleRan, Ends};
 ghost use Rattle.numbers.specs.Lending.{was, last};
 ghost use Rattle.book.specs.Memory.{unlent};
 use numbers::View;
@@ -164,7 +164,7 @@ fn message_whole(
     keep(a, state)
 }
 
-// A frame that may be a usual one: of the next state only that part is written which a usual call changes.
+// A frame that may be a usual one: the reports aren't read, and of the next state only that part is written which a usual call changes.
 fn message_usual(
     state: &mut [u8],
     frame: &[u8],
@@ -179,10 +179,10 @@ fn message_usual(
     reps: &mut [u8],
     counts: &mut [u64; 2],
 ) -> u8
-    requires { ⌜ stateOk (now state) ≡ true ⌝ }
+    requires { ⌜ (stateOk (now state) ≡ true) × (isQuiet (now state) ≡ true) ⌝ }
     ensures { λ r. ⌜ Ends (MessageRan (was state) (was frame)) r (last counts) state log results totals acks stored table old out reps ⌝ }
 {
-    let s = state_bytes::read_state(state);
+    let s = state_bytes::read_quiet(state);
     if !usual::is_usual(s, frame) {
         return message_whole(
             state,
@@ -216,6 +216,17 @@ fn message_usual(
     keep_onward(a, state)
 }
 
+// Whether a frame may be a usual one: it names a kind, and no report is there.
+fn may_be_usual<'a>(state: &'a [u8], frame: &'a [u8]) -> bool
+    requires { ⌜ stateOk (now state) ≡ true ⌝ }
+    ensures { λ r. ⌜ r ≡ mayBeUsual (was state) (was frame) ⌝ }
+{
+    if frame.len() < 7 {
+        return false;
+    }
+    state_bytes::is_quiet(state)
+}
+
 // on_message. The same call stands once for each kind of a usual frame, and nothing is written between the look at the kind and the call: so the compiler makes of each the code of that kind alone.
 #[no_mangle]
 pub extern "C" fn whitherhaul_on_message(
@@ -238,7 +249,7 @@ pub extern "C" fn whitherhaul_on_message(
     if !state_bytes::state_ok(state) {
         return 1;
     }
-    if frame.len() < 7 {
+    if !may_be_usual(state, frame) {
         return message_whole(
             state,
             frame,
@@ -361,7 +372,45 @@ fn tick_whole(
     keep(a, state)
 }
 
-// on_idle. Of a Normal primary's next state only the clock is written.
+// A tick where no report is there: of a Normal primary's next state only the clock is written.
+fn tick_usual(
+    state: &mut [u8],
+    log: &mut [u8],
+    results: &mut [u8],
+    totals: &mut [u8],
+    acks: &mut [u8],
+    stored: &mut [u8],
+    table: &mut [u8],
+    old: &mut [u8],
+    out: &mut [u8],
+    reps: &mut [u8],
+    counts: &mut [u64; 2],
+) -> u8
+    requires { ⌜ (stateOk (now state) ≡ true) × (isQuiet (now state) ≡ true) ⌝ }
+    ensures { λ r. ⌜ Ends (IdleRan (was state)) r (last counts) state log results totals acks stored table old out reps ⌝ }
+{
+    let s = state_bytes::read_quiet(state);
+    if !usual::is_leading(s) {
+        return tick_whole(
+            state,
+            log,
+            results,
+            totals,
+            acks,
+            stored,
+            table,
+            old,
+            out,
+            reps,
+            counts,
+        );
+    }
+    let a = replica::call::on_idle(s, log, results, totals, acks, stored, table, old, out, reps);
+    *counts = [a.messages as u64, a.replies as u64];
+    keep_clocked(a, state)
+}
+
+// on_idle
 #[no_mangle]
 pub extern "C" fn whitherhaul_on_idle(
     state: &mut [u8],
@@ -382,8 +431,7 @@ pub extern "C" fn whitherhaul_on_idle(
     if !state_bytes::state_ok(state) {
         return 1;
     }
-    let s = state_bytes::read_state(state);
-    if !usual::is_leading(s) {
+    if !state_bytes::is_quiet(state) {
         return tick_whole(
             state,
             log,
@@ -398,7 +446,17 @@ pub extern "C" fn whitherhaul_on_idle(
             counts,
         );
     }
-    let a = replica::call::on_idle(s, log, results, totals, acks, stored, table, old, out, reps);
-    *counts = [a.messages as u64, a.replies as u64];
-    keep_clocked(a, state)
+    tick_usual(
+        state,
+        log,
+        results,
+        totals,
+        acks,
+        stored,
+        table,
+        old,
+        out,
+        reps,
+        counts,
+    )
 }
