@@ -1,11 +1,11 @@
--- `replay::call::make`: the parts end within the copies, and the copies keep their lengths. Assumes nothing.
+-- `replay::make`: the parts end within the copies, and the copies keep their lengths. Assumes nothing.
 use Prim.Native.Nat.{_*_, _-_}
 use mathlib.Core.Path.{refl, sym, _∙_}
 use native.Mathlib.Omega.{arith}
 use borrow.Rule.Slice.PartMut.{same-len-mid}
 use borrow.Author.Needs.{needs}
-use Rattle.replay.proofs.call.make.Statement.{statement}
-use Rattle.replay.proofs.call.make.Tie as tie
+use Rattle.replay.proofs.make.Statement.{statement}
+use Rattle.replay.proofs.make.Tie as tie
 
 mul-made : tie.Need-mul-made
 mul-made c = omega (arith, c .before .before .before .before .before .before .before .before .before .before .before .before .before .before .before .before .before .before .within .ensures)

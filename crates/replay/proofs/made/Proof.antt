@@ -1,8 +1,8 @@
--- `replay::call::made`: a call keeps the lengths of what it is lent. Assumes nothing.
+-- `replay::made`: a call keeps the lengths of what it is lent. Assumes nothing.
 use mathlib.Core.Path.{refl}
 use borrow.Author.Needs.{needs}
-use Rattle.replay.proofs.call.made.Statement.{statement}
-use Rattle.replay.proofs.call.made.Tie as tie
+use Rattle.replay.proofs.made.Statement.{statement}
+use Rattle.replay.proofs.made.Tie as tie
 
 same-length-3 : tie.Need-same-length-3
 same-length-3 c = c .before .before .before .before .before .before .create .kept .1 .1 .1 .0
