@@ -1,4 +1,5 @@
 pub mod AlikeLaws
+pub mod LatestLaws
 pub mod SearchLaws
 pub mod SeekLaws
 pub mod StoreLaws

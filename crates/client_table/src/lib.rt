@@ -1,6 +1,7 @@
 // The client table as a list of rows, whichever way the rows are held: what a call changes, and the steps of the search by halves.
 ghost use mathlib.Core.Path.{_≡_};
 ghost use Prim.Native.Nat.{_-_, _≤_, _<_};
+ghost use Rattle.client_table.specs.Latest.{heldOf, isNew};
 ghost use Rattle.client_table.specs.Search.{midOf, halved, isBefore};
 use fees::Outcome;
 use numbers::Op;
@@ -17,12 +18,11 @@ pub enum Goal {
     End,
 }
 
-// What the table has of a client: whether it has a row, its latest request, and the reply that is kept for it, if there is one.
-pub struct Latest {
-    pub there: bool,
-    pub request: u64,
-    pub replied: bool,
-    pub reply: Outcome,
+// What the client table holds of a client's latest request.
+pub enum Latest {
+    Nothing, // the client has no row
+    Waiting { request: u64 }, // it has no reply yet
+    Answered { request: u64, reply: Outcome }, // its reply is kept
 }
 
 // What a call did to a log that had `op` entries, `commit` of them committed: it was installed anew, or appended to, and has `to` entries now,
@@ -68,6 +68,30 @@ pub fn before(used: bool, client: u64, goal: Goal) -> bool
     match goal {
         Goal::Client { id } => client < id,
         Goal::End => true,
+    }
+}
+
+// What a row in use holds, of this request number and with this outcome and total: an outcome outside 1 to 6 is no reply.
+pub fn held(request: u64, code: u8, total: u64) -> Latest
+    ensures { λ r. ⌜ r ≡ heldOf request code total ⌝ }
+{
+    if !numbers::within(1, 6, code as u64) {
+        return Latest::Waiting { request };
+    }
+    Latest::Answered {
+        request,
+        reply: Outcome { code, total },
+    }
+}
+
+// Whether a number is a new one of a client: above that of its latest request, or any where it has no row.
+pub fn is_new(latest: Latest, number: u64) -> bool
+    ensures { λ r. ⌜ r ≡ isNew latest number ⌝ }
+{
+    match latest {
+        Latest::Nothing => true,
+        Latest::Waiting { request } => request < number,
+        Latest::Answered { request, .. } => request < number,
     }
 }
 

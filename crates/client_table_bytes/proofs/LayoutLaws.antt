@@ -8,33 +8,38 @@
 --     left-cleared, rows-copy               all rows unused; the rows of a copy
 --     one-content                           what is left is fixed to the last byte
 --     byte-lawful                           a row in bytes is a lawful form of row
+--     answered-outcome                      a reply that is told has an outcome of 1 to 6, whatever the bytes are
 -- Assumes nothing.
 use mathlib.Core.Path.{_≡_, refl, sym, ap, _∙_}
 use mathlib.Core.Bool.{true}
 use mathlib.Core.List.{List, _∷_, _++_, append-assoc}
-use mathlib.Core.Option.{some}
+use mathlib.Core.Option.{none, some}
 use borrow.Author.Tests.{ne-eqb}
 use Prim.Native.Nat.{ℕ, zero, suc, _+_, _-_, _*_, _≤_, _<_}
 use native.Mathlib.Nat.{add-zero}
 use native.Mathlib.Omega.{arith}
 use lib.ListN.{length, take, drop, replicate, length-append, length-drop, take-append-drop, replicate-append-replicate, length-replicate}
 use lib.Seq.{take-add, drop-drop, drop-at, take-at, length-take-le, take-take}
-use Rattle.numbers.specs.Words.{if_then_else_}
-use Rattle.numbers.specs.Numbers.{big, num, over, putAt, Bytes}
+use Rattle.numbers.specs.Words.{_and_}
+use Rattle.numbers.specs.Numbers.{big, num, over, putAt, within, Bytes}
 use Rattle.numbers.specs.Cells.{packed, Codec}
-use Rattle.numbers.proofs.NumberLaws.{be-big, big-num, num-drop, num-front, drop-bytes}
+use Rattle.numbers.proofs.NumberLaws.{be-big, big-num, num-drop, num-front, drop-bytes, both-within}
+use Rattle.numbers.proofs.WordLaws.{if-true, if-false}
 use Rattle.numbers.proofs.CellLaws.{cells-length, cells-drop, cells-take, cells-join, cells-front, cells-taken, cells-one, cells-same}
 use Rattle.numbers.proofs.CellLaws.{packed-append, packed-length, packed-cells}
 use Rattle.entries.specs.declared.Entry.{Entry}
 use Rattle.fees.specs.declared.Outcome.{Outcome}
 use Rattle.client_table.specs.Rows.{spotOf, isThere, stored}
 use Rattle.client_table.specs.Shape.{rowAt}
+use Rattle.client_table.specs.Latest.{keptOf}
 use Rattle.client_table.specs.Lawful.{HoldsEntry, Lawful}
+use Rattle.client_table.specs.declared.Latest.the-variants.{Answered}
+use Rattle.client_table.proofs.LatestLaws.{kept-ruled, reply-ruled}
 use Rattle.client_table.proofs.SearchLaws.{there-inside}
 use Rattle.client_table_bytes.specs.declared.MarkedRow.{MarkedRow}
 use Rattle.client_table_bytes.specs.declared.Found.{Found}
 use Rattle.client_table_bytes.specs.Layout.{noRow, byteRow, rowOf, encodeRow, rowsOf}
-use Rattle.client_table_bytes.specs.Steps.{RowFits, foundIn, RowsLeft}
+use Rattle.client_table_bytes.specs.Steps.{RowFits, foundIn, latestOf, RowsLeft}
 
 -- ---- a row as a cell
 
@@ -262,18 +267,30 @@ rows-copy n s o l = cells-front 25 rowOf encodeRow RowFits row-codec n s (drop (
 -- ---- a row in bytes is a lawful form of row
 
 answered-is : (e : Entry) (o : Outcome) → 1 ≤ o .code → o .code ≤ 6 → HoldsEntry byteRow (byteRow .answered e o) e (some o)
-unfolding if_then_else_
+unfolding keptOf
 answered-is e o l m =
     let u : o .code ≡ 0 → ⊥ = λ q. omega (arith, q) in
-    let v : o .code ≡ 255 → ⊥ = λ q. omega (arith, q) in
-    record { used = rw (ne-eqb (o .code) 0 u); client = refl; request = refl; kept = rw (ne-eqb (o .code) 255 v) }
+    record {
+      used = rw (ne-eqb (o .code) 0 u);
+      client = refl;
+      request = refl;
+      kept = if-true _ _ _ (both-within 1 6 (o .code) l m);
+    }
+
+fresh-is : (e : Entry) → HoldsEntry byteRow (byteRow .fresh e) e none
+unfolding keptOf within _and_
+fresh-is e = record { used = refl; client = refl; request = refl; kept = if-false _ _ _ refl }
 
 pub byte-lawful : Lawful byteRow
-unfolding if_then_else_
 byte-lawful =
     record {
       blank = refl;
-      fresh = λ e. record { used = refl; client = refl; request = refl; kept = refl };
+      fresh = fresh-is;
       answered = answered-is;
       again = λ e x u. record { used = u; client = refl; request = refl; kept = refl };
     }
+
+-- ---- a reply that is told, whatever the bytes are
+
+pub answered-outcome : (f : Found) {number : ℕ} {o : Outcome} → latestOf f ≡ Answered number o → (1 ≤ o .code) × (o .code ≤ 6)
+answered-outcome f p = reply-ruled (f .there) (f .row .request) (keptOf (f .row .mark) (f .row .total)) (kept-ruled (f .row .mark) (f .row .total)) p

@@ -1,16 +1,16 @@
--- The client table in lent bytes, 25 a row: client 8, request 8, mark 1 (0 unused, 255 no reply yet, else the outcome), total 8. Every byte has a
--- meaning, so that bytes and rows say the same. Assumes nothing.
+-- The client table in lent bytes, 25 a row: client 8, request 8, mark 1, total 8. The mark says what the row is: 0 unused; 1 to 6 in use, and this
+-- is the outcome of the reply that is kept, whose total follows; any other value in use, and no reply is kept (a fresh row has 255). The other 24
+-- bytes of an unused row, and the total of a row that keeps no reply, say nothing and are looked at by nothing. They are the one exception to "a byte
+-- without meaning is refusal 1": to refuse them, each call would have to look at all 25 L bytes. Assumes nothing.
 use mathlib.Core.Bool.{not}
 use mathlib.Core.List.{List, _++_}
-use mathlib.Core.Option.{none, some}
 use Prim.Native.Nat.{ℕ}
 use lib.Dec.{eqb}
-use Rattle.numbers.specs.Words.{if_then_else_}
 use Rattle.numbers.specs.Numbers.{big, num}
 use Rattle.numbers.specs.Cells.{cells}
 use Rattle.entries.specs.declared.Entry.{Entry}
-use Rattle.fees.specs.Fees.{gives}
 use Rattle.client_table.specs.Shape.{Shape}
+use Rattle.client_table.specs.Latest.{keptOf}
 use Rattle.client_table_bytes.specs.declared.MarkedRow.{MarkedRow}
 
 -- an unused row
@@ -32,7 +32,7 @@ byteRow =
       used = λ x. not (eqb (x .mark) 0);
       client = λ x. x .client;
       request = λ x. x .request;
-      kept = λ x. if eqb (x .mark) 255 then none else some (gives (x .mark) (x .total));
+      kept = λ x. keptOf (x .mark) (x .total);
       blank = noRow;
       fresh = freshOf;
       answered = λ e o. rowWith e (o .code) (o .total);

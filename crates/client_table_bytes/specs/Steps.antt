@@ -1,17 +1,16 @@
 -- What the functions of the byte table promise: rows written over a run, a client found, the rows that a rebuild replaced. Assumes nothing.
 use mathlib.Core.Path.{_≡_}
-use mathlib.Core.Bool.{false, not}
+use mathlib.Core.Bool.{false}
 use mathlib.Core.List.{List, _++_}
 use Prim.Native.Nat.{ℕ, _+_, _*_, _^_, _≤_, _<_}
-use lib.Dec.{eqb}
 use lib.ListN.{take, drop}
 use Rattle.numbers.specs.Words.{if_then_else_}
 use Rattle.numbers.specs.Numbers.{over}
 use Rattle.numbers.specs.Cells.{packed}
 use Rattle.entries.specs.Places.{entryIn}
-use Rattle.fees.specs.Fees.{gives}
 use Rattle.client_table.specs.Rows.{spotOf, isThere}
 use Rattle.client_table.specs.Shape.{rowAt}
+use Rattle.client_table.specs.Latest.{keptOf, latestBy}
 use Rattle.client_table.specs.declared.Change.{Change}
 use Rattle.client_table.specs.declared.Latest.{Latest}
 use Rattle.client_table_bytes.specs.declared.MarkedRow.{MarkedRow}
@@ -40,15 +39,9 @@ pub record AppendsFor (n : ℕ) (k : Change) (f : Found) (table log : List ℕ) 
   pub one : k .to .0 ≤ k .op .0 + 1
   pub found : k .op .0 < k .to .0 → f ≡ foundIn (rowsOf n table) (entryIn log (k .op .0) .client)
 
--- what was found, as the core is told it: the reply is there where one is kept
+-- what was found, as the core is told it
 abbrev pub latestOf : Found → Latest
-latestOf f =
-    record {
-      there = f .there;
-      request = f .row .request;
-      replied = not (eqb (f .row .mark) 255);
-      reply = gives (f .row .mark) (f .row .total);
-    }
+latestOf f = latestBy (f .there) (f .row .request) (keptOf (f .row .mark) (f .row .total))
 
 -- the second run after a call: a rebuild leaves there the rows that it replaced
 unfoldable pub oldAfter : ℕ → Change → (table old : List ℕ) → List ℕ

@@ -19,7 +19,7 @@ use fees::Outcome;
 mod cell; // a row read, written and made
 mod place; // places: the search by halves, and a row stored
 
-// A row: mark 0 is an unused row, 255 no reply yet, any other the outcome of the reply that is kept, whose total follows.
+// A row: mark 0 is an unused row, 1 to 6 the outcome of the reply that is kept, whose total follows; any other is a row in use that keeps no reply.
 pub struct MarkedRow {
     pub client: u64,
     pub request: u64,
@@ -52,15 +52,10 @@ pub fn find(table: &[u8], n: usize, client: u64) -> Found
 pub fn latest(f: Found) -> Latest
     ensures { λ r. ⌜ r ≡ latestOf f ⌝ }
 {
-    Latest {
-        there: f.there,
-        request: f.row.request,
-        replied: f.row.mark != 255,
-        reply: Outcome {
-            code: f.row.mark,
-            total: f.row.total,
-        },
+    if !f.there {
+        return Latest::Nothing;
     }
+    client_table::held(f.row.request, f.row.mark, f.row.total)
 }
 
 // The row of a client that has none; a full table takes none.

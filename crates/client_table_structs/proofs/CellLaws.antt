@@ -3,18 +3,23 @@
 --     end-there, end-new                       up to where rows go up
 --     latest-missing, latest-there             whether an entry is its client's latest request
 --     again-none, again-other, again-same      the row of an entry of a new log
+--     answered-outcome                         a reply that is told has an outcome of 1 to 6, whatever the rows are
 -- Assumes nothing.
 use mathlib.Core.Path.{_≡_, sym, ap, _∙_}
 use mathlib.Core.Bool.{Bool, true, false, not}
-use Prim.Native.Nat.{ℕ}
+use Prim.Native.Nat.{ℕ, _≤_}
 use lib.Dec.{eqb}
 use borrow.Author.Tests.{eq-eqb, ne-eqb, not-true, not-false}
 use Rattle.numbers.specs.Words.{_and_}
 use Rattle.numbers.proofs.WordLaws.{if-true, if-false}
 use Rattle.entries.specs.declared.Entry.{Entry}
-use Rattle.client_table_structs.specs.Shape.{rowHolding, isUsed, foundAt, endAt, latestAt, keptAt}
+use Rattle.fees.specs.declared.Outcome.{Outcome}
+use Rattle.client_table.specs.declared.Latest.the-variants.{Answered}
+use Rattle.client_table.proofs.LatestLaws.{Ruled, kept-ruled, reply-ruled}
+use Rattle.client_table_structs.specs.Shape.{rowHolding, isUsed, replyIn, foundAt, endAt, latestAt, keptAt, latestOfRow}
 use Rattle.client_table_structs.specs.declared.Row.{Row}
-use Rattle.client_table_structs.specs.declared.KeptReply.the-variants.{Waiting}
+use Rattle.client_table_structs.specs.declared.KeptReply.{KeptReply}
+use Rattle.client_table_structs.specs.declared.KeptReply.the-variants.{Unused, Waiting, Kept}
 use Rattle.client_table_structs.specs.declared.FoundRow.{FoundRow}
 
 -- what is found at place i
@@ -63,3 +68,13 @@ module _ (f : FoundRow) where
       pub again-same : not b ≡ false → rowHolding e (f .row .reply) ≡ keptAt f left e
       unfolding keptAt
       again-same t = sym (if-false _ _ _ (ne-eqb left 0 l) ∙ if-true _ _ _ (sym q ∙ not-false b t))
+
+-- a reply that is told
+in-ruled : (k : KeptReply) → Ruled (replyIn k)
+unfolding replyIn
+in-ruled Unused = tt
+in-ruled Waiting = tt
+in-ruled (Kept code total) = kept-ruled code total
+
+pub answered-outcome : (f : FoundRow) {number : ℕ} {o : Outcome} → latestOfRow f ≡ Answered number o → (1 ≤ o .code) × (o .code ≤ 6)
+answered-outcome f p = reply-ruled (f .there) (f .row .request) (replyIn (f .row .reply)) (in-ruled (f .row .reply)) p

@@ -29,7 +29,7 @@ abbrev pub goalE : Elem
 goalE = enum-of G.the-type G′.the-laws tt G′.lowers G′.the-copy G′.the-plain
 
 abbrev pub latestE : Elem
-latestE = elem-of L.the-type L′.the-laws L′.lowers L′.the-copy L′.the-plain
+latestE = enum-of L.the-type L′.the-laws tt L′.lowers L′.the-copy L′.the-plain
 
 abbrev pub entryE : Elem
 entryE = elem-of E.the-type E′.the-laws E′.lowers E′.the-copy E′.the-plain

@@ -2,15 +2,15 @@
 -- any form of row. Assumes nothing.
 use mathlib.Core.Bool.{Bool, true, false}
 use mathlib.Core.List.{List}
-use mathlib.Core.Option.{Option, none, some}
+use mathlib.Core.Option.{Option, none}
 use Prim.Native.Nat.{ℕ}
 use lib.Dec.{eqb, ltb}
 use Rattle.numbers.specs.Words.{if_then_else_, _and_}
 use Rattle.entries.specs.declared.Entry.{Entry}
-use Rattle.fees.specs.Fees.{gives}
 use Rattle.fees.specs.declared.Outcome.{Outcome}
 use Rattle.client_table.specs.Rows.{spotOf, isThere}
 use Rattle.client_table.specs.Shape.{Shape, rowAt}
+use Rattle.client_table.specs.Latest.{keptOf, latestBy}
 use Rattle.client_table.specs.declared.Change.{Change}
 use Rattle.client_table.specs.declared.Latest.{Latest}
 use Rattle.client_table_structs.specs.declared.Row.{Row}
@@ -31,11 +31,11 @@ isUsed Unused = false
 isUsed Waiting = true
 isUsed (Kept c t) = true
 
--- the reply that is kept
+-- the reply that is kept: as in bytes, one of an outcome of 1 to 6
 unfoldable pub replyIn : KeptReply → Option Outcome
 replyIn Unused = none
 replyIn Waiting = none
-replyIn (Kept c t) = some (gives c t)
+replyIn (Kept c t) = keptOf c t
 
 -- what the table asks of a row, of a struct
 abbrev pub structRow : Shape Row
@@ -82,21 +82,9 @@ firstNew k = if ltb (k .to .0) (k .op .0) then k .to .0 else k .op .0
 unfoldable pub firstDone : Change → ℕ
 firstDone k = if ltb (k .done .0) (k .commit .0) then k .done .0 else k .commit .0
 
--- whether a reply is kept, and which; of outcome and total 0 where none is
-unfoldable pub isKept : KeptReply → Bool
-isKept Unused = false
-isKept Waiting = false
-isKept (Kept c t) = true
-
-unfoldable pub outcomeIn : KeptReply → Outcome
-outcomeIn Unused = gives 0 0
-outcomeIn Waiting = gives 0 0
-outcomeIn (Kept c t) = gives c t
-
 -- what was found, as the core is told it
 abbrev pub latestOfRow : FoundRow → Latest
-latestOfRow f =
-    record { there = f .there; request = f .row .request; replied = isKept (f .row .reply); reply = outcomeIn (f .row .reply) }
+latestOfRow f = latestBy (f .there) (f .row .request) (replyIn (f .row .reply))
 
 -- what the table has of a client
 abbrev pub latestAmong : List Row → ℕ → Latest

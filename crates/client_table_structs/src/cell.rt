@@ -1,8 +1,10 @@
 // What a row says, and the rows of entries: all by value.
 ghost use mathlib.Core.Path.{_≡_};
+ghost use mathlib.Core.Bool.{true};
 ghost use Prim.Native.Nat.{_<_};
+ghost use Rattle.client_table.specs.Latest.{latestBy};
 ghost use Rattle.client_table.specs.Search.{halved, isBefore};
-ghost use Rattle.client_table_structs.specs.Shape.{unusedRow, structRow, isUsed, isKept, outcomeIn, foundAt, latestOfRow, endAt, latestAt, keptAt, firstNew, firstDone};
+ghost use Rattle.client_table_structs.specs.Shape.{unusedRow, structRow, isUsed, replyIn, foundAt, latestOfRow, endAt, latestAt, keptAt, firstNew, firstDone};
 use crate::FoundRow;
 use crate::KeptReply;
 use crate::Row;
@@ -87,23 +89,14 @@ pub fn found(at: usize, x: Row, client: u64) -> FoundRow
     }
 }
 
-fn is_kept(k: KeptReply) -> bool
-    ensures { λ r. ⌜ r ≡ isKept k ⌝ }
+// What a row in use holds: its number, and its reply if it keeps one. An unused row, which is found for nobody, keeps none.
+fn held_in(request: u64, k: KeptReply) -> Latest
+    ensures { λ r. ⌜ r ≡ latestBy true request (replyIn k) ⌝ }
 {
     match k {
-        KeptReply::Unused => false,
-        KeptReply::Waiting => false,
-        KeptReply::Kept { .. } => true,
-    }
-}
-
-fn outcome_in(k: KeptReply) -> Outcome
-    ensures { λ r. ⌜ r ≡ outcomeIn k ⌝ }
-{
-    match k {
-        KeptReply::Unused => Outcome { code: 0, total: 0 },
-        KeptReply::Waiting => Outcome { code: 0, total: 0 },
-        KeptReply::Kept { code, total } => Outcome { code, total },
+        KeptReply::Unused => Latest::Waiting { request },
+        KeptReply::Waiting => Latest::Waiting { request },
+        KeptReply::Kept { code, total } => client_table::held(request, code, total),
     }
 }
 
@@ -111,14 +104,12 @@ fn outcome_in(k: KeptReply) -> Outcome
 pub fn latest(f: FoundRow) -> Latest
     ensures { λ r. ⌜ r ≡ latestOfRow f ⌝ }
 {
+    if !f.there {
+        return Latest::Nothing;
+    }
     let x = f.row;
     let k = x.reply;
-    Latest {
-        there: f.there,
-        request: x.request,
-        replied: is_kept(k),
-        reply: outcome_in(k),
-    }
+    held_in(x.request, k)
 }
 
 // Up to where rows go up for a client's row: nowhere where it is there, else to the first unused one.

@@ -20,7 +20,7 @@ use fees::Outcome;
 
 pub mod cell; // what a row says, and the rows of entries
 
-// What a row is used for: nothing, a request that has no reply yet, or one whose reply is kept.
+// What a row is used for: nothing, a request that has no reply yet, or one whose reply is kept, with an outcome of 1 to 6; any other code is no reply.
 pub enum KeptReply {
     Unused,
     Waiting,

@@ -62,13 +62,13 @@ module _ (s : Replica) (m : Memory) (h : InBytes m) where
   abbrev After : Recorded → Type 0
   After d = InBytes (d .memory)
 
-  call-bytes : (e : Entry) (latest : Latest) (k : RequestVerdict)
-      → After (ofServed m (Request.byCall k s e latest (m .runs .log) (m .acks) (m .out) (m .reps)))
+  call-bytes : (e : Entry) (k : RequestVerdict)
+      → After (ofServed m (Request.byCall k s e (m .runs .log) (m .acks) (m .out) (m .reps)))
   unfolding Request.byCall Request.resent Request.accepted
-  call-bytes e latest Calls.Nothing = h
-  call-bytes e latest Calls.Resend = h
-  call-bytes e latest (Calls.Refuse k) = h
-  call-bytes e latest Calls.Append =
+  call-bytes e Calls.Nothing = h
+  call-bytes e (Calls.Resend o) = h
+  call-bytes e (Calls.Refuse k) = h
+  call-bytes e Calls.Append =
       (with-log (m .runs) (s .op .0) _ (h .0) (entry-bytes e), h .1)
 
   count-bytes : (o : Op) (r : ℕ) (d : Count) → After (ofCounted m (PrepareOk.byCount d s o r (m .runs .log) (m .runs .money) (m .acks) (m .reps)))
@@ -160,7 +160,7 @@ module _ (s : Replica) (m : Memory) (h : InBytes m) where
 
   handled-bytes : (x : Message) (latest : Latest) (frame : List ℕ) → Bytes frame → After (handled x s latest frame m)
   unfolding handled requestStep startViewStep responseStep
-  handled-bytes (Request e) latest frame b = call-bytes e latest _
+  handled-bytes (Request e) latest frame b = call-bytes e _
   handled-bytes (Prepare v o c e) latest frame b = (prepare-bytes s (m .runs) (h .0) (m .out) v (preparedBy o c e latest), h .1)
   handled-bytes (PrepareOk v o r) latest frame b = prepare-ok-bytes v o r
   handled-bytes (Commit v c) latest frame b = (commit-bytes s (m .runs) (h .0) (m .out) v c, h .1)

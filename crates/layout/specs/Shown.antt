@@ -4,11 +4,10 @@ use Prim.Native.Nat.{ℕ}
 use mathlib.Core.Path.{_≡_}
 use mathlib.Core.Bool.{Bool, true, false}
 use mathlib.Core.List.{List}
-use mathlib.Core.Option.{none, some}
 use lib.ListN.{length}
-use Rattle.numbers.specs.Words.{if_then_else_}
 use Rattle.numbers.specs.Numbers.{over}
 use Rattle.entries.specs.declared.Entry.{Entry}
+use Rattle.client_table.specs.Latest.{latestBy}
 use Rattle.client_table.specs.declared.Latest.{Latest}
 use Rattle.client_table.specs.declared.Change.{Change}
 use Rattle.state.specs.Answers.{refusal}
@@ -71,8 +70,6 @@ changeOf c d =
       done = d .answer .state .commit;
     }
 
--- the client's row as it is handed to a handler says what the model's table has of the client
-pub record Tells (table : List ClientEntry) (client : ℕ) (latest : Latest) : Type 0 where
-  pub there : latest .there ≡ find table client .there
-  pub request : latest .there ≡ true → latest .request ≡ find table client .request
-  pub kept : latest .there ≡ true → (if latest .replied then some (latest .reply) else none) ≡ find table client .kept
+-- what is handed to a handler of a client's latest request is what the model's table has of the client
+abbrev pub Tells : List ClientEntry → (client : ℕ) → Latest → Type 0
+Tells table client latest = latest ≡ latestBy (find table client .there) (find table client .request) (find table client .kept)

@@ -60,10 +60,10 @@ module _ (s : Replica) (m : Memory) (h : Has s m) where
 
   call-ruled : (e : Entry) (latest : Latest) → EntryFits e × (operationOk (e .operation) (e .cents) ≡ true)
       → (k : RequestVerdict) → Request.requestVerdict s e latest (length (m .out)) (length (m .reps)) ≡ k
-      → RuledBy (ofServed m (Request.byCall k s e latest (m .runs .log) (m .acks) (m .out) (m .reps)))
+      → RuledBy (ofServed m (Request.byCall k s e (m .runs .log) (m .acks) (m .out) (m .reps)))
   unfolding Request.byCall Request.resent Request.accepted
   call-ruled e latest f Calls.Nothing q = still h
-  call-ruled e latest f Calls.Resend q = still h
+  call-ruled e latest f (Calls.Resend o) q = still h
   call-ruled e latest f (Calls.Refuse k) q = still h
   call-ruled e latest f Calls.Append q = wrote h (next-ok e f (append-fits s (length (m .out)) (length (m .reps)) e latest q .0))
 

@@ -79,10 +79,10 @@ module _ (s : Replica) (m : Memory) (h : Gathering s m) where
   -- ---- Request
 
   call-kept : (e : Entry) (latest : Latest) (k : RequestVerdict) → Request.requestVerdict s e latest (length (m .out)) (length (m .reps)) ≡ k
-      → Kept (s .setup) (ofServed m (Request.byCall k s e latest (m .runs .log) (m .acks) (m .out) (m .reps)))
+      → Kept (s .setup) (ofServed m (Request.byCall k s e (m .runs .log) (m .acks) (m .out) (m .reps)))
   unfolding Request.byCall Request.resent Request.accepted
   call-kept e latest Calls.Nothing q = record { held = as-it-was h; acks-long = h .acks-long; stored-long = h .stored-long }
-  call-kept e latest Calls.Resend q = record { held = as-it-was h; acks-long = h .acks-long; stored-long = h .stored-long }
+  call-kept e latest (Calls.Resend o) q = record { held = as-it-was h; acks-long = h .acks-long; stored-long = h .stored-long }
   call-kept e latest (Calls.Refuse k) q = record { held = as-it-was h; acks-long = h .acks-long; stored-long = h .stored-long }
   call-kept e latest Calls.Append q =
       let p : Prepared = record { op = nextOp s; commit = s .commit; entry = e; latest = latest } in

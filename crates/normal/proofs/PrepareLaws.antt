@@ -17,6 +17,7 @@ use Rattle.entries.specs.declared.Entry.{Entry}
 use Rattle.entries.proofs.EntryLaws.{entry-codec}
 use Rattle.entries.proofs.PlaceLaws.{place-is, place-mono}
 use Rattle.config.proofs.SetupLaws.{sized}
+use Rattle.client_table.specs.Latest.{isNew}
 use Rattle.book.specs.Log.{withEntries}
 use Rattle.book.proofs.LogLaws.{with-length}
 use Rattle.state.specs.State.{heardBy, withLog}
@@ -49,19 +50,14 @@ module _ (s : Replica) (p : Prepared) where
   unfolding appendVerdict if_then_else_
   full h = rw (le-leb (s .setup .room) (s .op .0) h)
 
-  pub no-row : s .op .0 < s .setup .room → not (p .latest .there) ≡ true → Append ≡ appendVerdict s p
-  unfolding appendVerdict if_then_else_
-  no-row h n = rw (lt-leb (s .setup .room) (s .op .0) h, n)
+  module _ (h : s .op .0 < s .setup .room) (b : Bool) (q : b ≡ isNew (p .latest) (p .entry .request)) where
+    pub stale : not b ≡ true → Refuse 6 ≡ appendVerdict s p
+    unfolding appendVerdict if_then_else_
+    stale n = rw (lt-leb (s .setup .room) (s .op .0) h, ← q, n)
 
-  pub stale : s .op .0 < s .setup .room → not (p .latest .there) ≡ false → p .entry .request ≤ p .latest .request
-      → Refuse 6 ≡ appendVerdict s p
-  unfolding appendVerdict if_then_else_
-  stale h n l = rw (lt-leb (s .setup .room) (s .op .0) h, n, le-leb (p .entry .request) (p .latest .request) l)
-
-  pub rises : s .op .0 < s .setup .room → not (p .latest .there) ≡ false → p .latest .request < p .entry .request
-      → Append ≡ appendVerdict s p
-  unfolding appendVerdict if_then_else_
-  rises h n l = rw (lt-leb (s .setup .room) (s .op .0) h, n, lt-leb (p .entry .request) (p .latest .request) l)
+    pub rises : not b ≡ false → Append ≡ appendVerdict s p
+    unfolding appendVerdict if_then_else_
+    rises n = rw (lt-leb (s .setup .room) (s .op .0) h, ← q, n)
 
   pub misses : s .op .0 + 1 < p .op .0 → Transfer ≡ prepareVerdict s p
   unfolding prepareVerdict if_then_else_

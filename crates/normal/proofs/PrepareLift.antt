@@ -10,22 +10,25 @@ use native.Mathlib.Omega.{arith}
 use mathlib.Core.Path.{_≡_, refl, sym, ap, _∙_, subst}
 use mathlib.Core.Bool.{Bool, true, false, not}
 use mathlib.Core.List.{List, [], _∷_, _++_}
+use mathlib.Core.Option.{Option, none, some}
 use lib.Dec.{ltb, leb, eqb}
 use lib.ListN.{length}
-use borrow.Author.Tests.{le-ltb, ltb-true, ltb-false, leb-false, eq-eqb, ne-eqb}
+use borrow.Author.Tests.{le-ltb, le-leb, lt-leb, ltb-true, ltb-false, leb-false, eq-eqb, ne-eqb}
 use Rattle.numbers.specs.Words.{if_then_else_, _and_}
 use Rattle.numbers.specs.Numbers.{Bytes}
 use Rattle.numbers.specs.Cells.{packed}
 use Rattle.numbers.specs.declared.Op.{Op}
 use Rattle.numbers.specs.declared.View.{View}
-use Rattle.numbers.proofs.WordLaws.{if-false, split₂, joined}
+use Rattle.numbers.proofs.WordLaws.{if-false, split₂}
 use Rattle.numbers.proofs.RunLaws.{over-nil}
 use Rattle.numbers.proofs.CellLaws.{cells-length}
 use Rattle.entries.specs.Entries.{entryOf, entries, EntryFits}
 use Rattle.entries.specs.Rising.{rising}
 use Rattle.entries.specs.declared.Entry.{Entry}
 use Rattle.config.proofs.SetupLaws.{sized}
+use Rattle.client_table.specs.Latest.{latestBy, isNew}
 use Rattle.client_table.specs.declared.Latest as Rows
+use Rattle.fees.specs.declared.Outcome.{Outcome}
 use Rattle.frames.specs.declared.Status.the-variants.{StateTransfer}
 use Rattle.state.specs.State as S
 use Rattle.state.specs.Statuses.{isRecovering}
@@ -186,15 +189,20 @@ earlier o n h = go (ltb o n) refl
     go true e = ap not (sym (ne-eqb o n (λ q. omega (arith, ltb-true o n e, q))))
     go false e = ap not (sym (eq-eqb o n (omega (arith, ltb-false o n e, ltb-false n o h))))
 
--- the row's test is the table's
-row-test : (table : List ClientEntry) (client : ℕ) (l : Rows.Latest) (r : ℕ) → Tells table client l
-    → (l .there and leb r (l .request)) ≡ (find table client .there and leb r (find table client .request))
-unfolding _and_
-row-test table client l r h = go (l .there) refl
+-- not above is at most
+turned : (x y : ℕ) → not (ltb x y) ≡ leb y x
+turned x y = go (ltb x y) refl
   where
-    go : (b : Bool) → l .there ≡ b → (l .there and leb r (l .request)) ≡ (find table client .there and leb r (find table client .request))
-    go true e = λ i. h .there i and leb r (h .request e i)
-    go false e = rw (← h .there, e)
+    go : (b : Bool) → ltb x y ≡ b → not b ≡ leb y x
+    go true e = sym (lt-leb y x (ltb-true x y e))
+    go false e = sym (le-leb y x (ltb-false x y e))
+
+-- the row's test is the table's
+row-test : (there : Bool) (request : ℕ) (kept : Option Outcome) (r : ℕ) → not (isNew (latestBy there request kept) r) ≡ (there and leb r request)
+unfolding isNew _and_
+row-test false request kept r = refl
+row-test true request none r = turned request r
+row-test true request (some o) r = turned request r
 
 twice-not : (b : Bool) → not (not b) ≡ b
 twice-not true = refl
@@ -280,10 +288,11 @@ module _ (c : Given) (p : Prepared) (table : List ClientEntry) (applied : List E
       (setBook (heardFromPrimary m) (append (m .book) e)) (append-reads l) (more (e ∷ []) (min (p .commit .0) (s .op .0 + 1)) refl refl)
 
   -- refusal 6 by the client's row
-  rises-test : (p .latest .there and leb (e .request) (p .latest .request)) ≡ not (rising (m .book .log ++ (e ∷ [])))
+  rises-test : not (isNew (p .latest) (e .request)) ≡ not (rising (m .book .log ++ (e ∷ [])))
   unfolding modelOf bookOf
   rises-test =
-      row-test table (e .client) (p .latest) (e .request) (met .row)
+      ap (λ (l : Rows.Latest). not (isNew l (e .request))) (met .row)
+      ∙ row-test (find table (e .client) .there) (find table (e .client) .request) (find table (e .client) .kept) (e .request)
       ∙ sym (twice-not _)
       ∙ ap not (sym (latest-lift e table (entries (s .op .0) (c .runs .log)) (met .latest) (met .rises)))
 
@@ -301,13 +310,7 @@ module _ (c : Given) (p : Prepared) (table : List ClientEntry) (applied : List E
   unfolding appendVerdict
   next-shown =
       split₂ By _ _ _ _ _ _ (ap (leb (s .setup .room)) (sym (now-op c table applied))) (λ _. refuse-shown 4)
-      (λ f.
-      subst
-      (λ (d : PrepareVerdict). By d
-      (if not (rising (m .book .log ++ (e ∷ []))) then refused 6 else
-      prepared (s .setup) (setBook (heardFromPrimary m) (append (m .book) e)) (p .commit .0)))
-      (sym (joined (p .latest .there) (leb (e .request) (p .latest .request)) Append (Refuse 6)))
-      (split₂ By _ _ _ _ _ _ rises-test (λ _. refuse-shown 6) (λ _. append-shown (leb-false _ _ f))))
+      (λ f. split₂ By _ _ _ _ _ _ rises-test (λ _. refuse-shown 6) (λ _. append-shown (leb-false _ _ f)))
 
   verdict-shown : By (prepareVerdict s p) (takePrepare (s .setup) m (p .op .0) (p .commit .0) (p .entry))
   unfolding prepareVerdict takePrepare byPrepareVerdict

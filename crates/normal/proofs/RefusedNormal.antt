@@ -31,18 +31,18 @@ use Rattle.steps.proofs.RefusedSteps.{Untouched, Speaks, Leaves, done, refused,
 module _ (s : Replica) (m : Memory) where
   -- ---- Request
 
-  call-untouched : (e : Entry) (latest : Latest) (k : RequestVerdict)
-      → Untouched s m (ofServed m (Request.byCall k s e latest (m .runs .log) (m .acks) (m .out) (m .reps)))
+  call-untouched : (e : Entry) (k : RequestVerdict)
+      → Untouched s m (ofServed m (Request.byCall k s e (m .runs .log) (m .acks) (m .out) (m .reps)))
   unfolding Request.byCall Request.resent Request.accepted
-  call-untouched e latest Calls.Nothing = done s m refl
-  call-untouched e latest Calls.Resend = done s m refl
-  call-untouched e latest (Calls.Refuse k) = refused s m k
-  call-untouched e latest Calls.Append = done s m refl
+  call-untouched e Calls.Nothing = done s m refl
+  call-untouched e (Calls.Resend o) = done s m refl
+  call-untouched e (Calls.Refuse k) = refused s m k
+  call-untouched e Calls.Append = done s m refl
 
   pub request-untouched : (e : Entry) (latest : Latest)
       → Untouched s m (ofServed m (requestStep s e latest (m .runs .log) (m .acks) (m .out) (m .reps)))
   unfolding requestStep
-  request-untouched e latest = call-untouched e latest (Request.requestVerdict s e latest (length (m .out)) (length (m .reps)))
+  request-untouched e latest = call-untouched e (Request.requestVerdict s e latest (length (m .out)) (length (m .reps)))
 
   -- ---- Prepare
 

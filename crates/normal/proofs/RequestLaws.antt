@@ -18,7 +18,9 @@ use Rattle.config.specs.Replicas.{withMember}
 use Rattle.config.proofs.SetupLaws.{sized}
 use Rattle.fees.specs.declared.Outcome.{Outcome}
 use Rattle.writers.specs.Writers.{sizeOf, reply, toOthers}
+use Rattle.client_table.specs.Latest.{isNew}
 use Rattle.client_table.specs.declared.Latest.{Latest}
+use Rattle.client_table.specs.declared.Latest.the-variants as Row
 use Rattle.book.specs.Log.{withEntries}
 use Rattle.book.specs.Runs.{replyTo}
 use Rattle.book.proofs.RunLaws.{reply-length}
@@ -29,27 +31,23 @@ use Rattle.state.specs.declared.Returned.{Returned}
 use Rattle.state.specs.declared.Replica.{Replica}
 use Rattle.normal.specs.declared.request.RequestVerdict.{RequestVerdict}
 use Rattle.normal.specs.declared.request.RequestVerdict.the-variants.{Nothing, Resend, Refuse, Append}
-use Rattle.normal.specs.Request.{Ready, Took, Answered, served, took, answered, sendsOf, knownVerdict, newVerdict, clientVerdict, requestVerdict, nextOp, prepareOf, accepted, resent, byCall, requestStep}
+use Rattle.normal.specs.Request.{Ready, Took, Answered, served, took, answered, sendsOf, againVerdict, knownVerdict, newVerdict, clientVerdict, requestVerdict, nextOp, prepareOf, accepted, resent, byCall, requestStep}
 use Rattle.normal.proofs.SendLaws.{prepare-long}
 
--- weigh_known
-module _ (e : Entry) (latest : Latest) (room : ℕ) where
-  pub older : e .request < latest .request → Nothing ≡ knownVerdict e latest room
-  unfolding knownVerdict if_then_else_
-  older h = rw (lt-ltb (e .request) (latest .request) h)
+-- weigh_again
+module _ (e : Entry) (request : ℕ) (o : Outcome) (room : ℕ) where
+  pub older : e .request < request → Nothing ≡ againVerdict e request o room
+  unfolding againVerdict if_then_else_
+  older h = rw (lt-ltb (e .request) request h)
 
-  module _ (g : latest .request ≤ e .request) where
-    pub unreplied : not (latest .replied) ≡ true → Nothing ≡ knownVerdict e latest room
-    unfolding knownVerdict if_then_else_
-    unreplied r = rw (le-ltb (e .request) (latest .request) g, r)
+  module _ (g : request ≤ e .request) where
+    pub again-short : room < 36 → Refuse 10 ≡ againVerdict e request o room
+    unfolding againVerdict if_then_else_
+    again-short h = rw (le-ltb (e .request) request g, lt-ltb room 36 h)
 
-    pub known-short : not (latest .replied) ≡ false → room < 36 → Refuse 10 ≡ knownVerdict e latest room
-    unfolding knownVerdict if_then_else_
-    known-short r h = rw (le-ltb (e .request) (latest .request) g, r, lt-ltb room 36 h)
-
-    pub known : not (latest .replied) ≡ false → 36 ≤ room → Resend ≡ knownVerdict e latest room
-    unfolding knownVerdict if_then_else_
-    known r h = rw (le-ltb (e .request) (latest .request) g, r, le-ltb room 36 h)
+    pub again : 36 ≤ room → Resend o ≡ againVerdict e request o room
+    unfolding againVerdict if_then_else_
+    again h = rw (le-ltb (e .request) request g, le-ltb room 36 h)
 
 -- weigh_new
 module _ (s : Replica) (out : ℕ) where
@@ -68,19 +66,13 @@ module _ (s : Replica) (out : ℕ) where
 
 -- weigh_client, weigh
 module _ (s : Replica) (e : Entry) (latest : Latest) (out reps : ℕ) where
-  pub first : (k : RequestVerdict) → not (latest .there) ≡ true → k ≡ newVerdict s out → k ≡ clientVerdict s e latest out reps
+  pub new-number : (k : RequestVerdict) → isNew latest (e .request) ≡ true → k ≡ newVerdict s out → k ≡ clientVerdict s e latest out reps
   unfolding clientVerdict if_then_else_
-  first k t p = rw t p
+  new-number k t p = rw t p
 
-  pub later : (k : RequestVerdict) → not (latest .there) ≡ false → latest .request < e .request → k ≡ newVerdict s out
-      → k ≡ clientVerdict s e latest out reps
+  pub known-number : (k : RequestVerdict) → isNew latest (e .request) ≡ false → k ≡ knownVerdict e latest reps → k ≡ clientVerdict s e latest out reps
   unfolding clientVerdict if_then_else_
-  later k t h p = rw (t, lt-ltb (latest .request) (e .request) h) p
-
-  pub again : (k : RequestVerdict) → not (latest .there) ≡ false → e .request ≤ latest .request → k ≡ knownVerdict e latest reps
-      → k ≡ clientVerdict s e latest out reps
-  unfolding clientVerdict if_then_else_
-  again k t h p = rw (t, le-ltb (latest .request) (e .request) h) p
+  known-number k t p = rw t p
 
   pub follower : not (leads s) ≡ true → Nothing ≡ requestVerdict s e latest out reps
   unfolding requestVerdict if_then_else_
@@ -99,18 +91,22 @@ module _ (s : Replica) (e : Entry) (latest : Latest) (out reps : ℕ) where
 module _ (s : Replica) (out reps : ℕ) where
   abbrev Fits : RequestVerdict → Type 0
   Fits Nothing = Unit {0}
-  Fits Resend = 36 ≤ reps
+  Fits (Resend o) = 36 ≤ reps
   Fits (Refuse k) = Unit {0}
   Fits Append = (s .op .0 < s .setup .room) × (sendsOf s ≤ out)
 
+  again-fits : (e : Entry) (request : ℕ) (o : Outcome) → Fits (againVerdict e request o reps)
+  unfolding againVerdict
+  again-fits e request o =
+      let a : RequestVerdict = if ltb reps 36 then Refuse 10 else Resend o in
+      split Fits (ltb (e .request) request) Nothing a (λ h. tt)
+      (λ h. split Fits (ltb reps 36) (Refuse 10) (Resend o) (λ l. tt) (λ l. ltb-false reps 36 l))
+
   known-fits : (e : Entry) (latest : Latest) → Fits (knownVerdict e latest reps)
   unfolding knownVerdict
-  known-fits e latest =
-      let b : RequestVerdict = if ltb reps 36 then Refuse 10 else Resend in
-      let a : RequestVerdict = if not (latest .replied) then Nothing else b in
-      split Fits (ltb (e .request) (latest .request)) Nothing a (λ h. tt)
-      (λ h. split Fits (not (latest .replied)) Nothing b (λ r. tt)
-      (λ r. split Fits (ltb reps 36) (Refuse 10) Resend (λ l. tt) (λ l. ltb-false reps 36 l)))
+  known-fits e Row.Nothing = tt
+  known-fits e (Row.Waiting request) = tt
+  known-fits e (Row.Answered request o) = again-fits e request o
 
   new-fits : Fits (newVerdict s out)
   unfolding newVerdict
@@ -123,10 +119,7 @@ module _ (s : Replica) (out reps : ℕ) where
   client-fits : (e : Entry) (latest : Latest) → Fits (clientVerdict s e latest out reps)
   unfolding clientVerdict
   client-fits e latest =
-      let a : RequestVerdict = if ltb (latest .request) (e .request) then newVerdict s out else knownVerdict e latest reps in
-      split Fits (not (latest .there)) (newVerdict s out) a (λ t. new-fits)
-      (λ t. split Fits (ltb (latest .request) (e .request)) (newVerdict s out) (knownVerdict e latest reps)
-      (λ h. new-fits) (λ h. known-fits e latest))
+      split Fits (isNew latest (e .request)) (newVerdict s out) (knownVerdict e latest reps) (λ h. new-fits) (λ h. known-fits e latest)
 
   fits : (e : Entry) (latest : Latest) → Fits (requestVerdict s e latest out reps)
   unfolding requestVerdict
@@ -136,11 +129,43 @@ module _ (s : Replica) (out reps : ℕ) where
       split Fits (not (leads s)) Nothing a (λ l. tt)
       (λ l. split Fits (not (isNormal (s .status))) Nothing b (λ n. tt) (λ n. client-fits e latest))
 
-  pub resend-fits : (e : Entry) (latest : Latest) → requestVerdict s e latest out reps ≡ Resend → 36 ≤ reps
+  pub resend-fits : (e : Entry) (latest : Latest) {o : Outcome} → requestVerdict s e latest out reps ≡ Resend o → 36 ≤ reps
   resend-fits e latest p = subst Fits p (fits e latest)
 
   pub append-fits : (e : Entry) (latest : Latest) → requestVerdict s e latest out reps ≡ Append → (s .op .0 < s .setup .room) × (sendsOf s ≤ out)
   append-fits e latest p = subst Fits p (fits e latest)
+
+-- what is answered again is the reply that the table keeps of this very number
+module _ (s : Replica) (e : Entry) (out reps : ℕ) where
+  abbrev Held : Latest → RequestVerdict → Type 0
+  Held latest Nothing = Unit {0}
+  Held latest (Resend o) = latest ≡ Row.Answered (e .request) o
+  Held latest (Refuse k) = Unit {0}
+  Held latest Append = Unit {0}
+
+  new-held : (latest : Latest) → Held latest (newVerdict s out)
+  unfolding newVerdict
+  new-held latest = split (Held latest) _ _ _ (λ _. tt) (λ _. split (Held latest) _ _ _ (λ _. tt) (λ _. tt))
+
+  known-held : (latest : Latest) → isNew latest (e .request) ≡ false → Held latest (knownVerdict e latest reps)
+  unfolding knownVerdict againVerdict isNew
+  known-held Row.Nothing n = tt
+  known-held (Row.Waiting request) n = tt
+  known-held (Row.Answered request o) n =
+      let h : Latest = Row.Answered request o in
+      split (Held h) (ltb (e .request) request) _ _ (λ _. tt) λ l.
+      split (Held h) (ltb reps 36) _ _ (λ _. tt)
+      (λ _. ap (λ (r : ℕ). Row.Answered r o) (omega (arith, ltb-false (e .request) request l, ltb-false request (e .request) n)))
+
+  held : (latest : Latest) → Held latest (requestVerdict s e latest out reps)
+  unfolding requestVerdict clientVerdict
+  held latest =
+      split (Held latest) _ _ _ (λ _. tt) λ _.
+      split (Held latest) _ _ _ (λ _. tt) λ _.
+      split (Held latest) (isNew latest (e .request)) _ _ (λ _. new-held latest) (known-held latest)
+
+  pub resend-held : (latest : Latest) {o : Outcome} → requestVerdict s e latest out reps ≡ Resend o → latest ≡ Row.Answered (e .request) o
+  resend-held latest p = subst (Held latest) p (held latest)
 
 -- resend
 pub resends : (s : Replica) (e : Entry) (o : Outcome) (reps r : List ℕ) (a : Returned) (w : ℕ)
@@ -182,10 +207,10 @@ module _ (s : Replica) (e : Entry) (latest : Latest) (log acks out reps : List �
   unfolding requestStep byCall
   nothing a v p = rw (v, p)
 
-  pub answers : (a : Returned) (r : List ℕ) → requestVerdict s e latest (length out) (length reps) ≡ Resend
-      → answered a r ≡ resent s e (latest .reply) reps → served a log acks out r ≡ requestStep s e latest log acks out reps
+  pub answers : (a : Returned) (r : List ℕ) (o : Outcome) → requestVerdict s e latest (length out) (length reps) ≡ Resend o
+      → answered a r ≡ resent s e o reps → served a log acks out r ≡ requestStep s e latest log acks out reps
   unfolding requestStep byCall
-  answers a r v p = rw v (ap (λ (d : Answered). served (d .answer) log acks out (d .reps)) p)
+  answers a r o v p = rw v (ap (λ (d : Answered). served (d .answer) log acks out (d .reps)) p)
 
   pub refuses : (a : Returned) (k : ℕ) → requestVerdict s e latest (length out) (length reps) ≡ Refuse k → a ≡ refusal k s
       → served a log acks out reps ≡ requestStep s e latest log acks out reps

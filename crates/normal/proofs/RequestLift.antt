@@ -9,7 +9,7 @@ use mathlib.Core.List.{List, [], _∷_, _++_, append-nil}
 use mathlib.Core.Option.{Option, none, some}
 use lib.Dec.{ltb, leb, eqb}
 use lib.ListN.{length, set}
-use borrow.Author.Tests.{le-ltb, lt-leb, ltb-true, ltb-false, leb-false, eqb-true, eqb-false}
+use borrow.Author.Tests.{lt-ltb, le-ltb, lt-leb, ltb-true, ltb-false, leb-false, eqb-true, eqb-false}
 use Rattle.numbers.specs.Words.{if_then_else_, _and_}
 use Rattle.numbers.specs.Numbers.{over}
 use Rattle.numbers.specs.Cells.{packed}
@@ -23,6 +23,7 @@ use Rattle.entries.proofs.PlaceLaws.{place-is, place-mono}
 use Rattle.fees.specs.declared.Outcome.{Outcome}
 use Rattle.frames.specs.declared.Message.the-variants.{Prepare}
 use Rattle.writers.specs.Writers as W
+use Rattle.client_table.specs.Latest.{latestBy, isNew}
 use Rattle.client_table.specs.declared.Latest.{Latest}
 use Rattle.book.specs.Runs.{replyTo}
 use Rattle.book.specs.Memory.{money}
@@ -32,8 +33,8 @@ use Rattle.state.specs.declared.Replica.{Replica}
 use Rattle.normal.specs.declared.request.RequestVerdict.{RequestVerdict}
 use Rattle.normal.specs.declared.request.RequestVerdict.the-variants.{Nothing, Resend, Refuse, Append}
 use Rattle.normal.specs.Request as R
-use Rattle.normal.specs.Request.{Ready, Served, sendsOf, knownVerdict, newVerdict, clientVerdict, requestVerdict, nextOp, prepareOf, resent, byCall, requestStep}
-use Rattle.normal.proofs.RequestLaws.{older, again, first, later}
+use Rattle.normal.specs.Request.{Ready, Served, sendsOf, againVerdict, knownVerdict, newVerdict, clientVerdict, requestVerdict, nextOp, prepareOf, resent, byCall, requestStep}
+use Rattle.normal.proofs.RequestLaws.{older, new-number, known-number}
 use Rattle.normal.proofs.SendLaws.{prepare-long}
 use Rattle.model.specs.State.{opNumber, ClientEntry, Book, State, Reply, Answer, ignored, setBook, setVotes, setAcks, opOf}
 use Rattle.model.specs.State.Answer.{refused, done}
@@ -102,6 +103,37 @@ unfolding _and_
 above false x y h = refl
 above true x y h = lt-leb x y (h refl)
 
+-- what the latest number calls for, by the reply that is kept
+abbrev answerTo : Option Outcome → (room : ℕ) → RequestVerdict
+answerTo none room = Nothing
+answerTo (some o) room = if ltb room 36 then Refuse 10 else Resend o
+
+-- the verdict by what the table has of the client
+module _ (s : Replica) (e : Entry) (r : ℕ) (out reps : ℕ) where
+  abbrev verdictBy : Bool → Option Outcome → RequestVerdict
+  verdictBy there k = clientVerdict s e (latestBy there r k) out reps
+
+  older-verdict : (there : Bool) (k : Option Outcome) → there ≡ true → e .request < r → Nothing ≡ verdictBy there k
+  unfolding knownVerdict isNew
+  older-verdict false k p h = absurd (false≢true p)
+  older-verdict true none p h = known-number s e (latestBy true r none) out reps Nothing (le-ltb r (e .request) (omega (arith, h))) refl
+  older-verdict true (some o) p h =
+      known-number s e (latestBy true r (some o)) out reps Nothing (le-ltb r (e .request) (omega (arith, h))) (older e r o reps h)
+
+  same-verdict : (there : Bool) (k : Option Outcome) → there ≡ true → e .request ≡ r → answerTo k reps ≡ verdictBy there k
+  unfolding knownVerdict againVerdict isNew
+  same-verdict false k p h = absurd (false≢true p)
+  same-verdict true none p h = known-number s e (latestBy true r none) out reps Nothing (le-ltb r (e .request) (omega (arith, h))) refl
+  same-verdict true (some o) p h =
+      known-number s e (latestBy true r (some o)) out reps _ (le-ltb r (e .request) (omega (arith, h)))
+      (sym (if-false (ltb (e .request) r) Nothing _ (le-ltb (e .request) r (omega (arith, h)))))
+
+  new-verdict : (there : Bool) (k : Option Outcome) → (there ≡ true → r < e .request) → newVerdict s out ≡ verdictBy there k
+  unfolding isNew
+  new-verdict false k h = new-number s e (latestBy false r k) out reps _ refl refl
+  new-verdict true none h = new-number s e (latestBy true r none) out reps _ (lt-ltb r (e .request) (h refl)) refl
+  new-verdict true (some o) h = new-number s e (latestBy true r (some o)) out reps _ (lt-ltb r (e .request) (h refl)) refl
+
 -- a book that only grew
 grown : (b : Book) (e : Entry) → Grew b false (append b e)
 unfolding commitUpTo dueEntries commitAll appendAll append
@@ -121,7 +153,7 @@ module _ (c : Given) (table : List ClientEntry) (applied : List Entry) (e : Entr
   fit a = fitted (length (c .out)) (length (c .reps)) a
 
   abbrev by : RequestVerdict → Served
-  by z = byCall z s e latest (c .runs .log) (c .runs .acks) (c .out) (c .reps)
+  by z = byCall z s e (c .runs .log) (c .runs .acks) (c .out) (c .reps)
 
   abbrev Agree : RequestVerdict → Answer → Type 0
   Agree z a = Goal (by z) (fit a)
@@ -150,25 +182,23 @@ module _ (c : Given) (table : List ClientEntry) (applied : List Entry) (e : Entr
   reply-long : (o : Outcome) → length (repliesOut (again-with o ∷ [])) ≡ 36
   reply-long o = ap length (reply-bytes o) ∙ reply-length (s .view) e o
 
-  resend-did : Did c (ofServed c (by Resend)) (now .book) now [] (again-with (latest .reply) ∷ [])
+  resend-did : (o : Outcome) → Did c (ofServed c (by (Resend o))) (now .book) now [] (again-with o ∷ [])
   unfolding byCall resent messagesOut packed over
-  resend-did =
-      told-did c s (c .runs) false (now .book) now refl (still-reads c table applied) (no-growth (now .book)) []
-      (again-with (latest .reply) ∷ []) []
-      (replyTo (s .view) e (latest .reply)) 0 36 refl refl (reply-bytes (latest .reply)) (reply-length (s .view) e (latest .reply))
+  resend-did o =
+      told-did c s (c .runs) false (now .book) now refl (still-reads c table applied) (no-growth (now .book)) [] (again-with o ∷ []) []
+      (replyTo (s .view) e o) 0 36 refl refl (reply-bytes o) (reply-length (s .view) e o)
 
-  resend-shown : Agree (if ltb (length (c .reps)) 36 then Refuse 10 else Resend) (done now [] (again-with (latest .reply) ∷ []))
-  resend-shown =
-      subst (Goal (by (if ltb (length (c .reps)) 36 then Refuse 10 else Resend)))
-      (sym (replies-only (length (c .out)) (length (c .reps)) now (again-with (latest .reply) ∷ [])))
-      (split₂ (λ (z : RequestVerdict) (a : Answer). Goal (by z) a) _ _ _ _ _ _ (ap (ltb (length (c .reps))) (sym (reply-long (latest .reply))))
-      (λ _. refuse-fitted 10) (λ _. resend-did))
+  resend-shown : (o : Outcome) → Agree (if ltb (length (c .reps)) 36 then Refuse 10 else Resend o) (done now [] (again-with o ∷ []))
+  resend-shown o =
+      subst (Goal (by (if ltb (length (c .reps)) 36 then Refuse 10 else Resend o)))
+      (sym (replies-only (length (c .out)) (length (c .reps)) now (again-with o ∷ [])))
+      (split₂ (λ (z : RequestVerdict) (a : Answer). Goal (by z) a) _ _ _ _ _ _ (ap (ltb (length (c .reps))) (sym (reply-long o)))
+      (λ _. refuse-fitted 10) (λ _. resend-did o))
 
-  kept-shown : (b : Bool) → Agree (if not b then Nothing else if ltb (length (c .reps)) 36 then Refuse 10 else Resend)
-      (resend now e (if b then some (latest .reply) else none))
-  unfolding if_then_else_ resend
-  kept-shown false = nothing-shown
-  kept-shown true = resend-shown
+  kept-shown : (k : Option Outcome) → Agree (answerTo k (length (c .reps))) (resend now e k)
+  unfolding resend
+  kept-shown none = nothing-shown
+  kept-shown (some o) = resend-shown o
 
   -- ---- a new number
 
@@ -250,43 +280,19 @@ module _ (c : Given) (table : List ClientEntry) (applied : List Entry) (e : Entr
   abbrev verdict : RequestVerdict
   verdict = clientVerdict s e latest (length (c .out)) (length (c .reps))
 
-  row-there : seen .there ≡ true → latest .there ≡ true
-  row-there p = asked .tells .there ∙ p
-
-  row-request : seen .there ≡ true → latest .request ≡ seen .request
-  row-request p = asked .tells .request (row-there p)
+  -- the same by what the table has
+  told : (z : RequestVerdict) (a : Answer) → z ≡ verdictBy s e (seen .request) (length (c .out)) (length (c .reps)) (seen .there) (seen .kept)
+      → Agree z a → Agree verdict a
+  told z a p =
+      subst (λ (y : RequestVerdict). Agree y a)
+      (p ∙ ap (λ (l : Latest). clientVerdict s e l (length (c .out)) (length (c .reps))) (sym (asked .tells)))
 
   old-shown : seen .there ≡ true → e .request < seen .request → Agree verdict (ignored now)
-  old-shown p h =
-      let q : e .request < latest .request = omega (arith, h, row-request p) in
-      subst (λ (z : RequestVerdict). Agree z (ignored now))
-      (again s e latest (length (c .out)) (length (c .reps)) Nothing (ap not (row-there p)) (omega (arith, q))
-      (older e latest (length (c .reps)) q))
-      nothing-shown
-
-  same-verdict : seen .there ≡ true → e .request ≡ seen .request
-      → (if not (latest .replied) then Nothing else if ltb (length (c .reps)) 36 then Refuse 10 else Resend) ≡ verdict
-  unfolding knownVerdict
-  same-verdict p h =
-      again s e latest (length (c .out)) (length (c .reps)) _ (ap not (row-there p)) (omega (arith, h, row-request p))
-      (sym
-      (if-false (ltb (e .request) (latest .request)) Nothing _
-      (le-ltb (e .request) (latest .request) (omega (arith, h, row-request p)))))
+  old-shown p h = told Nothing _ (older-verdict s e (seen .request) _ _ (seen .there) (seen .kept) p h) nothing-shown
 
   same-shown : seen .there ≡ true → e .request ≡ seen .request → Agree verdict (resend now e (seen .kept))
   same-shown p h =
-      subst (λ (k : Option Outcome). Agree verdict (resend now e k)) (asked .tells .kept (row-there p))
-      (subst (λ (z : RequestVerdict). Agree z (resend now e (if latest .replied then some (latest .reply) else none))) (same-verdict p h)
-      (kept-shown (latest .replied)))
-
-  new-verdict : (seen .there ≡ true → seen .request < e .request) → newVerdict s (length (c .out)) ≡ verdict
-  new-verdict h = go (latest .there) refl
-    where
-      go : (b : Bool) → latest .there ≡ b → newVerdict s (length (c .out)) ≡ verdict
-      go false p = first s e latest (length (c .out)) (length (c .reps)) _ (ap not p) refl
-      go true p =
-          let q : seen .there ≡ true = sym (asked .tells .there) ∙ p in
-          later s e latest (length (c .out)) (length (c .reps)) _ (ap not p) (omega (arith, h q, row-request q)) refl
+      told _ _ (same-verdict s e (seen .request) (length (c .out)) (length (c .reps)) (seen .there) (seen .kept) p h) (kept-shown (seen .kept))
 
   client-shown : Agree verdict
       (if seen .there and ltb (e .request) (seen .request) then ignored now else
@@ -296,7 +302,7 @@ module _ (c : Given) (table : List ClientEntry) (applied : List Entry) (e : Entr
       split (Agree verdict) _ _ _ (λ t. let p = and-both _ _ t in old-shown (p .0) (ltb-true _ _ (p .1))) λ f.
       split (Agree verdict) _ _ _ (λ t. let p = and-both _ _ t in same-shown (p .0) (eqb-true _ _ (p .1))) λ g.
       let h = past (seen .there) (e .request) (seen .request) f g in
-      subst (λ (z : RequestVerdict). Agree z taken) (new-verdict h) (new-shown h)
+      told _ taken (new-verdict s e (seen .request) (length (c .out)) (length (c .reps)) (seen .there) (seen .kept) h) (new-shown h)
 
   pub request-shown : Shown c (ofServed c (requestStep s e latest (c .runs .log) (c .runs .acks) (c .out) (c .reps))) (now .book)
       (fitted (length (c .out)) (length (c .reps)) (onRequest (s .setup) now e))

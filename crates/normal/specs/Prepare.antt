@@ -19,6 +19,7 @@ use Rattle.normal.specs.declared.prepare.PrepareVerdict.the-variants.{Tr
 use Rattle.normal.specs.declared.prepare.Prepared.{Prepared}
 use Rattle.normal.specs.Request.{nextOp}
 use Rattle.entries.specs.declared.Entry.{Entry}
+use Rattle.client_table.specs.Latest.{isNew}
 use Rattle.client_table.specs.declared.Latest.{Latest}
 
 -- the lower of two op numbers
@@ -33,8 +34,7 @@ preparedBy o c e latest = record { op = o; commit = c; entry = e; latest = lates
 unfoldable pub appendVerdict : Replica → Prepared → PrepareVerdict
 appendVerdict s p =
     if leb (s .setup .room) (s .op .0) then Refuse 4 else
-    if not (p .latest .there) then Append else
-    if leb (p .entry .request) (p .latest .request) then Refuse 6 else
+    if not (isNew (p .latest) (p .entry .request)) then Refuse 6 else
     Append
 
 -- past the next op a state transfer; an earlier one is a re-sent Prepare, not compared with our entry

@@ -1,4 +1,4 @@
--- on_request, on the state by value and the bytes of the lent runs; the client's row is handed in by value. A number above the client's latest
+-- on_request, on the state by value and the bytes of the lent runs; what the table holds of the client is handed in by value. A new number
 -- rises by the table alone, so that refusal 6 has no test here. Assumes nothing.
 use mathlib.Core.Path.{_≡_}
 use mathlib.Core.Bool.{Bool, true, false, not}
@@ -18,7 +18,9 @@ use Rattle.fees.specs.declared.Outcome.{Outcome}
 use Rattle.frames.specs.declared.Message.{Message}
 use Rattle.frames.specs.declared.Message.the-variants.{Prepare}
 use Rattle.writers.specs.Writers.{toOthers}
+use Rattle.client_table.specs.Latest.{isNew}
 use Rattle.client_table.specs.declared.Latest.{Latest}
+use Rattle.client_table.specs.declared.Latest.the-variants as Row
 use Rattle.book.specs.Log.{withEntries}
 use Rattle.book.specs.Runs.{replyTo}
 use Rattle.state.specs.State.{leads, withLog}
@@ -86,13 +88,18 @@ answered a reps = record { answer = a; reps = reps }
 abbrev pub sendsOf : Replica → ℕ
 sendsOf s = 51 * (s .setup .n - 1)
 
--- a number no larger than the client's latest: the reply again, if it is the latest and there is one, or refusal 10
-unfoldable pub knownVerdict : Entry → Latest → ℕ → RequestVerdict
-knownVerdict e latest room =
-    if ltb (e .request) (latest .request) then Nothing else
-    if not (latest .replied) then Nothing else
+-- no new number, and the reply of the client's latest request is kept: nothing for an older one, else the reply again, or refusal 10
+unfoldable pub againVerdict : Entry → (request : ℕ) → Outcome → (room : ℕ) → RequestVerdict
+againVerdict e request reply room =
+    if ltb (e .request) request then Nothing else
     if ltb room 36 then Refuse 10 else
-    Resend
+    Resend reply
+
+-- no new number: nothing where no reply is kept
+unfoldable pub knownVerdict : Entry → Latest → ℕ → RequestVerdict
+knownVerdict e Row.Nothing room = Nothing
+knownVerdict e (Row.Waiting request) room = Nothing
+knownVerdict e (Row.Answered request reply) room = againVerdict e request reply room
 
 -- a new number: refusal 4 where the log has L entries, then 9
 unfoldable pub newVerdict : Replica → ℕ → RequestVerdict
@@ -103,8 +110,7 @@ newVerdict s out =
 
 unfoldable pub clientVerdict : Replica → Entry → Latest → (out reps : ℕ) → RequestVerdict
 clientVerdict s e latest out reps =
-    if not (latest .there) then newVerdict s out else
-    if ltb (latest .request) (e .request) then newVerdict s out else
+    if isNew latest (e .request) then newVerdict s out else
     knownVerdict e latest reps
 
 -- only a Normal primary looks at a Request; out and reps are the sizes of the areas
@@ -141,12 +147,12 @@ ofTook reps d = served (d .answer) (d .log) (d .acks) (d .out) reps
 abbrev ofAnswered : (log acks out : List ℕ) → Answered → Served
 ofAnswered log acks out d = served (d .answer) log acks out (d .reps)
 
-unfoldable pub byCall : RequestVerdict → Replica → Entry → Latest → (log acks out reps : List ℕ) → Served
-byCall Nothing s e latest log acks out reps = served (quiet s) log acks out reps
-byCall Resend s e latest log acks out reps = ofAnswered log acks out (resent s e (latest .reply) reps)
-byCall (Refuse k) s e latest log acks out reps = served (refusal k s) log acks out reps
-byCall Append s e latest log acks out reps = ofTook reps (accepted s e log acks out)
+unfoldable pub byCall : RequestVerdict → Replica → Entry → (log acks out reps : List ℕ) → Served
+byCall Nothing s e log acks out reps = served (quiet s) log acks out reps
+byCall (Resend reply) s e log acks out reps = ofAnswered log acks out (resent s e reply reps)
+byCall (Refuse k) s e log acks out reps = served (refusal k s) log acks out reps
+byCall Append s e log acks out reps = ofTook reps (accepted s e log acks out)
 
 -- on_request
 unfoldable pub requestStep : Replica → Entry → Latest → (log acks out reps : List ℕ) → Served
-requestStep s e latest log acks out reps = byCall (requestVerdict s e latest (length out) (length reps)) s e latest log acks out reps
+requestStep s e latest log acks out reps = byCall (requestVerdict s e latest (length out) (length reps)) s e log acks out reps

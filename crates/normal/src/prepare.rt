@@ -46,10 +46,8 @@ fn weigh_append(s: Replica, p: Prepared) -> PrepareVerdict
     if s.setup.room <= s.op.0 {
         return PrepareVerdict::Refuse { code: 4 };
     }
-    if !p.latest.there {
-        return PrepareVerdict::Append;
-    }
-    if p.entry.request <= p.latest.request {
+    let latest = p.latest;
+    if !client_table::is_new(latest, p.entry.request) {
         return PrepareVerdict::Refuse { code: 6 };
     }
     PrepareVerdict::Append

@@ -3,7 +3,7 @@ ghost use mathlib.Core.Path.{_≡_};
 ghost use Prim.Native.Nat.{_+_, _*_, _≤_, _<_};
 ghost use lib.ListN.{length};
 ghost use Rattle.state.specs.Lengths.{logLength};
-ghost use Rattle.normal.specs.Request.{Ready, sendsOf, knownVerdict, newVerdict, clientVerdict, requestVerdict, served, took, answered, resent, accepted, requestStep};
+ghost use Rattle.normal.specs.Request.{Ready, sendsOf, againVerdict, knownVerdict, newVerdict, clientVerdict, requestVerdict, served, took, answered, resent, accepted, requestStep};
 ghost use Rattle.numbers.specs.Lending.{was, last};
 use client_table::Latest;
 use entries::Entry;
@@ -16,7 +16,7 @@ use state::Returned;
 // What a Request calls for: nothing; its reply again; refusal 4, 9 or 10; or it is appended.
 pub enum RequestVerdict {
     Nothing,
-    Resend,
+    Resend { reply: Outcome },
     Refuse { code: u8 },
     Append,
 }
@@ -29,20 +29,28 @@ fn sends(s: Replica) -> usize
     51 * (s.setup.n as usize - 1)
 }
 
-// A number no larger than the client's latest: the reply again, if it is the latest and there is one.
-fn weigh_known(e: Entry, latest: Latest, room: usize) -> RequestVerdict
-    ensures { λ r. ⌜ r ≡ knownVerdict e latest room ⌝ }
+// No new number, and the reply of the client's latest request, `request`, is kept: it goes out again if that is the number.
+fn weigh_again(e: Entry, request: u64, reply: Outcome, room: usize) -> RequestVerdict
+    ensures { λ r. ⌜ r ≡ againVerdict e request reply room ⌝ }
 {
-    if e.request < latest.request {
-        return RequestVerdict::Nothing;
-    }
-    if !latest.replied {
+    if e.request < request {
         return RequestVerdict::Nothing;
     }
     if room < 36 {
         return RequestVerdict::Refuse { code: 10 };
     }
-    RequestVerdict::Resend
+    RequestVerdict::Resend { reply }
+}
+
+// No new number: the reply again, if it is the client's latest and there is one.
+fn weigh_known(e: Entry, latest: Latest, room: usize) -> RequestVerdict
+    ensures { λ r. ⌜ r ≡ knownVerdict e latest room ⌝ }
+{
+    match latest {
+        Latest::Nothing => RequestVerdict::Nothing,
+        Latest::Waiting { .. } => RequestVerdict::Nothing,
+        Latest::Answered { request, reply } => weigh_again(e, request, reply, room),
+    }
 }
 
 // `out` and `reps` are the sizes of the two areas.
@@ -63,10 +71,7 @@ fn weigh_client(s: Replica, e: Entry, latest: Latest, out: usize, reps: usize) -
     requires { ⌜ (0 < s .setup .n) × (s .setup .n ≤ 7) ⌝ }
     ensures { λ r. ⌜ r ≡ clientVerdict s e latest out reps ⌝ }
 {
-    if !latest.there {
-        return weigh_new(s, out);
-    }
-    if latest.request < e.request {
+    if client_table::is_new(latest, e.request) {
         return weigh_new(s, out);
     }
     weigh_known(e, latest, reps)
@@ -130,10 +135,9 @@ pub fn on_request(
     requires { ⌜ Ready s (length (now log)) (length (now acks)) ⌝ }
     ensures { λ r. ⌜ served r (last log) (last acks) (last out) (last reps) ≡ requestStep s e latest (was log) (was acks) (was out) (was reps) ⌝ }
 {
-    let o = latest.reply;
     match weigh(s, e, latest, out.len(), reps.len()) {
         RequestVerdict::Nothing => state::done(s, 0, 0, false),
-        RequestVerdict::Resend => resend(s, e, o, reps),
+        RequestVerdict::Resend { reply } => resend(s, e, reply, reps),
         RequestVerdict::Refuse { code } => state::refused(code, s),
         RequestVerdict::Append => accept(s, e, log, acks, out),
     }

@@ -2,6 +2,7 @@
 --     unsound, is-checked           each way out of `checked`
 --     past-1, passed-is             past refusal 1 the frame decides; what a frame says that passed
 --     told-his, told-other          what the handler is told, by whether the message carries an entry
+--     told-answered                 a reply that he is told is the one that is kept
 -- Assumes nothing.
 use mathlib.Core.Path.{_≡_, sym, ap, _∙_, subst}
 use mathlib.Core.Bool.{Bool, true, false, not}
@@ -9,14 +10,16 @@ use mathlib.Core.List.{List}
 use Prim.Native.Nat.{ℕ}
 use borrow.Author.Tests.{not-false}
 use Rattle.numbers.proofs.WordLaws.{split, if-true, if-false}
+use Rattle.fees.specs.declared.Outcome.{Outcome}
 use Rattle.frames.specs.Refusals.{checkFrame}
 use Rattle.frames.specs.declared.Message.{Message}
 use Rattle.frames.specs.declared.Checked.{Checked}
 use Rattle.frames.specs.declared.Checked.the-variants.{Passed, Refused}
 use Rattle.client_table.specs.declared.Latest.{Latest}
+use Rattle.client_table.specs.declared.Latest.the-variants.{Nothing, Waiting, Answered}
 use Rattle.state.specs.declared.Replica.{Replica}
 use Rattle.outside.specs.Sound.{sound}
-use Rattle.outside.specs.Calls.{checkedOf, carriedBy, nobody, toldOf}
+use Rattle.outside.specs.Calls.{checkedOf, carriedBy, toldOf}
 use Rattle.outside.specs.declared.Lengths.{Lengths}
 
 -- a frame isn't refused and passed at once
@@ -48,12 +51,26 @@ module _ (s : Replica) (l : Lengths) (frame : List ℕ) where
       split (λ (j : Checked). j ≡ Passed m → (sound s l ≡ true) × (checkFrame (s .setup) frame ≡ Passed m)) (not (sound s l)) _ _
       (λ _ r. absurd (refused-passed r)) (λ f r. (not-false (sound s l) f, r))
 
+-- of a client whose reply is kept something is known
+abbrev Unanswered : Latest → Type 0
+Unanswered Nothing = Unit
+Unanswered (Waiting request) = Unit
+Unanswered (Answered request o) = ⊥
+
+nothing-answered : {r : ℕ} {o : Outcome} → Nothing ≡ Answered r o → ⊥
+nothing-answered p = subst Unanswered p tt
+
 -- what the handler is told
 module _ (m : Message) (l : Latest) where
   pub told-his : carriedBy m .carries ≡ true → toldOf m l ≡ l
   unfolding toldOf
   told-his e = if-true _ _ _ e
 
-  pub told-other : carriedBy m .carries ≡ false → toldOf m l ≡ nobody
+  pub told-other : carriedBy m .carries ≡ false → toldOf m l ≡ Nothing
   unfolding toldOf
   told-other e = if-false _ _ _ e
+
+  pub told-answered : {r : ℕ} {o : Outcome} → toldOf m l ≡ Answered r o → l ≡ Answered r o
+  unfolding toldOf
+  told-answered {r} {o} =
+      split (λ (k : Latest). k ≡ Answered r o → l ≡ Answered r o) (carriedBy m .carries) l Nothing (λ _ p. p) (λ _ p. absurd (nothing-answered p))

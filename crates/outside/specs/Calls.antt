@@ -10,6 +10,7 @@ use Rattle.frames.specs.declared.Message.the-variants.{Request, Prepare, Prepar
 use Rattle.frames.specs.declared.Checked.{Checked}
 use Rattle.frames.specs.declared.Checked.the-variants.{Refused}
 use Rattle.client_table.specs.declared.Latest.{Latest}
+use Rattle.client_table.specs.declared.Latest.the-variants.{Nothing}
 use Rattle.client_table.specs.declared.Change.{Change}
 use Rattle.state.specs.declared.Returned.{Returned}
 use Rattle.state.specs.declared.Replica.{Replica}
@@ -43,13 +44,9 @@ carriedBy (StartView v o c) = noEntry
 carriedBy (Recovery r x v) = noEntry
 carriedBy (RecoveryResponse v x r t) = noEntry
 
--- a client of whom nothing is known
-abbrev pub nobody : Latest
-nobody = record { there = false; request = 0; replied = false; reply = record { code = 0; total = 0 } }
-
 -- what the handler is told of a client's latest request: only of him whose entry the message carries
 unfoldable pub toldOf : Message → Latest → Latest
-toldOf m l = if carriedBy m .carries then l else nobody
+toldOf m l = if carriedBy m .carries then l else Nothing
 
 -- what a call did to the log, s being the state before it
 abbrev pub changeBy : Replica → Returned → Change

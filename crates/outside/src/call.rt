@@ -1,12 +1,11 @@
 // A frame's refusals, whose entry its message carries, and what the client table has to follow.
 ghost use mathlib.Core.Path.{_≡_};
-ghost use Rattle.outside.specs.Calls.{checkedOf, entryFrom, noEntry, carriedBy, nobody, toldOf, changeBy};
+ghost use Rattle.outside.specs.Calls.{checkedOf, entryFrom, noEntry, carriedBy, toldOf, changeBy};
 ghost use Rattle.numbers.specs.Lending.{was};
 use crate::Lengths;
 use crate::sound;
 use client_table::Change;
 use client_table::Latest;
-use fees::Outcome;
 use frames::Checked;
 use frames::Message;
 use state::Replica;
@@ -65,18 +64,6 @@ pub fn carried_by(m: Message) -> Carrying
     }
 }
 
-// A client of whom nothing is known.
-pub fn nobody() -> Latest
-    ensures { λ r. ⌜ r ≡ nobody ⌝ }
-{
-    Latest {
-        there: false,
-        request: 0,
-        replied: false,
-        reply: Outcome { code: 0, total: 0 },
-    }
-}
-
 // What the handler is told of a client's latest request: only of him whose entry the message carries.
 pub fn told(m: Message, l: Latest) -> Latest
     ensures { λ r. ⌜ r ≡ toldOf m l ⌝ }
@@ -84,7 +71,7 @@ pub fn told(m: Message, l: Latest) -> Latest
     if carried_by(m).carries {
         return l;
     }
-    nobody()
+    Latest::Nothing
 }
 
 // What a call that wasn't refused did to the log, s being the state before it.

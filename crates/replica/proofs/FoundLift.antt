@@ -1,29 +1,31 @@
--- What table::find tells the core of a client is what the model's table has of it, on rows as calls leave them. Assumes nothing.
-use Prim.Native.Nat.{ℕ}
-use mathlib.Core.Path.{_≡_, refl, sym, ap, _∙_}
-use mathlib.Core.Bool.{Bool, true, false, not}
+-- What table::find tells the core of a client.
+--     found-tells         on rows as calls leave them it is what the model's table has of it
+--     latest-outcome      on any bytes, a reply that is told has an outcome of 1 to 6
+-- Assumes nothing.
+use Prim.Native.Nat.{ℕ, _≤_}
+use mathlib.Core.Path.{_≡_, sym}
 use mathlib.Core.List.{List}
-use mathlib.Core.Option.{Option, none, some}
-use lib.Dec.{eqb}
-use Rattle.numbers.specs.Words.{if_then_else_}
-use Rattle.client_table_bytes.specs.Layout.{byteRow}
+use Rattle.frames.specs.declared.Message.{Message}
+use Rattle.fees.specs.declared.Outcome.{Outcome}
+use Rattle.client_table.specs.declared.Latest.the-variants.{Answered}
+use Rattle.client_table.proofs.LatestLaws.{latest-same}
+use Rattle.client_table_bytes.specs.Layout.{byteRow, rowsOf}
 use Rattle.client_table_bytes.specs.Steps.{foundIn, latestOf}
 use Rattle.client_table_bytes.specs.declared.MarkedRow.{MarkedRow}
-use Rattle.client_table_bytes.proofs.LayoutLaws.{byte-lawful}
+use Rattle.client_table_bytes.proofs.LayoutLaws.{byte-lawful, answered-outcome}
 use Rattle.layout.specs.Layout.{tableOf, Ordered}
 use Rattle.layout.specs.Shown.{Tells}
 use Rattle.layout.proofs.RowLift.{find-there, find-row}
-
-turned : {A : Type 0} (b : Bool) (x y : A) → (if not b then x else y) ≡ (if b then y else x)
-unfolding if_then_else_
-turned true x y = refl
-turned false x y = refl
+use Rattle.outside.specs.Calls.{carriedBy}
+use Rattle.outside.proofs.CallLaws.{told-answered}
+use Rattle.replica.specs.Calls.{latestFor}
 
 pub found-tells : (xs : List MarkedRow) (c : ℕ) → Ordered byteRow xs → Tells (tableOf byteRow xs) c (latestOf (foundIn xs c))
 unfolding foundIn
 found-tells xs c o =
-    record {
-      there = sym (find-there byteRow xs o byte-lawful c);
-      request = λ t. sym (find-row byteRow xs o byte-lawful c t .0);
-      kept = λ t. turned _ _ _ ∙ sym (find-row byteRow xs o byte-lawful c t .1);
-    }
+    latest-same _ _ _ _ _ _ (sym (find-there byteRow xs o byte-lawful c))
+    (λ t. let r = find-row byteRow xs o byte-lawful c t in (sym (r .0), sym (r .1)))
+
+pub latest-outcome : (m : Message) (n : ℕ) (table : List ℕ) {r : ℕ} {o : Outcome} → latestFor m n table ≡ Answered r o → (1 ≤ o .code) × (o .code ≤ 6)
+unfolding latestFor
+latest-outcome m n table p = let f = foundIn (rowsOf n table) (carriedBy m .client) in answered-outcome f (told-answered m (latestOf f) p)

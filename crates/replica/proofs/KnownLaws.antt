@@ -23,6 +23,7 @@ use Rattle.frames.specs.declared.Message.{Message}
 use Rattle.frames.specs.declared.Message.the-variants.{Request, Prepare, PrepareOk, Commit, GetState, NewState, StartViewChange, DoViewChange, StartView, Recovery, RecoveryResponse}
 use Rattle.frames.specs.declared.Checked.the-variants.{Passed}
 use Rattle.client_table.specs.declared.Latest.{Latest}
+use Rattle.client_table.specs.declared.Latest.the-variants.{Nothing}
 use Rattle.client_table_bytes.specs.declared.Found.{Found}
 use Rattle.client_table_bytes.specs.Layout.{rowsOf}
 use Rattle.client_table_bytes.specs.Steps.{foundIn, latestOf, AppendsFor}
@@ -46,7 +47,7 @@ use Rattle.steps.specs.Recorded.{Recorded, recorded, Gathering}
 use Rattle.normal.specs.Prepare.{preparedBy}
 use Rattle.handlers.specs.Handlers.{handled, messageStep}
 use Rattle.handlers.proofs.FrameLaws.{request-ok, prepare-ok}
-use Rattle.outside.specs.Calls.{carriedBy, nobody, changeBy}
+use Rattle.outside.specs.Calls.{carriedBy, changeBy}
 use Rattle.outside.specs.declared.call.Carrying.{Carrying}
 use Rattle.outside.proofs.CallLaws.{told-his, told-other}
 use Rattle.replica.specs.declared.call.Known.{Known}
@@ -67,7 +68,7 @@ module _ {m : Message} {n : ℕ} {table : List ℕ} {k : Known} (c : Carrying) (
         latest = h .1 .1 ∙ ap latestOf is ∙ sym (told-his m _ his);
       }
 
-  pub none-known : c .carries ≡ false → (k .carries ≡ false) × (k .latest ≡ nobody) → KnownFor m n table k
+  pub none-known : c .carries ≡ false → (k .carries ≡ false) × (k .latest ≡ Nothing) → KnownFor m n table k
   unfolding latestFor
   none-known t h =
       let his = ap (λ (z : Carrying). z .carries) (sym e) ∙ t in
@@ -102,18 +103,18 @@ module _ (s : Replica) (m : Memory) (h : Gathering s m) where
 
   -- ---- Request
 
-  call-one : (e : Entry) (latest : Latest) → EntryFits e → (k : RequestVerdict)
-      → let d = Requests.byCall k s e latest (m .runs .log) (m .acks) (m .out) (m .reps) in One s (e .client) (d .answer) (d .log)
+  call-one : (e : Entry) → EntryFits e → (k : RequestVerdict)
+      → let d = Requests.byCall k s e (m .runs .log) (m .acks) (m .out) (m .reps) in One s (e .client) (d .answer) (d .log)
   unfolding Requests.byCall Requests.resent Requests.accepted
-  call-one e latest f Calls.Nothing = still-one refl refl
-  call-one e latest f Calls.Resend = still-one refl refl
-  call-one e latest f (Calls.Refuse k) = still-one refl refl
-  call-one e latest f Calls.Append = record { kept = refl; one = omega arith; client = λ l. next e f }
+  call-one e f Calls.Nothing = still-one refl refl
+  call-one e f (Calls.Resend o) = still-one refl refl
+  call-one e f (Calls.Refuse k) = still-one refl refl
+  call-one e f Calls.Append = record { kept = refl; one = omega arith; client = λ l. next e f }
 
   request-one : (e : Entry) (latest : Latest) → EntryFits e
       → let d = requestStep s e latest (m .runs .log) (m .acks) (m .out) (m .reps) in One s (e .client) (d .answer) (d .log)
   unfolding requestStep
-  request-one e latest f = call-one e latest f (Requests.requestVerdict s e latest (length (m .out)) (length (m .reps)))
+  request-one e latest f = call-one e f (Requests.requestVerdict s e latest (length (m .out)) (length (m .reps)))
 
   -- ---- Prepare
 

@@ -5,12 +5,13 @@ ghost use lib.ListN.{length};
 ghost use Rattle.frames.specs.Refusals.{checkFrame};
 ghost use Rattle.frames.specs.declared.Checked.the-variants.{Passed};
 ghost use Prim.Native.Nat.{_*_, _≤_};
+ghost use Rattle.client_table.specs.declared.Latest.the-variants.{Nothing};
 ghost use Rattle.client_table_bytes.specs.Layout.{rowsOf};
 ghost use Rattle.client_table_bytes.specs.Steps.{foundIn, latestOf, AppendsFor};
 ghost use Rattle.state.specs.Lengths.{tableLength};
 ghost use Rattle.steps.specs.Recorded.{Gathering};
 ghost use Rattle.book.specs.Memory.{memoryHeld};
-ghost use Rattle.outside.specs.Calls.{nobody, changeBy};
+ghost use Rattle.outside.specs.Calls.{changeBy};
 ghost use Rattle.replica.specs.Calls.{KnownFor, Following, tabled, followedBy, checkedCall};
 ghost use Rattle.replica.specs.Lent.{called, Keeps, lentBefore, lentAfter};
 ghost use Rattle.replica.specs.Promise.{MessagePromise, IdlePromise};
@@ -33,7 +34,7 @@ pub struct Known {
 
 // Of a message that carries no entry.
 fn nothing() -> Known
-    ensures { λ r. ⌜ (r .carries ≡ false) × (r .latest ≡ nobody) ⌝ }
+    ensures { λ r. ⌜ (r .carries ≡ false) × (r .latest ≡ Nothing) ⌝ }
 {
     let row = MarkedRow {
         client: 0,
@@ -48,7 +49,7 @@ fn nothing() -> Known
             there: false,
             row,
         },
-        latest: outside::call::nobody(),
+        latest: Latest::Nothing,
     }
 }
 

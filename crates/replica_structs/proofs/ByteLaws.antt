@@ -1,7 +1,7 @@
 -- Rows of structs, and the same rows in bytes.
 --     blank-ok                           unused rows are rows as they are to be
 --     followed-same, followed-ok         what a call changes, in both forms
---     told-alike                         what is told of a client, from both
+--     told-alike                         what is told of a client is the same from both
 --     bytes-long, rows-read, blank-bytes    rows written as bytes, and read again; unused ones
 -- Assumes nothing.
 use mathlib.Core.Path.{_≡_, refl, sym, ap, _∙_, subst}
@@ -12,24 +12,26 @@ use native.Mathlib.Omega.{arith}
 use lib.Dec.{eqb}
 use lib.ListN.{length, drop, replicate, length-map, drop-of-length-le}
 use borrow.Author.Tests.{ne-eqb}
-use Rattle.numbers.specs.Numbers.{over}
+use Rattle.numbers.specs.Words.{_and_}
+use Rattle.numbers.specs.Numbers.{over, within}
 use Rattle.numbers.specs.Cells.{packed}
-use Rattle.numbers.proofs.WordLaws.{and-left}
+use Rattle.numbers.proofs.WordLaws.{and-left, if-false}
 use Rattle.numbers.proofs.CellLaws.{packed-length}
 use Rattle.entries.specs.Entries.{EntryFits}
 use Rattle.entries.specs.declared.Entry.{Entry}
-use Rattle.fees.specs.Fees.{gives}
 use Rattle.fees.specs.Results.{ResultFits}
 use Rattle.fees.specs.declared.Outcome.{Outcome}
 use Rattle.client_table.specs.Rows.{spotOf, isThere, followed}
 use Rattle.client_table.specs.Shape.{rowAt}
+use Rattle.client_table.specs.Latest.{keptOf}
 use Rattle.client_table.specs.declared.Change.{Change}
+use Rattle.client_table.proofs.LatestLaws.{latest-same}
 use Rattle.client_table.proofs.AlikeLaws.{Alike, Both, Coded, spot-row, there-alike, followed-alike}
 use Rattle.client_table_bytes.specs.Layout.{byteRow, rowWith, rowOf, encodeRow, rowsOf, noRow}
 use Rattle.client_table_bytes.specs.Steps.{RowFits, latestOf, foundIn}
 use Rattle.client_table_bytes.specs.declared.MarkedRow as T
 use Rattle.client_table_bytes.proofs.LayoutLaws.{row-codec, left-cleared}
-use Rattle.client_table_structs.specs.Shape.{unusedRow, structRow, isUsed, isKept, outcomeIn, latestAmong}
+use Rattle.client_table_structs.specs.Shape.{unusedRow, structRow, isUsed, replyIn, latestAmong}
 use Rattle.client_table_structs.specs.Shape as S
 use Rattle.client_table_structs.specs.declared.Row.{Row}
 use Rattle.client_table_structs.specs.declared.KeptReply.{KeptReply}
@@ -37,7 +39,6 @@ use Rattle.client_table_structs.specs.declared.KeptReply.the-variants.{Unused, 
 use Rattle.safety.specs.Ranges.{All}
 use Rattle.replica.proofs.RowLaws.{followed-fits, read-back}
 use Rattle.replica_structs.specs.Promise.{markOf, totalIn, byteOf, tableBytes, ReplyOk, RowsOk}
-use Rattle.replica_structs.proofs.LatestLaws.{SameTold}
 
 -- ---- a row
 
@@ -51,17 +52,11 @@ used-same Unused r = refl
 used-same Waiting r = refl
 used-same (Kept c t) r = ap not (sym (ne-eqb c 0 (λ e. omega (arith, e, r .0))))
 
-kept-same : (k : KeptReply) → ReplyOk k → isUsed k ≡ true → isKept k ≡ not (eqb (markOf k) 255)
-unfolding isUsed isKept markOf
-kept-same Unused r u = absurd (false≢true u)
-kept-same Waiting r u = refl
-kept-same (Kept c t) r u = ap not (sym (ne-eqb c 255 (λ e. omega (arith, e, r .1))))
-
-outcome-same : (k : KeptReply) → isKept k ≡ true → outcomeIn k ≡ gives (markOf k) (totalIn k)
-unfolding isKept outcomeIn markOf totalIn
-outcome-same Unused u = absurd (false≢true u)
-outcome-same Waiting u = absurd (false≢true u)
-outcome-same (Kept c t) u = refl
+kept-same : (k : KeptReply) → isUsed k ≡ true → replyIn k ≡ keptOf (markOf k) (totalIn k)
+unfolding isUsed replyIn markOf totalIn keptOf within _and_
+kept-same Unused u = absurd (false≢true u)
+kept-same Waiting u = sym (if-false _ _ _ refl)
+kept-same (Kept c t) u = refl
 
 struct-alike : Alike structRow byteRow Is
 unfolding byteOf markOf totalIn
@@ -126,18 +121,17 @@ module _ (k : Change) (xs : List Row) (ok : RowsOk xs) (log : List Entry) (os : 
 
 -- ---- what is told of a client
 
-pub told-alike : (xs : List Row) → RowsOk xs → (c : ℕ) → SameTold (latestAmong xs c) (latestOf (foundIn (map byteOf xs) c))
+pub told-alike : (xs : List Row) → RowsOk xs → (c : ℕ) → latestAmong xs c ≡ latestOf (foundIn (map byteOf xs) c)
 unfolding S.foundAmong foundIn isThere byteOf
 told-alike xs ok c =
     let b = all-both xs ok in
     let x : Row = rowAt structRow xs (spotOf structRow xs c) in
     let i = spot-row structRow byteRow Is struct-alike xs (map byteOf xs) b c c refl in
-    record {
-      there = there-alike structRow byteRow Is struct-alike xs (map byteOf xs) b c c refl;
-      request = ap (λ (z : T.MarkedRow). z .request) (i .1);
-      replied = λ t. kept-same (x .reply) (i .0) (and-left _ _ t) ∙ ap (λ (z : T.MarkedRow). not (eqb (z .mark) 255)) (i .1);
-      reply = λ t r. outcome-same (x .reply) r ∙ ap (λ (z : T.MarkedRow). gives (z .mark) (z .total)) (i .1);
-    }
+    latest-same _ _ _ _ _ _ (there-alike structRow byteRow Is struct-alike xs (map byteOf xs) b c c refl)
+    (λ t. (
+      ap (λ (z : T.MarkedRow). z .request) (i .1),
+      kept-same (x .reply) (and-left _ _ t) ∙ ap (λ (z : T.MarkedRow). keptOf (z .mark) (z .total)) (i .1),
+    ))
 
 -- ---- rows in bytes
 

@@ -1,5 +1,4 @@
 pub mod CoreLaws
-pub mod LatestLaws
 pub mod CodedLaws
 pub mod ByteLaws
 pub mod StepLaws

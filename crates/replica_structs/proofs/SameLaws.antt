@@ -17,6 +17,7 @@ use Rattle.frames.specs.Refusals.{checkFrame}
 use Rattle.frames.specs.declared.Message.{Message}
 use Rattle.frames.specs.declared.Checked.{Checked}
 use Rattle.frames.specs.declared.Checked.the-variants.{Passed, Refused}
+use Rattle.client_table.specs.declared.Latest.{Latest}
 use Rattle.client_table_bytes.specs.Steps.{foundIn, latestOf}
 use Rattle.client_table_bytes.specs.declared.MarkedRow as B
 use Rattle.client_table_structs.specs.Shape.{unusedRow, latestAmong}
@@ -44,7 +45,6 @@ use Rattle.replica.proofs.KeptLaws.{given, rows, fit, row-tells}
 use Rattle.replica_structs.specs.Core.{lengthsIn, clientIn, checkedCore, idleCore, startedIn, createCore, recoverCore}
 use Rattle.replica_structs.specs.Calls.{LentRows, followingRows, checkedRows, messageRows, idleRows, clearedRows, createRows, recoverRows}
 use Rattle.replica_structs.specs.Promise.{tableBytes, inBytes, calledBytes, RowsOk, KeptRows}
-use Rattle.replica_structs.proofs.LatestLaws.{SameTold, same-told, told-same}
 use Rattle.replica_structs.proofs.ByteLaws.{blank-ok, told-alike, bytes-long, blank-bytes}
 use Rattle.replica_structs.proofs.StepLaws.{Keeps, table-read, refused-keeps, step-same}
 
@@ -66,15 +66,13 @@ module _ (s : Replica) (x : LentRows) (applied : List Entry) (o : Owned (inBytes
   sound-is : sound s (lengthsIn (x .core) (length (x .table)) (length (x .old))) ≡ true
   sound-is = rw (← bytes-long (x .table), ← bytes-long (x .old)) (kept .kept .sound)
 
-  told : (z : Message) → SameTold (toldOf z (latestAmong (x .table) (carriedBy z .client))) (latestFor z (s .setup .room) (tableBytes (x .table)))
-  unfolding toldOf latestFor
+  told : (z : Message) → toldOf z (latestAmong (x .table) (carriedBy z .client)) ≡ latestFor z (s .setup .room) (tableBytes (x .table))
+  unfolding latestFor
   told z =
       let client = carriedBy z .client in
-      split₂ SameTold _ _ _ _ _ _ refl
-      (λ _.
-      subst (λ (l : List B.MarkedRow). SameTold (latestAmong (x .table) client) (latestOf (foundIn l client))) (sym (table-read s x applied o kept))
-      (told-alike (x .table) (kept .rows) client))
-      (λ _. same-told _)
+      ap (toldOf z)
+      (told-alike (x .table) (kept .rows) client
+      ∙ ap (λ (l : List B.MarkedRow). latestOf (foundIn l client)) (sym (table-read s x applied o kept)))
 
   module _ (frame : List ℕ) (b : Bytes frame) where
     checked-keeps : (c : Checked) → checkFrame (s .setup) frame ≡ c → Keeps (checkedRows c s frame x) (checkedCall c s frame y)
@@ -84,7 +82,7 @@ module _ (s : Replica) (x : LentRows) (applied : List Entry) (o : Owned (inBytes
         let latest = latestFor z (s .setup .room) (tableBytes (x .table)) in
         let d = messageStep z s latest frame (x .core) in
         subst (λ (w : Recorded). Keeps (followingRows s (x .table) (x .old) w) (following s (y .table) (y .old) d))
-        (sym (told-same s (toldOf z (latestAmong (x .table) (carriedBy z .client))) latest (told z) frame (x .core) z))
+        (ap (λ (l : Latest). messageStep z s l frame (x .core)) (sym (told z)))
         (step-same s x applied o kept d (sized-to (onChecked (s .setup) (meaningOf s y applied) frame (Passed z)))
         (message-shown c (rows s y applied o (kept .kept)) applied (fit s y applied o (kept .kept)) z latest frame e b
         (row-tells s y applied o (kept .kept) z))

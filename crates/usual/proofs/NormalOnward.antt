@@ -70,16 +70,16 @@ module _ (s : Replica) where
 
   -- ---- Request
 
-  call-onward : (e : Entry) (latest : Latest) (k : RequestVerdict) (log acks out reps : List ℕ) → Onward s (Request.byCall k s e latest log acks out reps .answer .state)
+  call-onward : (e : Entry) (k : RequestVerdict) (log acks out reps : List ℕ) → Onward s (Request.byCall k s e log acks out reps .answer .state)
   unfolding Request.byCall Request.resent Request.accepted
-  call-onward e latest Calls.Nothing log acks out reps = refl
-  call-onward e latest Calls.Resend log acks out reps = refl
-  call-onward e latest (Calls.Refuse k) log acks out reps = refl
-  call-onward e latest Calls.Append log acks out reps = refl
+  call-onward e Calls.Nothing log acks out reps = refl
+  call-onward e (Calls.Resend o) log acks out reps = refl
+  call-onward e (Calls.Refuse k) log acks out reps = refl
+  call-onward e Calls.Append log acks out reps = refl
 
   pub request-onward : (e : Entry) (latest : Latest) (log acks out reps : List ℕ) → Onward s (requestStep s e latest log acks out reps .answer .state)
   unfolding requestStep
-  request-onward e latest log acks out reps = call-onward e latest _ log acks out reps
+  request-onward e latest log acks out reps = call-onward e _ log acks out reps
 
   -- ---- Prepare
 

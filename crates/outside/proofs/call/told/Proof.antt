@@ -10,7 +10,7 @@ returns : tie.Need-returns
 returns c = sym (told-his (c .before .before .args .m) (c .before .before .args .l) (ap (λ (k : Carrying). k .carries) (sym (c .before .carried-by .ensures)) ∙ c .if1 .taken))
 
 returns-2 : tie.Need-returns-2
-returns-2 c = c .nobody .ensures ∙ sym (told-other (c .before .before .before .args .m) (c .before .before .before .args .l) (ap (λ (k : Carrying). k .carries) (sym (c .before .before .carried-by .ensures)) ∙ c .before .if1 .left))
+returns-2 c = sym (told-other (c .before .before .args .m) (c .before .before .args .l) (ap (λ (k : Carrying). k .carries) (sym (c .before .carried-by .ensures)) ∙ c .if1 .left))
 
 pub told-spec : {M : Type 1} → statement M
-told-spec = tie.close (tie.spec (λ c κs. search needs) returns (λ c κs. search needs) returns-2)
+told-spec = tie.close (tie.spec (λ c κs. search needs) returns returns-2)
