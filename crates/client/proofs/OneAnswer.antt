@@ -12,7 +12,7 @@ use Rattle.client.specs.declared.AfterReply.{AfterReply}
 use Rattle.client.specs.declared.Resent.{Resent}
 use Rattle.client.specs.declared.Read.{Read}
 use Rattle.client.specs.Client.{createOf, requestedOf, requestedArea, repliedOf, idledOf, idledArea}
-use Rattle.client.specs.Replies.{readReply}
+use Rattle.client.specs.Replies.{Reads}
 
 pub one : {A : Type 0} {x y z : A} → x ≡ z → y ≡ z → x ≡ y
 one p q = p ∙ sym q
@@ -33,5 +33,5 @@ pub idled-one : (c : Client) (s : List ℕ) (r t : Resent) (x y : List ℕ)
     → (r ≡ idledOf c (length s)) × (x ≡ idledArea c s) → (t ≡ idledOf c (length s)) × (y ≡ idledArea c s) → (r ≡ t) × (x ≡ y)
 idled-one c s r t x y p q = (one (p .0) (q .0), one (p .1) (q .1))
 
-pub read-reply-one : (s : List ℕ) (r t : Read) → r ≡ readReply s → t ≡ readReply s → r ≡ t
-read-reply-one s r t = one
+pub read-reply-one : (s : List ℕ) (r t : Read) → Reads s r → Reads s t → r ≡ t
+read-reply-one s r t p q = one (p .exact) (q .exact)

@@ -4,26 +4,30 @@
 --     read-outcome            the same, from the outcome
 --     outcome-back, outcome-forth     an outcome is that of its number, and a number from 1 to 6 that of its outcome
 --     accepted, malformed-back, malformed-exactly     malformed exactly where `replyOk` is false
+--     read-number, reads      the number and values of a read are those that the bytes give, so that who answers the definition keeps the whole promise
 -- Assumes nothing.
 use mathlib.Core.Path.{_≡_, refl, sym, ap, _∙_}
 use mathlib.Core.Bool.{Bool, true, false}
-use mathlib.Core.List.{List}
+use mathlib.Core.List.{List, [], _∷_}
 use mathlib.Core.Logic.{⊎-elim}
-use Prim.Native.Nat.{ℕ, _+_, _^_, _≤_, _<_}
+use Prim.Native.Nat.{ℕ, _^_, _≤_, _<_}
 use native.Mathlib.Omega.{arith}
 use lib.Dec.{eqb, lit≤}
 use lib.ListN.{length}
 use borrow.Author.Tests.{eqb-true, ne-eqb}
 use Rattle.numbers.specs.Words.{if_then_else_, _and_}
-use Rattle.numbers.specs.Numbers.{num, big}
+use Rattle.numbers.specs.Numbers.{num, big, within}
 use Rattle.numbers.specs.declared.View.{View}
 use Rattle.numbers.proofs.WordLaws.{and-both, if-true, if-false}
-use Rattle.numbers.proofs.NumberLaws.{be-big, both-within, eq-or-not}
+use Rattle.numbers.proofs.NumberLaws.{be-big, within-both, both-within, eq-or-not}
+use Rattle.frames.specs.Kinds.{kindOf}
+use Rattle.frames.specs.Numbered.{numbered, inTurn}
 use Rattle.writers.specs.Writers.{header, reply}
 use Rattle.client.specs.declared.ReplyOutcome.{ReplyOutcome}
 use Rattle.client.specs.declared.ReplyOutcome.the-variants.{Fee, Refund, Ask, NoMember, PastLimit, PastTotal}
+use Rattle.client.specs.declared.Read.{Read}
 use Rattle.client.specs.declared.Read.the-variants.{Reply, Malformed}
-use Rattle.client.specs.Replies.{outcomeNumber, outcomeOf, replyOk, replySaid, readReply, readNumber}
+use Rattle.client.specs.Replies.{outcomeNumber, outcomeOf, replyOk, replySaid, readReply, readNumber, readNumbers, Reads}
 
 pub reply-long : (s : List ℕ) → replyOk s ≡ true → length s ≡ 36
 unfolding replyOk
@@ -71,12 +75,43 @@ pub malformed-back : (s : List ℕ) → replyOk s ≡ false → readReply s ≡ 
 unfolding readReply
 malformed-back s h = if-false (replyOk s) (replySaid s) Malformed h
 
-pub malformed-exactly : (s : List ℕ) → readNumber (readReply s) ≡ 2 → replyOk s ≡ false
+pub malformed-exactly : (s : List ℕ) → readNumber (readReply s) .number ≡ 2 → replyOk s ≡ false
 malformed-exactly s h = go (replyOk s) refl
   where
     go : (b : Bool) → replyOk s ≡ b → replyOk s ≡ false
-    go true e = absurd (omega (arith, sym h ∙ ap readNumber (accepted s e)))
+    go true e = absurd (omega (arith, sym h ∙ ap (λ (r : Read). readNumber r .number) (accepted s e)))
     go false e = e
+
+-- ---- the number and the values
+
+reply-outcome : (s : List ℕ) → replyOk s ≡ true → outcomeNumber (outcomeOf (num 1 27 s)) ≡ num 1 27 s
+unfolding replyOk
+reply-outcome s h =
+    let e = within 1 6 (num 1 27 s) in
+    let d = eqb (num 1 6 s) 0 in
+    let c = eqb (kindOf s) 12 in
+    let b = eqb (num 1 4 s) 1 in
+    let a = eqb (num 4 0 s) 32 in
+    let p = and-both (eqb (length s) 36) (a and b and c and d and e) h .1 in
+    let q = and-both a (b and c and d and e) p .1 in
+    let r = and-both b (c and d and e) q .1 in
+    let t = and-both c (d and e) r .1 in
+    let w = within-both 1 6 (num 1 27 s) (and-both d e t .1) in
+    outcome-forth (num 1 27 s) (w .0) (w .1)
+
+pub read-number : (s : List ℕ) → readNumber (readReply s) ≡ readNumbers s
+unfolding readNumbers inTurn
+read-number s = go (replyOk s) refl
+  where
+    go : (b : Bool) → replyOk s ≡ b → readNumber (readReply s) ≡ readNumbers s
+    go true e =
+        ap readNumber (accepted s e)
+        ∙ ap (λ (o : ℕ). numbered 0 (num 4 7 s ∷ num 8 11 s ∷ num 8 19 s ∷ o ∷ num 8 28 s ∷ [])) (reply-outcome s e)
+        ∙ sym (if-true (replyOk s) _ _ e)
+    go false e = ap readNumber (malformed-back s e) ∙ sym (if-false (replyOk s) _ _ e)
+
+pub reads : (s : List ℕ) (r : Read) → r ≡ readReply s → Reads s r
+reads s r e = record { exact = e; number = ap readNumber e ∙ read-number s }
 
 -- ---- what is written is read
 

@@ -1,13 +1,15 @@
 -- Document 01, "Frames", kind 12, read by the desk: a Reply is 36 bytes, its length field is 32, version 1, kind 12, addressee 0, then
 -- v client request outcome total(8), and the outcome is one of the six of "Fee rules". Anything else is malformed: 2. Assumes nothing.
+use mathlib.Core.Path.{_≡_}
 use mathlib.Core.Bool.{Bool}
-use mathlib.Core.List.{List}
+use mathlib.Core.List.{List, [], _∷_}
 use Prim.Native.Nat.{ℕ}
 use lib.Dec.{eqb}
 use lib.ListN.{length}
 use Rattle.numbers.specs.Words.{if_then_else_, _and_}
 use Rattle.numbers.specs.Numbers.{num, viewAt, within}
 use Rattle.frames.specs.Kinds.{kindOf}
+use Rattle.frames.specs.Numbered.{Numbered, numbered, inTurn}
 use Rattle.client.specs.declared.ReplyOutcome.{ReplyOutcome}
 use Rattle.client.specs.declared.ReplyOutcome.the-variants.{Fee, Refund, Ask, NoMember, PastLimit, PastTotal}
 use Rattle.client.specs.declared.Read.{Read}
@@ -49,7 +51,19 @@ replySaid s = Reply (viewAt 7 s) (num 8 11 s) (num 8 19 s) (outcomeOf (num 1 27 
 unfoldable pub readReply : List ℕ → Read
 readReply s = if replyOk s then replySaid s else Malformed
 
--- the document's refusal number of a read
-abbrev pub readNumber : Read → ℕ
-readNumber (Reply view client request outcome total) = 0
-readNumber Malformed = 2
+-- ---- the number and the values
+
+-- 0 with view, client, request, outcome and total, or refusal 2
+abbrev pub readNumber : Read → Numbered
+readNumber (Reply view client request outcome total) =
+    numbered 0 (view .0 ∷ client ∷ request ∷ outcomeNumber outcome ∷ total ∷ [])
+readNumber Malformed = numbered 2 []
+
+-- the same by the frame's bytes: v has 4 bytes, client, request and total 8 each, the outcome one
+unfoldable pub readNumbers : List ℕ → Numbered
+readNumbers s = if replyOk s then numbered 0 (inTurn (4 ∷ 8 ∷ 8 ∷ 1 ∷ 8 ∷ []) 7 s) else numbered 2 []
+
+-- what `read_reply` promises: the enum, and its number and values
+pub record Reads (s : List ℕ) (r : Read) : Type 0 where
+  pub exact : r ≡ readReply s
+  pub number : readNumber r ≡ readNumbers s

@@ -4,7 +4,7 @@ ghost use Prim.Native.Nat.{_*_, _≤_};
 ghost use lib.ListN.{length};
 ghost use Rattle.numbers.specs.Numbers.{Wrote};
 ghost use Rattle.client.specs.Client.{freshClient, createOf, requestRefusal, requestedOf, requestedArea, raisedView, awaits, leftPending, repliedOf, framesTo, framesAgain, idleRefusal, idledOf, idledArea};
-ghost use Rattle.client.specs.Replies.{outcomeOf, replyOk, readReply};
+ghost use Rattle.client.specs.Replies.{outcomeOf, replyOk, Reads};
 ghost use Rattle.numbers.specs.Lending.{was, last};
 use entries::Entry;
 use numbers::View;
@@ -339,7 +339,7 @@ fn reply_ok(frame: &[u8]) -> bool
 
 // What a Reply says, or that the frame is malformed: 2.
 pub fn read_reply(frame: &[u8]) -> Read
-    ensures { λ r. ⌜ r ≡ readReply (was frame) ⌝ }
+    ensures { λ r. ⌜ Reads (was frame) r ⌝ }
 {
     if !reply_ok(frame) {
         return Read::Malformed;

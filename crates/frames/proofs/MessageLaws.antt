@@ -19,11 +19,13 @@ use Rattle.numbers.specs.declared.Op.{Op}
 use Rattle.numbers.proofs.WordLaws.{if-true, if-false}
 use Rattle.numbers.proofs.NumberLaws.{within-both}
 use Rattle.frames.specs.Kinds.{roomOf, countOf, wellFormed}
-use Rattle.frames.specs.Messages.{responseState, messageOf, parseFrame, parsedNumber, stateRow, carriedOf, carriedBytes}
+use Rattle.frames.specs.Messages.{responseState, messageOf, parseFrame, stateRow, carriedOf, carriedBytes}
+use Rattle.frames.specs.Numbered.{parsedNumber}
 use Rattle.frames.specs.declared.RecoveryState.{RecoveryState}
 use Rattle.frames.specs.declared.RecoveryState.the-variants.{Absent, Present}
 use Rattle.frames.specs.declared.Message.{Message}
 use Rattle.frames.specs.declared.Message.the-variants.{Request, Prepare, PrepareOk, Commit, GetState, NewState, StartViewChange, DoViewChange, StartView, Recovery, RecoveryResponse}
+use Rattle.frames.specs.declared.Parsed.{Parsed}
 use Rattle.frames.specs.declared.Parsed.the-variants.{Frame, Malformed}
 use Rattle.frames.proofs.KindLaws.{each-kind, WellFormed, well-formed}
 use Rattle.numbers.specs.Numbers.{Bytes}
@@ -125,11 +127,11 @@ pub malformed-back : (s : List ℕ) → wellFormed s ≡ false → parseFrame s 
 unfolding parseFrame
 malformed-back s h = if-false (wellFormed s) (Frame (num 1 6 s) (messageOf (num 1 5 s) s)) Malformed h
 
-pub malformed-exactly : (s : List ℕ) → parsedNumber (parseFrame s) ≡ 2 → wellFormed s ≡ false
+pub malformed-exactly : (s : List ℕ) → parsedNumber (parseFrame s) .number ≡ 2 → wellFormed s ≡ false
 malformed-exactly s h = go (wellFormed s) refl
   where
     go : (b : Bool) → wellFormed s ≡ b → wellFormed s ≡ false
-    go true e = absurd (omega (arith, sym h ∙ ap parsedNumber (accepted s e)))
+    go true e = absurd (omega (arith, sym h ∙ ap (λ (p : Parsed). parsedNumber p .number) (accepted s e)))
     go false e = e
 
 -- ---- what a caller has from a parsed frame
@@ -145,7 +147,7 @@ pub parsed : (s : List ℕ) (to : ℕ) (m : Message) → parseFrame s ≡ Frame 
 parsed s to m h = go (wellFormed s) refl
   where
     go : (b : Bool) → wellFormed s ≡ b → Said s to m
-    go false e = absurd (omega (arith, ap parsedNumber (sym h ∙ malformed-back s e)))
+    go false e = absurd (omega (arith, ap (λ (p : Parsed). parsedNumber p .number) (sym h ∙ malformed-back s e)))
     go true e =
         let w = well-formed s e in
         let p : Frame to m ≡ Frame (num 1 6 s) (messageOf (num 1 5 s) s) = sym h ∙ accepted s e in

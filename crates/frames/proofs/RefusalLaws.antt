@@ -15,7 +15,8 @@ use Rattle.numbers.proofs.WordLaws.{split, or-left, or-right}
 use Rattle.entries.specs.Rising.{rising}
 use Rattle.config.specs.declared.Setup.{Setup}
 use Rattle.frames.specs.Messages.{parseFrame, carriedOf}
-use Rattle.frames.specs.Refusals.{wholeLog, refusalOf, verdict, checkParsed, checkFrame, checkedNumber}
+use Rattle.frames.specs.Refusals.{wholeLog, refusalOf, verdict, checkParsed, checkFrame}
+use Rattle.frames.specs.Numbered.{checkedNumber}
 use Rattle.frames.specs.declared.Message.{Message}
 use Rattle.frames.specs.declared.Carried.{Carried}
 use Rattle.frames.specs.declared.Parsed.{Parsed}
@@ -73,11 +74,11 @@ verdict-passed : (k : ℕ) (x m : Message) → verdict k x ≡ Passed m → (k �
 unfolding verdict
 verdict-passed k x m =
     split (λ (v : Checked). v ≡ Passed m → (k ≡ 0) × (x ≡ m)) (eqb k 0) (Passed x) (Refused k)
-    (λ b e. (eqb-true k 0 b, cc e)) (λ b e. absurd (eqb-false k 0 b (ap checkedNumber e)))
+    (λ b e. (eqb-true k 0 b, cc e)) (λ b e. absurd (eqb-false k 0 b (ap (λ (x : Checked). checkedNumber x .number) e)))
 
 passed-by : (u : Setup) (s : List ℕ) (m : Message) (p : Parsed) → parseFrame s ≡ p → checkParsed u s p ≡ Passed m → Fit u s m
 unfolding checkParsed
-passed-by u s m Malformed q e = absurd (omega (arith, ap checkedNumber e))
+passed-by u s m Malformed q e = absurd (omega (arith, ap (λ (x : Checked). checkedNumber x .number) e))
 passed-by u s m (Frame to x) q e =
     let v = verdict-passed (refusalOf u to (carriedOf x) s) x m e in
     let f = rw (v .1) at (unrefused u to (carriedOf x) s (v .0)) in
@@ -111,11 +112,11 @@ verdict-refused : (r k : ℕ) (x : Message) → verdict r x ≡ Refused k → (r
 unfolding verdict
 verdict-refused r k x =
     split (λ (v : Checked). v ≡ Refused k → (r ≡ k) × (r ≡ 0 → ⊥)) (eqb r 0) (Passed x) (Refused r)
-    (λ b e. absurd (let z : _≡_ {A = ℕ} 0 1 = cc e in omega arith)) (λ b e. (ap checkedNumber e, eqb-false r 0 b))
+    (λ b e. absurd (let z : _≡_ {A = ℕ} 0 1 = cc e in omega arith)) (λ b e. (ap (λ (x : Checked). checkedNumber x .number) e, eqb-false r 0 b))
 
 refused-by : (u : Setup) (s : List ℕ) (k : ℕ) (p : Parsed) → checkParsed u s p ≡ Refused k → Listed k
 unfolding checkParsed
-refused-by u s k Malformed e = inl (sym (ap checkedNumber e))
+refused-by u s k Malformed e = inl (sym (ap (λ (x : Checked). checkedNumber x .number) e))
 refused-by u s k (Frame to x) e =
     let v = verdict-refused (refusalOf u to (carriedOf x) s) k x e in
     rw (v .0) at (refusal-number u to (carriedOf x) s (v .1))

@@ -40,11 +40,6 @@ messageOf k s =
 unfoldable pub parseFrame : List ℕ → Parsed
 parseFrame s = if wellFormed s then Frame (num 1 6 s) (messageOf (kindOf s) s) else Malformed
 
--- the document's refusal number of a parse
-abbrev pub parsedNumber : Parsed → ℕ
-parsedNumber (Frame to m) = 0
-parsedNumber Malformed = 2
-
 abbrev pub noOp : Op
 noOp = record { 0 = 0 }
 

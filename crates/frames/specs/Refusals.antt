@@ -40,8 +40,3 @@ checkParsed u s (Frame to m) = verdict (refusalOf u to (carriedOf m) s) m
 
 unfoldable pub checkFrame : Setup → List ℕ → Checked
 checkFrame u s = checkParsed u s (parseFrame s)
-
--- the document's number of a check
-abbrev pub checkedNumber : Checked → ℕ
-checkedNumber (Passed m) = 0
-checkedNumber (Refused k) = k

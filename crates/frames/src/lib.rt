@@ -3,8 +3,9 @@ ghost use mathlib.Core.Path.{_≡_};
 ghost use Prim.Native.Nat.{_+_, _*_, _≤_};
 ghost use lib.ListN.{length};
 ghost use Rattle.frames.specs.Kinds.{kindOf};
-ghost use Rattle.frames.specs.Messages.{parseFrame, carriedOf, carriedBytes};
-ghost use Rattle.frames.specs.Refusals.{refusalOf, checkFrame};
+ghost use Rattle.frames.specs.Messages.{carriedOf, carriedBytes};
+ghost use Rattle.frames.specs.Refusals.{refusalOf};
+ghost use Rattle.frames.specs.Numbered.{Parses, Checks};
 ghost use Rattle.frames.specs.Looks.{looksAt};
 ghost use Rattle.numbers.specs.Lending.{was};
 use config::Setup;
@@ -121,7 +122,7 @@ pub fn kind_of(frame: &[u8]) -> u8
 
 // The addressee and the message of a frame, or that it is malformed: refusal 2.
 pub fn parse(frame: &[u8]) -> Parsed
-    ensures { λ r. ⌜ r ≡ parseFrame (was frame) ⌝ }
+    ensures { λ r. ⌜ Parses (was frame) r ⌝ }
 {
     if !shape::well_formed(frame) {
         return Parsed::Malformed;
@@ -158,7 +159,7 @@ fn refusal(u: Setup, to: u8, x: Carried, frame: &[u8]) -> u8
 
 // The message of a frame that a replica of this setup may look at, or the refusal that the frame alone earns.
 pub fn check(u: Setup, frame: &[u8]) -> Checked
-    ensures { λ r. ⌜ r ≡ checkFrame u (was frame) ⌝ }
+    ensures { λ r. ⌜ Checks u (was frame) r ⌝ }
 {
     match parse(frame) {
         Parsed::Malformed => Checked::Refused { number: 2 },

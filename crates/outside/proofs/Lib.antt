@@ -1,3 +1,4 @@
 pub mod SoundLaws
 pub mod CallLaws
+pub mod CheckedLaws
 pub mod CreateLaws

@@ -1,3 +1,4 @@
 pub mod Sound
 pub mod Calls
+pub mod CheckedNumbers
 pub mod Creation

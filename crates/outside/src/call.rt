@@ -1,6 +1,7 @@
 // A frame's refusals, whose entry its message carries, and what the client table has to follow.
 ghost use mathlib.Core.Path.{_≡_};
-ghost use Rattle.outside.specs.Calls.{checkedOf, entryFrom, noEntry, carriedBy, toldOf, changeBy};
+ghost use Rattle.outside.specs.Calls.{entryFrom, noEntry, carriedBy, toldOf, changeBy};
+ghost use Rattle.outside.specs.CheckedNumbers.{ChecksCall};
 ghost use Rattle.numbers.specs.Lending.{was};
 use crate::Lengths;
 use crate::sound;
@@ -13,7 +14,7 @@ use state::Returned;
 
 // Refusal 1, then 2 to 6 on the frame alone.
 pub fn checked(s: Replica, l: Lengths, frame: &[u8]) -> Checked
-    ensures { λ r. ⌜ r ≡ checkedOf s l (was frame) ⌝ }
+    ensures { λ r. ⌜ ChecksCall s l (was frame) r ⌝ }
 {
     if !sound::is_sound(s, l) {
         return Checked::Refused { number: 1 };

@@ -4,7 +4,7 @@ use mathlib.Core.Path.{_≡_, sym, _∙_}
 use native.Mathlib.Omega.{arith}
 use lib.ListN.{length}
 use Rattle.client.specs.Replies.{replyOk}
-use Rattle.client.proofs.ReplyLaws.{reply-long, accepted, malformed-back}
+use Rattle.client.proofs.ReplyLaws.{reply-long, accepted, malformed-back, reads}
 use borrow.Author.Tests.{not-true, not-false}
 use borrow.Author.Needs.{needs}
 use Rattle.client.proofs.read_reply.Statement.{statement}
@@ -17,11 +17,12 @@ long : (c : tie.Else1) → length (c .before .before .before .args .frame .now) 
 long c = reply-long (c .before .before .before .args .frame .now) (passed c)
 
 returns : tie.Need-returns
-returns c = sym (malformed-back _ (sym (c .before .reply-ok .ensures) ∙ not-true (c .before .reply-ok .result) (c .if1 .taken)))
+returns c = reads _ _ (sym (malformed-back _ (sym (c .before .reply-ok .ensures) ∙ not-true (c .before .reply-ok .result) (c .if1 .taken))))
 
 returns-2 : tie.Need-returns-2
 returns-2 c =
-    rw (
+    reads _ _
+    (rw (
       accepted _ (passed (c .before .before .before .before .before .before)),
       ← c .before .before .before .before .before .read-view .ensures,
       ← c .before .before .before .before .read-u64 .ensures,
@@ -29,7 +30,7 @@ returns-2 c =
       ← c .before .before .read-u8 .ensures,
       ← c .before .outcome-of .ensures,
       ← c .read-u643 .ensures,
-    )
+    ))
 
 pub read-reply-spec : {M : Type 1} → statement M
 read-reply-spec =

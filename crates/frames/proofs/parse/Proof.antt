@@ -5,6 +5,7 @@ use borrow.Author.Tests.{not-true, not-false}
 use Rattle.numbers.specs.Words.{if_then_else_}
 use Rattle.frames.specs.Messages.{parseFrame}
 use Rattle.frames.proofs.KindLaws.{well-formed, WellFormed}
+use Rattle.frames.proofs.NumberedLaws.{parses}
 use borrow.Author.Needs.{needs}
 use Rattle.frames.proofs.parse.Statement.{statement}
 use Rattle.frames.proofs.parse.Tie as tie
@@ -16,7 +17,7 @@ facts c =
 
 returns : tie.Need-returns
 unfolding parseFrame if_then_else_
-returns c = rw (← c .before .well-formed .ensures, not-true (c .before .well-formed .result) (c .if1 .taken))
+returns c = parses _ _ (rw (← c .before .well-formed .ensures, not-true (c .before .well-formed .result) (c .if1 .taken)))
 
 read-u8-requires : tie.Need-read-u8-requires
 read-u8-requires c κs = omega (arith, facts c .long)
@@ -33,7 +34,7 @@ returns-2 : tie.Need-returns-2
 unfolding parseFrame if_then_else_
 returns-2 c =
     let h = c .before .before .before .before .well-formed in
-    rw (← h .ensures, not-false (h .result) (c .before .before .before .if1 .left), ← c .before .before .read-u8 .ensures, ← c .before .kind-of .ensures, ← c .said .ensures)
+    parses _ _ (rw (← h .ensures, not-false (h .result) (c .before .before .before .if1 .left), ← c .before .before .read-u8 .ensures, ← c .before .kind-of .ensures, ← c .said .ensures))
 
 pub parse-spec : {M : Type 1} → statement M
 parse-spec =

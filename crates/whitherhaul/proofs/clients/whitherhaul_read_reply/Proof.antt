@@ -8,10 +8,10 @@ enum-told : tie.Need-enum-told
 enum-told c = search needs
 
 returns : tie.Need-returns
-returns c = read-malformed (c .before .before .before .before .before .args .frame .now) (c .before .before .read-reply .result) (c .before .before .read-reply .ensures) (c .enum-told .given .1)
+returns c = read-malformed (c .before .before .before .before .before .args .frame .now) (c .before .before .read-reply .result) (c .before .before .read-reply .ensures .exact) (c .enum-told .given .1)
 
 returns-2 : tie.Need-returns-2
-returns-2 c = read-said (c .before .before .before .before .before .before .before .before .before .args .frame .now) (c .before .before .before .before .before .before .read-reply .result) (c .before .before .before .before .before .before .read-reply .ensures) (c .before .before .before .before .view .given .1) (c .before .outcome-number .ensures)
+returns-2 c = read-said (c .before .before .before .before .before .before .before .before .before .args .frame .now) (c .before .before .before .before .before .before .read-reply .result) (c .before .before .before .before .before .before .read-reply .ensures .exact) (c .before .before .before .before .view .given .1) (c .before .outcome-number .ensures)
 
 pub whitherhaul-read-reply-spec : {M : Type 1} → statement M
 whitherhaul-read-reply-spec =
