@@ -1,5 +1,6 @@
 pub mod BeginLaws
 pub mod DecideLaws
+pub mod DecisionLaws
 pub mod RecordLaws
 pub mod TellLaws
 pub mod BeginLift

@@ -1,2 +1,3 @@
 pub mod Begin
 pub mod Record
+pub mod DecisionNumber

@@ -10,7 +10,8 @@ ghost use Rattle.steps.specs.Steps.{spoke};
 ghost use Rattle.view_change.specs.StartView.{LogHeld};
 ghost use Rattle.do_view_change.specs.Begin.{owed};
 ghost use Rattle.steps.specs.Recorded.{Gathering, Does};
-ghost use Rattle.do_view_change.specs.Record.{Told, decidedBy, decided, recordStep, ownReport, reportOf, toldPrimary, sendStep, doViewChangeStep};
+ghost use Rattle.do_view_change.specs.Record.{Told, decidedBy, recordStep, ownReport, reportOf, toldPrimary, sendStep, doViewChangeStep};
+ghost use Rattle.do_view_change.specs.DecisionNumber.{Decides};
 ghost use Rattle.book.specs.Memory.{memoryHeld};
 ghost use Rattle.numbers.specs.Lending.{was, last};
 use crate::Decision;
@@ -73,7 +74,7 @@ fn decide<'a>(
     fresh: &'a [u8],
 ) -> Decision
     requires { ⌜ (setupOk (t .setup) ≡ true) × (Fits rows (t .setup .n) r (t .setup .room) (now stored) (now fresh) × (32 * t .commit .0 ≤ length (now log))) ⌝ }
-    ensures { λ a. ⌜ a ≡ decided t rows r first area replies (was log) (was stored) (was fresh) ⌝ }
+    ensures { λ a. ⌜ Decides t rows r first area replies (was log) (was stored) (was fresh) a ⌝ }
 {
     let n = t.setup.n;
     let room = t.setup.room;

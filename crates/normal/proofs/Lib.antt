@@ -2,6 +2,7 @@ pub mod SendLaws
 pub mod CommitLaws
 pub mod PrepareLaws
 pub mod PrepareOkLaws
+pub mod CountLaws
 pub mod RequestLaws
 pub mod TickLaws
 pub mod RequestLift

@@ -4,7 +4,8 @@ ghost use Prim.Native.Nat.{_-_, _*_, _≤_, _<_};
 ghost use lib.ListN.{length};
 ghost use Rattle.book.specs.Memory.{runsHeld, moneyBefore, moneyAfter};
 ghost use Rattle.steps.specs.Steps.{Sound};
-ghost use Rattle.normal.specs.PrepareOk.{listens, ackVerdict, counted, committedBy, prepareOkStep};
+ghost use Rattle.normal.specs.PrepareOk.{listens, counted, committedBy, prepareOkStep};
+ghost use Rattle.normal.specs.CountNumber.{WeighsAck};
 ghost use Rattle.numbers.specs.Lending.{was, last};
 use numbers::Op;
 use numbers::View;
@@ -41,7 +42,7 @@ fn hears(s: Replica, v: View, op: Op) -> bool
 // An ack fires only when the count reaches the quorum exactly. `held`: who acknowledged the op so far; `room`: of the area for replies.
 fn weigh(s: Replica, op: Op, held: u8, from: u8, room: usize) -> Count
     requires { ⌜ (from < 8) × ((s .commit .0 < op .0) × (s .setup .n < 8)) ⌝ }
-    ensures { λ r. ⌜ r ≡ ackVerdict s op held from room ⌝ }
+    ensures { λ r. ⌜ WeighsAck s op held from room r ⌝ }
 {
     if held == 0 {
         return Count::Nothing;

@@ -1,5 +1,6 @@
 pub mod RowLaws
 pub mod JudgeLaws
+pub mod NumberLaws
 pub mod StoreLaws
 pub mod PlaceLaws
 pub mod WholeLaws

@@ -1,3 +1,4 @@
 pub mod Rows
 pub mod Judge
+pub mod JudgedNumber
 pub mod Store

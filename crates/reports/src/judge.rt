@@ -5,7 +5,8 @@ ghost use mathlib.Core.Bool.{true, false};
 ghost use Prim.Native.Nat.{_+_, _*_, _≤_};
 ghost use lib.ListN.{length};
 ghost use Rattle.state.specs.Lengths.{storedPlace};
-ghost use Rattle.reports.specs.Judge.{logFrom, chosenLog, weighed, judged, answeredByPrimary, responded, Lies, Fits};
+ghost use Rattle.reports.specs.Judge.{logFrom, chosenLog, weighed, answeredByPrimary, Lies, Fits};
+ghost use Rattle.reports.specs.JudgedNumber.{Judges, JudgesResponse};
 ghost use Rattle.numbers.specs.Lending.{was};
 use crate::Best;
 use crate::Judged;
@@ -46,7 +47,7 @@ pub fn chosen_log<'a>(b: Best, id: u8, room: u32, stored: &'a [u8], fresh: &'a [
 }
 
 // With a report and the commit number g to go up to. The numbers are compared first, the bytes last.
-pub fn weigh<'a>(
+fn weigh<'a>(
     b: Best,
     g: Op,
     id: u8,
@@ -85,7 +86,7 @@ pub fn judge<'a>(
     fresh: &'a [u8],
 ) -> Judged
     requires { ⌜ (Fits t n id room (now stored) (now fresh)) × (32 * c .0 ≤ length (now ours)) ⌝ }
-    ensures { λ r. ⌜ r ≡ judged t n id room (c .0) (was ours) (was stored) (was fresh) ⌝ }
+    ensures { λ r. ⌜ Judges t n id room (c .0) (was ours) (was stored) (was fresh) r ⌝ }
 {
     if rows::filled(t, n) < config::quorum(n) {
         return Judged::Wait;
@@ -135,7 +136,7 @@ pub fn judge_response<'a>(
     fresh: &'a [u8],
 ) -> Judged
     requires { ⌜ (Fits t n id room (now stored) (now fresh)) × (32 * c .0 ≤ length (now ours)) ⌝ }
-    ensures { λ r. ⌜ r ≡ responded t n id room (view .0) (c .0) (was ours) (was stored) (was fresh) ⌝ }
+    ensures { λ r. ⌜ JudgesResponse t n id room (view .0) (c .0) (was ours) (was stored) (was fresh) r ⌝ }
 {
     if rows::filled(t, n) < config::quorum(n) {
         return Judged::Wait;

@@ -1,4 +1,5 @@
 pub mod StepLaws
+pub mod AcceptLaws
 pub mod SendLaws
 pub mod StepLift
 pub mod SendLift

@@ -3,7 +3,8 @@ ghost use mathlib.Core.Path.{_≡_};
 ghost use Prim.Native.Nat.{_≤_, _<_};
 ghost use lib.ListN.{length};
 ghost use Rattle.numbers.specs.Numbers.{over};
-ghost use Rattle.steps.specs.Steps.{Sound, spoke, left, acceptChanging, acceptOf, isTake, committedTo, settled, askedForState, deferred, transferred, prepareOkOf, committedAndAcked};
+ghost use Rattle.steps.specs.Steps.{Sound, spoke, left, acceptChanging, isTake, committedTo, settled, askedForState, deferred, transferred, prepareOkOf, committedAndAcked};
+ghost use Rattle.steps.specs.AcceptNumber.{Accepts};
 ghost use Rattle.book.specs.Memory.{runsBefore, runsAfter, runsHeld};
 ghost use Rattle.numbers.specs.Lending.{was, last};
 use frames::Status;
@@ -34,7 +35,7 @@ fn accept_changing(s: Replica) -> Accept
 // accept_from_primary
 pub fn accept_from_primary(s: Replica, v: View) -> Accept
     requires { ⌜ 0 < s .setup .n ⌝ }
-    ensures { λ r. ⌜ r ≡ acceptOf s v ⌝ }
+    ensures { λ r. ⌜ Accepts s v r ⌝ }
 {
     if v.0 < s.view.0 {
         return Accept::Ignore;

@@ -1,5 +1,6 @@
 pub mod GetStateLaws
 pub mod NewStateLaws
+pub mod UseLaws
 pub mod TransferLift
 pub mod TransferStays
 pub mod TransferRuled

@@ -1,3 +1,4 @@
 pub mod GetState
 pub mod NewState
+pub mod UseNumber
 pub mod Tick

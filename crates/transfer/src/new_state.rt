@@ -4,7 +4,8 @@ ghost use Prim.Native.Nat.{_-_, _*_, _≤_, _<_};
 ghost use lib.ListN.{length};
 ghost use Rattle.steps.specs.Steps.{Sound, left};
 ghost use Rattle.book.specs.Memory.{runsBefore, runsAfter, runsHeld};
-ghost use Rattle.transfer.specs.NewState.{PartPassed, transferUse, changeUse, useOf, gapFilled, installed, newStateStep};
+ghost use Rattle.transfer.specs.NewState.{PartPassed, transferUse, changeUse, gapFilled, installed, newStateStep};
+ghost use Rattle.transfer.specs.UseNumber.{Uses};
 ghost use Rattle.numbers.specs.Lending.{was, last};
 use crate::Part;
 use crate::Use;
@@ -40,7 +41,7 @@ fn use_in_change(s: Replica, p: Part) -> Use
 }
 
 fn use_of(s: Replica, v: View, p: Part) -> Use
-    ensures { λ r. ⌜ r ≡ useOf s v p ⌝ }
+    ensures { λ r. ⌜ Uses s v p r ⌝ }
 {
     if v.0 != s.view.0 {
         return Use::Ignore;

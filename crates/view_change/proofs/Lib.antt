@@ -1,5 +1,6 @@
 pub mod StartViewChangeLaws
 pub mod StartViewLaws
+pub mod StartViewNumberLaws
 pub mod StartViewLift
 pub mod ChangeStays
 pub mod ChangeRuled

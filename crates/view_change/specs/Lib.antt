@@ -1,2 +1,3 @@
 pub mod StartViewChange
 pub mod StartView
+pub mod StartViewNumber

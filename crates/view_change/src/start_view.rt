@@ -5,7 +5,8 @@ ghost use lib.ListN.{length};
 ghost use Rattle.state.specs.Lengths.{acksLength};
 ghost use Rattle.steps.specs.Steps.{Sound, spoke};
 ghost use Rattle.book.specs.Memory.{runsBefore, runsAfter, runsHeld};
-ghost use Rattle.view_change.specs.StartView.{LogHeld, LogPassed, startViewLength, sentStartView, keepVerdict, startViewVerdict, joined, joinedBy, startViewStep};
+ghost use Rattle.view_change.specs.StartView.{LogHeld, LogPassed, startViewLength, sentStartView, keepVerdict, joined, joinedBy, startViewStep};
+ghost use Rattle.view_change.specs.StartViewNumber.{WeighsStartView};
 ghost use Rattle.numbers.specs.Lending.{was, last};
 use crate::StartViewVerdict;
 use numbers::Op;
@@ -42,7 +43,7 @@ fn weigh_log(s: Replica, o: Op, part: &[u8], log: &[u8]) -> StartViewVerdict
 // One of our own view is new only while we are changing to it.
 fn weigh(s: Replica, v: View, o: Op, part: &[u8], log: &[u8]) -> StartViewVerdict
     requires { ⌜ LogHeld s (length (now log)) × ((s .commit .0 ≤ s .op .0) × (32 * o .0 ≤ length (now part))) ⌝ }
-    ensures { λ r. ⌜ r ≡ startViewVerdict s v o (was part) (was log) ⌝ }
+    ensures { λ r. ⌜ WeighsStartView s v o (was part) (was log) r ⌝ }
 {
     if v.0 < s.view.0 {
         return StartViewVerdict::Ignore;

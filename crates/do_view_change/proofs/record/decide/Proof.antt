@@ -1,5 +1,6 @@
 -- `do_view_change::record::decide` meets its contract. Assumes nothing.
 use Rattle.do_view_change.proofs.DecideLaws.{decides, refuses, begins-long}
+use Rattle.do_view_change.proofs.DecisionLaws.{keeps-decision}
 use borrow.Author.Needs.{needs}
 use Rattle.do_view_change.proofs.record.decide.Statement.{statement}
 use Rattle.do_view_change.proofs.record.decide.Tie as tie
@@ -15,7 +16,7 @@ settle-begin-requires c κs =
     let p = t .pre in (
       p .0,
       begins-long (a .t) (a .rows) (a .r) (a .first) (a .area) (a .replies) (a .log .now) (a .stored .now) (a .fresh .now) _
-          (c1 .judge .ensures) (p .1 .0) _ _ (c .before .best .given .1),
+          (c1 .judge .ensures .exact) (p .1 .0) _ _ (c .before .best .given .1),
     )
 
 returns : tie.Need-returns
@@ -23,16 +24,18 @@ returns c =
     let c1 = c .before .before .before in
     let t = c1 .before .before .before .before .before in
     let a = t .args in
-    decides (a .t) (a .rows) (a .r) (a .first) (a .area) (a .replies) (a .log .now) (a .stored .now) (a .fresh .now) _ (c1 .judge .ensures)
-    _ _ (c .before .enum-told .given .1) (c .settle-wait .ensures)
+    keeps-decision _ _ _ _ _ _ _ _ _ _
+    (decides (a .t) (a .rows) (a .r) (a .first) (a .area) (a .replies) (a .log .now) (a .stored .now) (a .fresh .now) _ (c1 .judge .ensures .exact)
+    _ _ (c .before .enum-told .given .1) (c .settle-wait .ensures))
 
 returns-2 : tie.Need-returns-2
 returns-2 c =
     let c1 = c .before .before in
     let t = c1 .before .before .before .before .before in
     let a = t .args in
-    refuses (a .t) (a .rows) (a .r) (a .first) (a .area) (a .replies) (a .log .now) (a .stored .now) (a .fresh .now) _ (c1 .judge .ensures)
-    (c .enum-told2 .given .1)
+    keeps-decision _ _ _ _ _ _ _ _ _ _
+    (refuses (a .t) (a .rows) (a .r) (a .first) (a .area) (a .replies) (a .log .now) (a .stored .now) (a .fresh .now) _ (c1 .judge .ensures .exact)
+    (c .enum-told2 .given .1))
 
 returns-3 : tie.Need-returns-3
 returns-3 c =
@@ -40,8 +43,9 @@ returns-3 c =
     let c2 = c1 .before .before in
     let t = c2 .before .before .before .before .before in
     let a = t .args in
-    decides (a .t) (a .rows) (a .r) (a .first) (a .area) (a .replies) (a .log .now) (a .stored .now) (a .fresh .now) _ (c2 .judge .ensures)
-    _ _ (c1 .best .given .1) (c .settle-begin .ensures)
+    keeps-decision _ _ _ _ _ _ _ _ _ _
+    (decides (a .t) (a .rows) (a .r) (a .first) (a .area) (a .replies) (a .log .now) (a .stored .now) (a .fresh .now) _ (c2 .judge .ensures .exact)
+    _ _ (c1 .best .given .1) (c .settle-begin .ensures))
 
 pub decide-spec : {M : Type 1} → statement M
 decide-spec =

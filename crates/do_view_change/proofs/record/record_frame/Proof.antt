@@ -43,7 +43,7 @@ call-first-requires c κs =
     let a = t .args in
     let m = memory (a .log .now) (a .results .now) (a .totals .now) (a .acks .now) (a .stored .now) (a .out .now) (a .reps .now) in (
       t .pre .0 .sound .sized,
-      keep-room (a .s) (a .t) (a .r) (a .d) (a .first) (a .fresh .now) m _ (c3 .with-report .ensures .0) _ (c2 .decide .ensures)
+      keep-room (a .s) (a .t) (a .r) (a .d) (a .first) (a .fresh .now) m _ (c3 .with-report .ensures .0) _ (c2 .decide .ensures .exact)
           (c1 .enum-told .given .1),
     )
 
@@ -56,7 +56,7 @@ install-requires c κs =
     let a = t .args in
     let m = memory (a .log .now) (a .results .now) (a .totals .now) (a .acks .now) (a .stored .now) (a .out .now) (a .reps .now) in
     install-asks (a .s) (a .t) (a .r) (a .d) (a .first) (a .fresh .now) m _ (c3 .with-report .ensures .0) (t .pre .0) (t .pre .1)
-    (c3 .with-report .ensures .1) _ (c2 .decide .ensures) _ _ (c1 .best .given .1)
+    (c3 .with-report .ensures .1) _ (c2 .decide .ensures .exact) _ _ (c1 .best .given .1)
 
 begin-requires : tie.Need-begin-requires
 begin-requires c κs =
@@ -68,7 +68,7 @@ begin-requires c κs =
     let a = t .args in
     let m = memory (a .log .now) (a .results .now) (a .totals .now) (a .acks .now) (a .stored .now) (a .out .now) (a .reps .now) in
     begin-asks (a .s) (a .t) (a .r) (a .d) (a .first) (a .fresh .now) m _ (c4 .with-report .ensures .0) (t .pre .0) (t .pre .1)
-    (c4 .with-report .ensures .1) _ (c3 .decide .ensures) _ _ (c2 .best .given .1) _ (c1 .install .ensures)
+    (c4 .with-report .ensures .1) _ (c3 .decide .ensures .exact) _ _ (c2 .best .given .1) _ (c1 .install .ensures)
 
 returns : tie.Need-returns
 returns c =
@@ -78,7 +78,7 @@ returns c =
     let t = c3 .before .before .before .before .before .before .before .before .before .before in
     let a = t .args in
     let m = memory (a .log .now) (a .results .now) (a .totals .now) (a .acks .now) (a .stored .now) (a .out .now) (a .reps .now) in
-    says-no (a .s) (a .t) (a .r) (a .d) (a .first) (a .fresh .now) m _ (c3 .with-report .ensures .0) _ (c2 .decide .ensures) _ _
+    says-no (a .s) (a .t) (a .r) (a .d) (a .first) (a .fresh .now) m _ (c3 .with-report .ensures .0) _ (c2 .decide .ensures .exact) _ _
     (c1 .code .given .1) (c .refused .ensures)
 
 returns-2 : tie.Need-returns-2
@@ -91,7 +91,7 @@ returns-2 c =
     let t = c5 .before .before .before .before .before .before .before .before .before .before in
     let a = t .args in
     let m = memory (a .log .now) (a .results .now) (a .totals .now) (a .acks .now) (a .stored .now) (a .out .now) (a .reps .now) in
-    says-keep (a .s) (a .t) (a .r) (a .d) (a .first) (a .fresh .now) m _ (c5 .with-report .ensures .0) _ (c4 .decide .ensures)
+    says-keep (a .s) (a .t) (a .r) (a .d) (a .first) (a .fresh .now) m _ (c5 .with-report .ensures .0) _ (c4 .decide .ensures .exact)
     (t .pre .0 .sound .sized) _ _ _ _ _ (c3 .enum-told .given .1) (c2 .keep .ensures) (c1 .call-first .ensures)
     (c .before .with-reports .ensures) (c .done .ensures)
 
@@ -105,7 +105,7 @@ returns-3 c =
     let t = c5 .before .before .before .before .before .before .before .before .before .before in
     let a = t .args in
     let m = memory (a .log .now) (a .results .now) (a .totals .now) (a .acks .now) (a .stored .now) (a .out .now) (a .reps .now) in
-    says-start (a .s) (a .t) (a .r) (a .d) (a .first) (a .fresh .now) m _ (c5 .with-report .ensures .0) _ (c4 .decide .ensures) _ _ _ _ _ _
+    says-start (a .s) (a .t) (a .r) (a .d) (a .first) (a .fresh .now) m _ (c5 .with-report .ensures .0) _ (c4 .decide .ensures .exact) _ _ _ _ _ _
     _ _ _ (c3 .best .given .1) (c2 .install .ensures) (c1 .begin .ensures)
 
 pub record-frame-spec : {M : Type 1} → statement M

@@ -52,7 +52,7 @@ call-first-requires c κs =
     let m = memory (a .log .now) (a .results .now) (a .totals .now) (a .acks .now) (a .stored .now) (a .out .now) (a .reps .now) in (
       t .pre .sound .sized,
       keep-room (a .s) (a .t) (a .t .setup .id) (ownReport (a .t)) (a .first) (a .log .now) m _
-          (c3 .with-report .ensures .0 ∙ ap (withReport (a .t .reports) (a .t .setup .id)) (c4 .own-report .ensures)) _ (c2 .decide .ensures)
+          (c3 .with-report .ensures .0 ∙ ap (withReport (a .t .reports) (a .t .setup .id)) (c4 .own-report .ensures)) _ (c2 .decide .ensures .exact)
           (c1 .enum-told .given .1),
     )
 
@@ -67,7 +67,7 @@ install-own-requires c κs =
     let m = memory (a .log .now) (a .results .now) (a .totals .now) (a .acks .now) (a .stored .now) (a .out .now) (a .reps .now) in
     install-asks (a .s) (a .t) (a .t .setup .id) (ownReport (a .t)) (a .first) (a .log .now) m _
     (c3 .with-report .ensures .0 ∙ ap (withReport (a .t .reports) (a .t .setup .id)) (c4 .own-report .ensures)) (t .pre)
-    (own-told (a .t) m (t .pre)) (c3 .with-report .ensures .1) _ (c2 .decide .ensures) _ _ (c1 .best .given .1)
+    (own-told (a .t) m (t .pre)) (c3 .with-report .ensures .1) _ (c2 .decide .ensures .exact) _ _ (c1 .best .given .1)
 
 begin-requires : tie.Need-begin-requires
 begin-requires c κs =
@@ -81,7 +81,7 @@ begin-requires c κs =
     let m = memory (a .log .now) (a .results .now) (a .totals .now) (a .acks .now) (a .stored .now) (a .out .now) (a .reps .now) in
     begin-asks (a .s) (a .t) (a .t .setup .id) (ownReport (a .t)) (a .first) (a .log .now) m _
     (c4 .with-report .ensures .0 ∙ ap (withReport (a .t .reports) (a .t .setup .id)) (c5 .own-report .ensures)) (t .pre)
-    (own-told (a .t) m (t .pre)) (c4 .with-report .ensures .1) _ (c3 .decide .ensures) _ _ (c2 .best .given .1) _ (c1 .install-own .ensures)
+    (own-told (a .t) m (t .pre)) (c4 .with-report .ensures .1) _ (c3 .decide .ensures .exact) _ _ (c2 .best .given .1) _ (c1 .install-own .ensures)
 
 returns : tie.Need-returns
 returns c =
@@ -93,7 +93,7 @@ returns c =
     let a = t .args in
     let m = memory (a .log .now) (a .results .now) (a .totals .now) (a .acks .now) (a .stored .now) (a .out .now) (a .reps .now) in
     says-no (a .s) (a .t) (a .t .setup .id) (ownReport (a .t)) (a .first) (a .log .now) m _
-    (c3 .with-report .ensures .0 ∙ ap (withReport (a .t .reports) (a .t .setup .id)) (c4 .own-report .ensures)) _ (c2 .decide .ensures) _ _
+    (c3 .with-report .ensures .0 ∙ ap (withReport (a .t .reports) (a .t .setup .id)) (c4 .own-report .ensures)) _ (c2 .decide .ensures .exact) _ _
     (c1 .code .given .1) (c .refused .ensures)
 
 returns-2 : tie.Need-returns-2
@@ -108,7 +108,7 @@ returns-2 c =
     let a = t .args in
     let m = memory (a .log .now) (a .results .now) (a .totals .now) (a .acks .now) (a .stored .now) (a .out .now) (a .reps .now) in
     says-keep (a .s) (a .t) (a .t .setup .id) (ownReport (a .t)) (a .first) (a .log .now) m _
-    (c5 .with-report .ensures .0 ∙ ap (withReport (a .t .reports) (a .t .setup .id)) (c6 .own-report .ensures)) _ (c4 .decide .ensures)
+    (c5 .with-report .ensures .0 ∙ ap (withReport (a .t .reports) (a .t .setup .id)) (c6 .own-report .ensures)) _ (c4 .decide .ensures .exact)
     (t .pre .sound .sized) _ _ _ _ _ (c3 .enum-told .given .1) (c2 .keep .ensures) (c1 .call-first .ensures)
     (c .before .with-reports .ensures) (c .done .ensures)
 
@@ -124,7 +124,7 @@ returns-3 c =
     let a = t .args in
     let m = memory (a .log .now) (a .results .now) (a .totals .now) (a .acks .now) (a .stored .now) (a .out .now) (a .reps .now) in
     says-start (a .s) (a .t) (a .t .setup .id) (ownReport (a .t)) (a .first) (a .log .now) m _
-    (c5 .with-report .ensures .0 ∙ ap (withReport (a .t .reports) (a .t .setup .id)) (c6 .own-report .ensures)) _ (c4 .decide .ensures) _ _
+    (c5 .with-report .ensures .0 ∙ ap (withReport (a .t .reports) (a .t .setup .id)) (c6 .own-report .ensures)) _ (c4 .decide .ensures .exact) _ _
     _ _ _ _ _ _ _ (c3 .best .given .1) (c2 .install-own .ensures) (c1 .begin .ensures)
 
 pub record-own-spec : {M : Type 1} → statement M

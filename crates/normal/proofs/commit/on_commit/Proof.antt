@@ -10,14 +10,14 @@ accept-from-primary-requires c κs = some (c .before .before .before .before .ar
 
 returns : tie.Need-returns
 unfolding commitStep
-returns c = let a = c .before .before .before .before .before .before .before .before .before .before .before .before .before .before .before .before .before .args in takes (a .s) (a .v) _ (a .out .now) _ _ (c .before .before .before .before .before .before .before .before .before .before .before .before .accept-from-primary .ensures) (c .before .before .before .before .before .before .before .before .before .before .before .takes .ensures) _ _ (c .before .before .before .before .before .before .before .before .before .before .if1 .taken) (c .before .before .before .before .before .before .take-commit .ensures)
+returns c = let a = c .before .before .before .before .before .before .before .before .before .before .before .before .before .before .before .before .before .args in takes (a .s) (a .v) _ (a .out .now) _ _ (c .before .before .before .before .before .before .before .before .before .before .before .before .accept-from-primary .ensures .exact) (c .before .before .before .before .before .before .before .before .before .before .before .takes .ensures) _ _ (c .before .before .before .before .before .before .before .before .before .before .if1 .taken) (c .before .before .before .before .before .before .take-commit .ensures)
 
 defer-requires : tie.Need-defer-requires
 defer-requires c κs = some (c .before .before .before .before .before .before .before .before .args .s) _ (c .before .before .before .before .before .before .before .before .pre)
 
 returns-2 : tie.Need-returns-2
 unfolding commitStep
-returns-2 c = let a = c .before .before .before .before .before .before .before .before .before .before .before .args in defers (a .s) (a .v) _ (a .out .now) _ _ (c .before .before .before .before .before .before .accept-from-primary .ensures) (c .before .before .before .before .before .takes .ensures) _ _ _ (c .before .before .before .before .if1 .left) (c .before .before .defer .ensures)
+returns-2 c = let a = c .before .before .before .before .before .before .before .before .before .before .before .args in defers (a .s) (a .v) _ (a .out .now) _ _ (c .before .before .before .before .before .before .accept-from-primary .ensures .exact) (c .before .before .before .before .before .takes .ensures) _ _ _ (c .before .before .before .before .if1 .left) (c .before .before .defer .ensures)
 
 pub on-commit-spec : {M : Type 1} → statement M
 on-commit-spec =

@@ -39,23 +39,23 @@ slice-write-acks : tie.Need-slice-write-acks
 slice-write-acks c = let a = c .before .before .before .before .before .before .before .before .before .before .before .before .before .before .args in omega (arith, c .before .before .before .before .before .ack-place .ensures, c .before .before .before .before .before .before .before .before .before .before .before .before .before .before .pre .1 .0, c .before .before .before .before .before .before .before .before .before .before .before .before .before .before .pre .1 .1 .1, after-commit (a .s) (a .v) (a .op) (c .before .before .before .before .before .before .before .before .hears .result) (c .before .before .before .before .before .before .before .before .hears .ensures) (c .before .before .before .before .before .before .before .if1 .left))
 
 commit-with-replies-requires : tie.Need-commit-with-replies-requires
-commit-with-replies-requires c κs = let a = c .before .before .before .before .before .before .before .before .before .before .before .before .before .before .before .before .before .args in let q = ready (a .s) (a .op) (getD (a .acks .now) (c .before .before .before .before .before .before .before .before .ack-place .result) 0) (a .from) (length (a .reps .now)) _ (c .before .before .before .before .before .before .weigh .ensures) (c .before .before .before .before .enum-told3 .given .1) in (c .before .before .before .before .before .before .before .before .before .before .before .before .before .before .before .before .before .pre .0, (after-commit (a .s) (a .v) (a .op) (c .before .before .before .before .before .before .before .before .before .before .before .hears .result) (c .before .before .before .before .before .before .before .before .before .before .before .hears .ensures) (c .before .before .before .before .before .before .before .before .before .before .if1 .left), (q .0, (c .before .before .before .before .before .before .before .before .before .before .before .before .before .before .before .before .before .pre .1 .0, q .1))))
+commit-with-replies-requires c κs = let a = c .before .before .before .before .before .before .before .before .before .before .before .before .before .before .before .before .before .args in let q = ready (a .s) (a .op) (getD (a .acks .now) (c .before .before .before .before .before .before .before .before .ack-place .result) 0) (a .from) (length (a .reps .now)) _ (c .before .before .before .before .before .before .weigh .ensures .exact) (c .before .before .before .before .enum-told3 .given .1) in (c .before .before .before .before .before .before .before .before .before .before .before .before .before .before .before .before .before .pre .0, (after-commit (a .s) (a .v) (a .op) (c .before .before .before .before .before .before .before .before .before .before .before .hears .result) (c .before .before .before .before .before .before .before .before .before .before .before .hears .ensures) (c .before .before .before .before .before .before .before .before .before .before .if1 .left), (q .0, (c .before .before .before .before .before .before .before .before .before .before .before .before .before .before .before .before .before .pre .1 .0, q .1))))
 
 returns-2 : tie.Need-returns-2
 unfolding byCount
-returns-2 c = let a = c .before .before .before .before .before .before .before .before .before .before .before .before .before .before .args in weighed (a .s) (a .v) (a .op) (a .from) (a .log .now) _ (a .acks .now) (a .reps .now) _ (c .before .before .before .before .before .before .before .before .hears .ensures) _ _ _ _ (c .before .before .before .before .before .ack-place .ensures) (c .before .before .before .before .before .before .before .if1 .left) (c .before .before .before .weigh .ensures) (c .before .enum-told .given .1) (ap (λ (x : Returned). counted x (money (a .results .now) (a .totals .now)) (a .acks .now) (a .reps .now)) (c .done2 .ensures))
+returns-2 c = let a = c .before .before .before .before .before .before .before .before .before .before .before .before .before .before .args in weighed (a .s) (a .v) (a .op) (a .from) (a .log .now) _ (a .acks .now) (a .reps .now) _ (c .before .before .before .before .before .before .before .before .hears .ensures) _ _ _ _ (c .before .before .before .before .before .ack-place .ensures) (c .before .before .before .before .before .before .before .if1 .left) (c .before .before .before .weigh .ensures .exact) (c .before .enum-told .given .1) (ap (λ (x : Returned). counted x (money (a .results .now) (a .totals .now)) (a .acks .now) (a .reps .now)) (c .done2 .ensures))
 
 returns-3 : tie.Need-returns-3
 unfolding byCount
-returns-3 c = let a = c .before .before .before .before .before .before .before .before .before .before .before .before .before .before .before .args in let k = c .before .before .before .before .before .before .ack-place .ensures in weighed (a .s) (a .v) (a .op) (a .from) (a .log .now) _ (a .acks .now) (a .reps .now) _ (c .before .before .before .before .before .before .before .before .before .hears .ensures) _ _ _ _ k (c .before .before .before .before .before .before .before .before .if1 .left) (c .before .before .before .before .weigh .ensures) (c .before .before .enum-told2 .given .1) (λ i. counted (c .done3 .ensures i) (money (a .results .now) (a .totals .now)) (set (a .acks .now) (k i) ((c .before .insert .ensures ∙ ap (λ (j : ℕ). withMember (getD (a .acks .now) j 0) (a .from)) k) i)) (a .reps .now))
+returns-3 c = let a = c .before .before .before .before .before .before .before .before .before .before .before .before .before .before .before .args in let k = c .before .before .before .before .before .before .ack-place .ensures in weighed (a .s) (a .v) (a .op) (a .from) (a .log .now) _ (a .acks .now) (a .reps .now) _ (c .before .before .before .before .before .before .before .before .before .hears .ensures) _ _ _ _ k (c .before .before .before .before .before .before .before .before .if1 .left) (c .before .before .before .before .weigh .ensures .exact) (c .before .before .enum-told2 .given .1) (λ i. counted (c .done3 .ensures i) (money (a .results .now) (a .totals .now)) (set (a .acks .now) (k i) ((c .before .insert .ensures ∙ ap (λ (j : ℕ). withMember (getD (a .acks .now) j 0) (a .from)) k) i)) (a .reps .now))
 
 returns-4 : tie.Need-returns-4
 unfolding byCount
-returns-4 c = let a = c .before .before .before .before .before .before .before .before .before .before .before .before .before .before .before .args in weighed (a .s) (a .v) (a .op) (a .from) (a .log .now) _ (a .acks .now) (a .reps .now) _ (c .before .before .before .before .before .before .before .before .before .hears .ensures) _ _ _ _ (c .before .before .before .before .before .before .ack-place .ensures) (c .before .before .before .before .before .before .before .before .if1 .left) (c .before .before .before .before .weigh .ensures) (c .before .before .code .given .1) (ap (λ (x : Returned). counted x (money (a .results .now) (a .totals .now)) (a .acks .now) (a .reps .now)) (c .refused .ensures))
+returns-4 c = let a = c .before .before .before .before .before .before .before .before .before .before .before .before .before .before .before .args in weighed (a .s) (a .v) (a .op) (a .from) (a .log .now) _ (a .acks .now) (a .reps .now) _ (c .before .before .before .before .before .before .before .before .before .hears .ensures) _ _ _ _ (c .before .before .before .before .before .before .ack-place .ensures) (c .before .before .before .before .before .before .before .before .if1 .left) (c .before .before .before .before .weigh .ensures .exact) (c .before .before .code .given .1) (ap (λ (x : Returned). counted x (money (a .results .now) (a .totals .now)) (a .acks .now) (a .reps .now)) (c .refused .ensures))
 
 returns-5 : tie.Need-returns-5
 unfolding byCount
-returns-5 c = let a = c .before .before .before .before .before .before .before .before .before .before .before .before .before .before .before .before .before .before .before .before .before .before .before .before .before .before .args in weighed (a .s) (a .v) (a .op) (a .from) (a .log .now) _ (a .acks .now) (a .reps .now) _ (c .before .before .before .before .before .before .before .before .before .before .before .before .before .before .before .before .before .before .before .before .hears .ensures) _ _ _ _ (c .before .before .before .before .before .before .before .before .before .before .before .before .before .before .before .before .before .ack-place .ensures) (c .before .before .before .before .before .before .before .before .before .before .before .before .before .before .before .before .before .before .before .if1 .left) (c .before .before .before .before .before .before .before .before .before .before .before .before .before .before .before .weigh .ensures) (c .before .before .before .before .before .before .before .before .before .before .before .before .before .enum-told3 .given .1) (c .before .before .before .before .before .before .before .before .commit-with-replies .ensures)
+returns-5 c = let a = c .before .before .before .before .before .before .before .before .before .before .before .before .before .before .before .before .before .before .before .before .before .before .before .before .before .before .args in weighed (a .s) (a .v) (a .op) (a .from) (a .log .now) _ (a .acks .now) (a .reps .now) _ (c .before .before .before .before .before .before .before .before .before .before .before .before .before .before .before .before .before .before .before .before .hears .ensures) _ _ _ _ (c .before .before .before .before .before .before .before .before .before .before .before .before .before .before .before .before .before .ack-place .ensures) (c .before .before .before .before .before .before .before .before .before .before .before .before .before .before .before .before .before .before .before .if1 .left) (c .before .before .before .before .before .before .before .before .before .before .before .before .before .before .before .weigh .ensures .exact) (c .before .before .before .before .before .before .before .before .before .before .before .before .before .enum-told3 .given .1) (c .before .before .before .before .before .before .before .before .commit-with-replies .ensures)
 
 pub on-prepare-ok-spec : {M : Type 1} → statement M
 on-prepare-ok-spec =

@@ -34,7 +34,7 @@ come-back-requires c κs =
     back-asks (a .s) (a .r) (a .d) (a .fresh .now) (a .log .now) (a .results .now) (a .totals .now) (a .stored .now) (z .pre .0) (z .pre .1)
     _ (c .before .before .before .before .before .before .before .before .before .before .with-report .ensures .0)
     (c .before .before .before .before .before .before .before .before .before .before .with-report .ensures .1) _ _ _
-    (c .before .before .before .before .before .before .before .judge-response .ensures)
+    (c .before .before .before .before .before .before .before .judge-response .ensures .exact)
     (c .before .before .before .before .before .best .given .1)
 
 returns : tie.Need-returns
@@ -42,7 +42,7 @@ returns c =
     let a = c .before .before .before .before .before .before .before .before .before .before .before .before .before .before .before .before .before .before .before .before .before .args in
     keeps-it (a .s) (a .r) (a .d) (a .fresh .now) (a .log .now) (a .results .now) (a .totals .now) (a .stored .now) _
     (c .before .before .before .before .before .before .before .before .before .before .before .before .with-report .ensures .0) _
-    (c .before .before .before .before .before .before .before .before .before .judge-response .ensures) _ _ _
+    (c .before .before .before .before .before .before .before .before .before .judge-response .ensures .exact) _ _ _
     (c .before .before .before .before .before .before .before .enum-told .given .1) (c .before .before .before .before .keep .ensures)
     (c .before .with-reports .ensures) (c .done .ensures)
 
@@ -50,7 +50,7 @@ returns-2 : tie.Need-returns-2
 returns-2 c =
     let a = c .before .before .before .before .before .before .before .before .before .before .before .before .before .before .before .args in
     refuses-it (a .s) (a .r) (a .d) (a .fresh .now) (a .log .now) (a .results .now) (a .totals .now) (a .stored .now) _
-    (c .before .before .before .before .before .before .with-report .ensures .0) _ (c .before .before .before .judge-response .ensures) _
+    (c .before .before .before .before .before .before .with-report .ensures .0) _ (c .before .before .before .judge-response .ensures .exact) _
     (c .before .enum-told2 .given .1) (c .refused .ensures)
 
 returns-3 : tie.Need-returns-3
@@ -59,7 +59,7 @@ returns-3 c =
     ends-with-it (a .s) (a .r) (a .d) (a .fresh .now) (a .log .now) (a .results .now) (a .totals .now) (a .stored .now) _
     (c .before .before .before .before .before .before .before .before .before .before .before .before .before .before .before .before .before .with-report .ensures .0)
     _
-    (c .before .before .before .before .before .before .before .before .before .before .before .before .before .before .judge-response .ensures)
+    (c .before .before .before .before .before .before .before .before .before .before .before .before .before .before .judge-response .ensures .exact)
     _ _ _ (c .before .before .before .before .before .before .before .before .before .before .before .before .best .given .1)
     (c .before .before .before .before .before .before .come-back .ensures)
 

@@ -1,5 +1,6 @@
 -- `reports::judge::judge` meets its contract. Assumes nothing.
 use Rattle.reports.proofs.JudgeLaws.{waits, weighs, chosen-lies}
+use Rattle.reports.proofs.NumberLaws.{judges}
 use borrow.Author.Needs.{needs}
 use Rattle.reports.proofs.judge.judge.Statement.{statement}
 use Rattle.reports.proofs.judge.judge.Tie as tie
@@ -8,8 +9,9 @@ returns : tie.Need-returns
 returns c =
     let a = c .before .before .before .before .before .before .args in
     let f = c .before .before .filled in
-    waits (a .t) (a .n) (a .id) (a .room) (a .c .0) (a .ours .now) (a .stored .now) (a .fresh .now) (f .result) (c .before .quorum .result)
-    (f .ensures) (c .before .quorum .ensures) (c .if1 .taken)
+    judges (a .id) (a .room) (a .c .0) (a .ours .now) (a .stored .now) (a .fresh .now) (a .t) (a .n) _
+    (waits (a .t) (a .n) (a .id) (a .room) (a .c .0) (a .ours .now) (a .stored .now) (a .fresh .now) (f .result) (c .before .quorum .result)
+    (f .ensures) (c .before .quorum .ensures) (c .if1 .taken))
 
 weigh-requires : tie.Need-weigh-requires
 weigh-requires c κs =
@@ -23,10 +25,11 @@ returns-2 c =
     let f = c .before .before .before .before .before .filled in
     let h = c .before .before .choose in
     let g = c .before .greatest-commit in
-    weighs (a .t) (a .n) (a .id) (a .room) (a .c .0) (a .ours .now) (a .stored .now) (a .fresh .now) (f .result)
+    judges (a .id) (a .room) (a .c .0) (a .ours .now) (a .stored .now) (a .fresh .now) (a .t) (a .n) _
+    (weighs (a .t) (a .n) (a .id) (a .room) (a .c .0) (a .ours .now) (a .stored .now) (a .fresh .now) (f .result)
     (c .before .before .before .before .quorum .result) (h .result) (g .result) (c .weigh .result) (f .ensures)
     (c .before .before .before .before .quorum .ensures) (c .before .before .before .if1 .left) (h .ensures) (g .ensures)
-    (c .weigh .ensures)
+    (c .weigh .ensures))
 
 pub judge-spec : {M : Type 1} → statement M
 judge-spec =

@@ -14,57 +14,57 @@ sub-skip : tie.Need-sub-skip
 sub-skip c =
     let a = c .before .before .before .before .before .before .before .before .before .before .args in
     fill-told (a .s) (a .v) (a .p)
-    (sym (c .before .before .before .before .use-of .ensures) ∙ c .before .before .enum-told3 .given .1) .0
+    (sym (c .before .before .before .before .use-of .ensures .exact) ∙ c .before .before .enum-told3 .given .1) .0
 
 sub-fill : tie.Need-sub-fill
 sub-fill c =
     let a = c .before .before .before .before .before .before .before .before .before .before .args in
     skip-fits (a .s) (a .v) (a .p) (a .part .now)
-    (sym (c .before .before .before .before .use-of .ensures) ∙ c .before .before .enum-told3 .given .1)
+    (sym (c .before .before .before .before .use-of .ensures .exact) ∙ c .before .before .enum-told3 .given .1)
     (c .before .before .before .before .before .before .before .before .before .before .pre .1 .1)
 
 part-fill-start : tie.Need-part-fill-start
 part-fill-start c =
     let a = c .before .before .before .before .before .before .before .before .before .before .args in
     skip-fits (a .s) (a .v) (a .p) (a .part .now)
-    (sym (c .before .before .before .before .use-of .ensures) ∙ c .before .before .enum-told3 .given .1)
+    (sym (c .before .before .before .before .use-of .ensures .exact) ∙ c .before .before .enum-told3 .given .1)
     (c .before .before .before .before .before .before .before .before .before .before .pre .1 .1)
 
 fill-requires : tie.Need-fill-requires
 fill-requires c κs =
     let a = c .before .before .before .before .before .before .before .before .before .before .before .before .before .before .before .args in
-    (c .before .before .before .before .before .before .before .before .before .before .before .before .before .before .before .pre .0, (fill-told (a .s) (a .v) (a .p) (sym (c .before .before .before .before .before .before .before .before .before .use-of .ensures) ∙ c .before .before .before .before .before .before .before .enum-told3 .given .1) .1, (c .before .before .before .before .before .before .before .before .before .before .before .before .before .before .before .pre .1 .0, rest-fits (a .s) (a .v) (a .p) (a .part .now) (sym (c .before .before .before .before .before .before .before .before .before .use-of .ensures) ∙ c .before .before .before .before .before .before .before .enum-told3 .given .1) (c .before .before .before .before .before .before .before .before .before .before .before .before .before .before .before .pre .1 .1))))
+    (c .before .before .before .before .before .before .before .before .before .before .before .before .before .before .before .pre .0, (fill-told (a .s) (a .v) (a .p) (sym (c .before .before .before .before .before .before .before .before .before .use-of .ensures .exact) ∙ c .before .before .before .before .before .before .before .enum-told3 .given .1) .1, (c .before .before .before .before .before .before .before .before .before .before .before .before .before .before .before .pre .1 .0, rest-fits (a .s) (a .v) (a .p) (a .part .now) (sym (c .before .before .before .before .before .before .before .before .before .use-of .ensures .exact) ∙ c .before .before .before .before .before .before .before .enum-told3 .given .1) (c .before .before .before .before .before .before .before .before .before .before .before .before .before .before .before .pre .1 .1))))
 
 install-requires : tie.Need-install-requires
 install-requires c κs =
     let a = c .before .before .before .before .before .before .before .before .before .before .before .before .args in
-    (c .before .before .before .before .before .before .before .before .before .before .before .before .pre .0, (install-told (a .s) (a .v) (a .p) (sym (c .before .before .before .before .before .before .use-of .ensures) ∙ c .before .before .before .before .enum-told4 .given .1), c .before .before .before .before .before .before .before .before .before .before .before .before .pre .1))
+    (c .before .before .before .before .before .before .before .before .before .before .before .before .pre .0, (install-told (a .s) (a .v) (a .p) (sym (c .before .before .before .before .before .before .use-of .ensures .exact) ∙ c .before .before .before .before .enum-told4 .given .1), c .before .before .before .before .before .before .before .before .before .before .before .before .pre .1))
 
 returns : tie.Need-returns
 returns c =
     let a = c .before .before .before .before .before .before .before .before .before .args in
     ignored (a .s) (a .v) (a .p) (a .part .now) (runs (a .log .now) (a .results .now) (a .totals .now)) (a .out .now) _
-    (sym (c .before .before .before .use-of .ensures) ∙ c .before .enum-told .given .1) (c .done .ensures)
+    (sym (c .before .before .before .use-of .ensures .exact) ∙ c .before .enum-told .given .1) (c .done .ensures)
 
 returns-2 : tie.Need-returns-2
 returns-2 c =
     let a = c .before .before .before .before .before .before .before .before .before .before .args in
     heard (a .s) (a .v) (a .p) (a .part .now) (runs (a .log .now) (a .results .now) (a .totals .now)) (a .out .now) _ _
-    (sym (c .before .before .before .before .use-of .ensures) ∙ c .before .before .enum-told2 .given .1) (c .before .heard .ensures)
+    (sym (c .before .before .before .before .use-of .ensures .exact) ∙ c .before .before .enum-told2 .given .1) (c .before .heard .ensures)
     (c .done2 .ensures)
 
 returns-3 : tie.Need-returns-3
 returns-3 c =
     let a = c .before .before .before .before .before .before .before .before .before .before .before .before .before .before .before .before .before .before .before .before .before .before .before .before .args in
     filled-by (a .s) (a .v) (a .p) (a .part .now) (runs (a .log .now) (a .results .now) (a .totals .now)) (a .out .now) _ _
-    (sym (c .before .before .before .before .before .before .before .before .before .before .before .before .before .before .before .before .before .before .use-of .ensures) ∙ c .before .before .before .before .before .before .before .before .before .before .before .before .before .before .before .before .enum-told3 .given .1)
+    (sym (c .before .before .before .before .before .before .before .before .before .before .before .before .before .before .before .before .before .before .use-of .ensures .exact) ∙ c .before .before .before .before .before .before .before .before .before .before .before .before .before .before .before .before .enum-told3 .given .1)
     (part-rest _ (a .part .now)) (c .before .before .before .before .before .before .before .before .fill .ensures)
 
 returns-4 : tie.Need-returns-4
 returns-4 c =
     let a = c .before .before .before .before .before .before .before .before .before .before .before .before .before .before .before .before .before .before .before .before .before .args in
     installed-by (a .s) (a .v) (a .p) (a .part .now) (runs (a .log .now) (a .results .now) (a .totals .now)) (a .out .now) _
-    (sym (c .before .before .before .before .before .before .before .before .before .before .before .before .before .before .before .use-of .ensures) ∙ c .before .before .before .before .before .before .before .before .before .before .before .before .before .enum-told4 .given .1)
+    (sym (c .before .before .before .before .before .before .before .before .before .before .before .before .before .before .before .use-of .ensures .exact) ∙ c .before .before .before .before .before .before .before .before .before .before .before .before .before .enum-told4 .given .1)
     (c .before .before .before .before .before .before .before .before .install .ensures)
 
 pub on-new-state-spec : {M : Type 1} → statement M
