@@ -5,7 +5,7 @@ use mathlib.Core.List.{List, [], _∷_}
 use Prim.Native.Nat.{ℕ, _+_, _-_, _*_, _<_, _≤_}
 use native.Mathlib.Omega.{arith}
 use native.Mathlib.Numerals.{add-one}
-use borrow.Author.Tests.{eq-eqb, ne-eqb, le-leb, lt-leb}
+use borrow.Author.Tests.{eq-eqb, ne-eqb, le-leb, lt-leb, lt-ltb, le-ltb}
 use lib.ListN.{length, getD, take, drop, replicate}
 use lib.Seq.{drop-cons, drop-length}
 use Rattle.numbers.specs.Words.{if_then_else_}
@@ -33,13 +33,13 @@ module _ (h : ℕ) (row : List ℕ) where
   unfolding digestAfter rowText if_then_else_
   row-none e = rw (eq-eqb (getD row 16 0) 0 e)
 
-  pub row-bare : (getD row 16 0 ≡ 0 → ⊥) → getD row 16 0 ≡ 255 → digestAfter (digestAfter h (take 16 row)) (replicate 9 0) ≡ digestAfter h (rowText row)
+  pub row-bare : (getD row 16 0 ≡ 0 → ⊥) → 6 < getD row 16 0 → digestAfter (digestAfter h (take 16 row)) (replicate 9 0) ≡ digestAfter h (rowText row)
   unfolding rowText if_then_else_
-  row-bare n e = rw (ne-eqb (getD row 16 0) 0 n, eq-eqb (getD row 16 0) 255 e) (sym (digest-append h (take 16 row) (replicate 9 0)))
+  row-bare n e = rw (ne-eqb (getD row 16 0) 0 n, lt-ltb 6 (getD row 16 0) e) (sym (digest-append h (take 16 row) (replicate 9 0)))
 
-  pub row-full : (getD row 16 0 ≡ 0 → ⊥) → (getD row 16 0 ≡ 255 → ⊥) → digestAfter h row ≡ digestAfter h (rowText row)
+  pub row-full : (getD row 16 0 ≡ 0 → ⊥) → getD row 16 0 ≤ 6 → digestAfter h row ≡ digestAfter h (rowText row)
   unfolding rowText if_then_else_
-  row-full n k = rw (ne-eqb (getD row 16 0) 0 n, ne-eqb (getD row 16 0) 255 k)
+  row-full n k = rw (ne-eqb (getD row 16 0) 0 n, le-ltb 6 (getD row 16 0) k)
 
 module _ (h : ℕ) (mem : List ℕ) (a : ℕ) where
   pub nth-none : length mem < a + 25 → h ≡ digestAfter h (rowText (partAt a 25 mem))

@@ -2,7 +2,7 @@
 use mathlib.Core.Bool.{Bool, true, false}
 use mathlib.Core.List.{List, [], _∷_, _++_}
 use Prim.Native.Nat.{ℕ, zero, suc, _+_, _*_}
-use lib.Dec.{eqb, leb}
+use lib.Dec.{eqb, leb, ltb}
 use lib.ListN.{getD, take, replicate}
 use Rattle.numbers.specs.Words.{if_then_else_}
 use Rattle.numbers.specs.Numbers.{big}
@@ -38,7 +38,7 @@ heldAs false s = if isRecovering (s .status) then 0 else heldSet (atMostSeven (s
 unfoldable pub rowText : List ℕ → List ℕ
 rowText row =
     if eqb (getD row 16 0) 0 then [] else
-    if eqb (getD row 16 0) 255 then take 16 row ++ replicate 9 0 else
+    if ltb 6 (getD row 16 0) then take 16 row ++ replicate 9 0 else
     row
 
 -- the first n rows of the table, which begins at 400

@@ -116,7 +116,7 @@ fn responses(s: Replica) -> u64
     0
 }
 
-// One row of the client table: mark 0 is an unused one, 255 one without a reply.
+// One row of the client table: mark 0 is an unused one, 1 to 6 one with a reply, any other one without.
 fn with_row(h: u64, row: &[u8]) -> u64
     requires { ⌜ length (now row) ≡ 25 ⌝ }
     ensures { λ r. ⌜ r ≡ digestAfter h (rowText (was row)) ⌝ }
@@ -125,7 +125,7 @@ fn with_row(h: u64, row: &[u8]) -> u64
     if mark == 0 {
         return h;
     }
-    if mark == 255 {
+    if 6 < mark {
         return digest::with_bytes(digest::with_bytes(h, &row[0..16]), &[0; 9]);
     }
     digest::with_bytes(h, row)

@@ -4,11 +4,10 @@ use mathlib.Core.Path.{_≡_, refl, ap, _∙_}
 use mathlib.Core.Bool.{Bool, true, false, not}
 use mathlib.Core.List.{[], _∷_}
 use Prim.Native.Nat.{ℕ, _-_, _*_}
-use lib.Count.{ones}
 use lib.Dec.{eqb, ltb}
 use Rattle.numbers.specs.Words.{if_then_else_, _or_}
 use Rattle.numbers.specs.declared.Op.{Op}
-use Rattle.config.specs.Replicas.{bit, withMember, quorumOf}
+use Rattle.config.specs.Replicas.{bit, withMember, countBelow, quorumOf}
 use Rattle.frames.specs.Numbered.{numbered}
 use Rattle.state.specs.declared.Replica.{Replica}
 use Rattle.normal.specs.PrepareOk.{ackVerdict}
@@ -36,7 +35,7 @@ module _ (s : Replica) (op : Op) (held from room : ℕ) where
   pub count-number : countNumber (ackVerdict s op held from room) ≡ ackNumbers s op held from room
   unfolding ackVerdict ackNumbers
   count-number =
-      by-tests (eqb held 0) (eqb (bit held from) 1) (eqb (ones (withMember held from)) (quorumOf (s .setup .n))) (ltb (s .op .0) (op .0))
+      by-tests (eqb held 0) (eqb (bit held from) 1) (eqb (countBelow (s .setup .n) (withMember held from)) (quorumOf (s .setup .n))) (ltb (s .op .0) (op .0))
       (ltb room (36 * (op .0 - s .commit .0)))
 
   pub weighs-ack : (r : Count) → r ≡ ackVerdict s op held from room → WeighsAck s op held from room r

@@ -1,6 +1,6 @@
 -- What Request, Prepare, PrepareOk, Commit and a Normal primary's tick leave in the area for replies: Replies with outcomes of 1 to 6, where the reply
 -- that is handed in has one. Assumes nothing.
-use mathlib.Core.Path.{refl}
+use mathlib.Core.Path.{_≡_, refl}
 use mathlib.Core.Bool.{false}
 use mathlib.Core.List.{List}
 use Prim.Native.Nat.{ℕ, _-_}
@@ -13,6 +13,7 @@ use Rattle.numbers.proofs.WordLaws.{split}
 use Rattle.entries.specs.Places.{ackPlace}
 use Rattle.entries.specs.declared.Entry.{Entry}
 use Rattle.client_table.specs.declared.Latest.{Latest}
+use Rattle.client_table.specs.declared.Latest.the-variants as Row
 use Rattle.state.specs.declared.Replica.{Replica}
 use Rattle.steps.specs.Steps.{Sound, acceptOf}
 use Rattle.steps.specs.Replying.{Replying}
@@ -38,7 +39,7 @@ use Rattle.normal.specs.declared.request.RequestVerdict.{RequestVerdict}
 
 module _ (s : Replica) (e : Entry) (latest : Latest) (told : ToldOk latest) (log acks out reps : List ℕ) where
   abbrev Called : RequestVerdict → Type 0
-  Called k = Replying reps (Request.byCall k s e latest log acks out reps .reps) (Request.byCall k s e latest log acks out reps .answer .replies)
+  Called k = Replying reps (Request.byCall k s e log acks out reps .reps) (Request.byCall k s e log acks out reps .answer .replies)
 
   new-replies : Called (Request.newVerdict s (length out))
   unfolding Request.newVerdict Request.byCall Request.accepted
@@ -46,19 +47,19 @@ module _ (s : Replica) (e : Entry) (latest : Latest) (told : ToldOk latest) (log
       split Called _ _ _ (λ _. silent) λ _.
       split Called _ _ _ (λ _. silent) λ _. silent
 
-  known-replies : Called (Request.knownVerdict e latest (length reps))
-  unfolding Request.knownVerdict Request.byCall Request.resent
-  known-replies =
+  known-replies : (l : Latest) → latest ≡ l → Called (Request.knownVerdict e l (length reps))
+  unfolding Request.knownVerdict Request.againVerdict Request.byCall Request.resent
+  known-replies Row.Nothing p = silent
+  known-replies (Row.Waiting r) p = silent
+  known-replies (Row.Answered r o) p =
+      let q = told r o p in
       split Called _ _ _ (λ _. silent) λ _.
-      split Called _ _ _ (λ _. silent) λ p.
-      let o = told (not-false (latest .replied) p) in
-      split Called _ _ _ (λ _. silent) λ _. one-reply (s .view) e (latest .reply) reps (o .0) (o .1)
+      split Called _ _ _ (λ _. silent) λ _. one-reply (s .view) e o reps (q .0) (q .1)
 
   client-replies : Called (Request.clientVerdict s e latest (length out) (length reps))
   unfolding Request.clientVerdict
   client-replies =
-      split Called _ _ _ (λ _. new-replies) λ _.
-      split Called _ _ _ (λ _. new-replies) λ _. known-replies
+      split Called _ _ _ (λ _. new-replies) (λ _. known-replies latest refl)
 
   pub request-replies : Replying reps (requestStep s e latest log acks out reps .reps) (requestStep s e latest log acks out reps .answer .replies)
   unfolding requestStep Request.requestVerdict Request.byCall

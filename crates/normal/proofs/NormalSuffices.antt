@@ -15,6 +15,7 @@ use Rattle.entries.specs.Places.{ackPlace}
 use Rattle.entries.specs.declared.Entry.{Entry}
 use Rattle.config.proofs.SetupLaws.{sized}
 use Rattle.client_table.specs.declared.Latest.{Latest}
+use Rattle.client_table.specs.declared.Latest.the-variants as Row
 use Rattle.state.specs.declared.Replica.{Replica}
 use Rattle.steps.specs.Steps.{Sound, Left, acceptOf}
 use Rattle.steps.specs.Areas.{outLength, Suffices}
@@ -51,7 +52,7 @@ module _ (s : Replica) (x : Runs) (h : Sound s x) where
 
   module _ (e : Entry) (latest : Latest) (log acks out reps : List ℕ) where
     abbrev Called : RequestVerdict → Type 0
-    Called k = Suffices (s .setup) (length out) (length reps) (Request.byCall k s e latest log acks out reps .answer .code)
+    Called k = Suffices (s .setup) (length out) (length reps) (Request.byCall k s e log acks out reps .answer .code)
 
     new-suffices : Called (Request.newVerdict s (length out))
     unfolding Request.newVerdict Request.byCall Request.accepted
@@ -59,18 +60,18 @@ module _ (s : Replica) (x : Runs) (h : Sound s x) where
         split Called _ _ _ (λ _. others (omega arith)) λ _.
         split Called _ _ _ (no-room (sendsOf s) sends-fit) λ _. done
 
-    known-suffices : Called (Request.knownVerdict e latest (length reps))
-    unfolding Request.knownVerdict Request.byCall Request.resent
-    known-suffices =
-        split Called _ _ _ (λ _. done) λ _.
+    known-suffices : (l : Latest) → Called (Request.knownVerdict e l (length reps))
+    unfolding Request.knownVerdict Request.againVerdict Request.byCall Request.resent
+    known-suffices Row.Nothing = done
+    known-suffices (Row.Waiting r) = done
+    known-suffices (Row.Answered r o) =
         split Called _ _ _ (λ _. done) λ _.
         split Called _ _ _ (no-reply-room 36 (omega (arith, sized (s .setup) (h .sized) .room-low))) λ _. done
 
     client-suffices : Called (Request.clientVerdict s e latest (length out) (length reps))
     unfolding Request.clientVerdict
     client-suffices =
-        split Called _ _ _ (λ _. new-suffices) λ _.
-        split Called _ _ _ (λ _. new-suffices) λ _. known-suffices
+        split Called _ _ _ (λ _. new-suffices) (λ _. known-suffices latest)
 
     pub request-suffices : Suffices (s .setup) (length out) (length reps) (requestStep s e latest log acks out reps .answer .code)
     unfolding requestStep Request.requestVerdict Request.byCall
@@ -94,7 +95,6 @@ module _ (s : Replica) (x : Runs) (h : Sound s x) where
     unfolding Prepare.appendVerdict Prepare.byPrepareVerdict
     verdict-suffices p =
         split P _ _ _ (λ _. others (omega arith)) λ _.
-        split P _ _ _ (λ _. append-suffices p) λ _.
         split P _ _ _ (λ _. others (omega arith)) λ _. append-suffices p
       where
         P : PrepareVerdict → Type 0

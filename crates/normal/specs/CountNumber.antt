@@ -4,11 +4,10 @@ use mathlib.Core.Path.{_≡_}
 use mathlib.Core.Bool.{not}
 use mathlib.Core.List.{[], _∷_}
 use Prim.Native.Nat.{ℕ, _-_, _*_}
-use lib.Count.{ones}
 use lib.Dec.{eqb, ltb}
 use Rattle.numbers.specs.Words.{if_then_else_, _or_}
 use Rattle.numbers.specs.declared.Op.{Op}
-use Rattle.config.specs.Replicas.{bit, withMember, quorumOf}
+use Rattle.config.specs.Replicas.{bit, withMember, countBelow, quorumOf}
 use Rattle.frames.specs.Numbered.{Numbered, numbered}
 use Rattle.state.specs.declared.Replica.{Replica}
 use Rattle.normal.specs.PrepareOk.{ackVerdict}
@@ -26,7 +25,7 @@ countNumber Commit = numbered 0 (1 ∷ 1 ∷ [])
 unfoldable pub ackNumbers : Replica → Op → (held from room : ℕ) → Numbered
 ackNumbers s op held from room =
     if eqb held 0 or eqb (bit held from) 1 then numbered 0 (0 ∷ 0 ∷ []) else
-    if not (eqb (ones (withMember held from)) (quorumOf (s .setup .n))) then numbered 0 (1 ∷ 0 ∷ []) else
+    if not (eqb (countBelow (s .setup .n) (withMember held from)) (quorumOf (s .setup .n))) then numbered 0 (1 ∷ 0 ∷ []) else
     if ltb (s .op .0) (op .0) then numbered 5 [] else
     if ltb room (36 * (op .0 - s .commit .0)) then numbered 10 [] else
     numbered 0 (1 ∷ 1 ∷ [])

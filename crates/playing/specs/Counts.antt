@@ -19,8 +19,8 @@ noPlay =
     record { line = 0; run = record { live = false; titled = false; due = 0; created = false; before = 0; messages = 0; replies = 0; here = 0 }; answer = refusal 0 (newIn (record { n = 0; id = 0; timeout = 0; room = 0; members = 0 }) Normal (record { 0 = 0 }) 0); tally = record { runs = 0; calls = 0; further = 0; differ = 0; clients = 0; larger = 0 } }
 
 -- at the next line
-abbrev pub numbered : Play → Play
-numbered p =
+abbrev pub nextLine : Play → Play
+nextLine p =
     record { line = nextOf (p .line); run = p .run; answer = p .answer; tally = p .tally }
 
 -- the run differs: it is counted, and the rest of it is passed over

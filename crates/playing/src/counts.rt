@@ -1,6 +1,6 @@
 // What is known of the trace so far. At its first difference a run ends.
 ghost use mathlib.Core.Path.{_≡_};
-ghost use Rattle.playing.specs.Counts.{nextOf, noPlay, numbered, ended, unfinished, closed, titledNow, runBegun, goingOn, tooLarge, aClient, calledNow, stateDue, right, stateRight, furtherRight};
+ghost use Rattle.playing.specs.Counts.{nextOf, noPlay, nextLine, ended, unfinished, closed, titledNow, runBegun, goingOn, tooLarge, aClient, calledNow, stateDue, right, stateRight, furtherRight};
 use crate::Play;
 use crate::RunState;
 use crate::Tally;
@@ -55,8 +55,8 @@ pub fn nothing() -> Play
 }
 
 // At the next line.
-pub fn numbered(p: Play) -> Play
-    ensures { λ r. ⌜ r ≡ numbered p ⌝ }
+pub fn next_line(p: Play) -> Play
+    ensures { λ r. ⌜ r ≡ nextLine p ⌝ }
 {
     let mut q = p;
     q.line = next(p.line);

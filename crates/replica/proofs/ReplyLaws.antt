@@ -1,5 +1,5 @@
 -- No outside call leaves anything in the area for replies but Replies with outcomes of 1 to 6, with their exact count, for any state, any frame and any
--- memory; of a Request that is answered again, where the reply that is found in the client's row has such an outcome. Assumes nothing.
+-- memory. Assumes nothing.
 use mathlib.Core.Path.{_≡_, refl}
 use mathlib.Core.Bool.{true, not}
 use mathlib.Core.List.{List}
@@ -10,7 +10,6 @@ use Rattle.numbers.specs.declared.View.{View}
 use Rattle.numbers.proofs.WordLaws.{split}
 use Rattle.config.specs.declared.Setup.{Setup}
 use Rattle.frames.specs.Refusals.{checkFrame}
-use Rattle.frames.specs.declared.Message.{Message}
 use Rattle.frames.specs.declared.Checked.{Checked}
 use Rattle.frames.specs.declared.Checked.the-variants.{Passed, Refused}
 use Rattle.state.specs.declared.Replica.{Replica}
@@ -18,22 +17,18 @@ use Rattle.steps.specs.Recorded.{Recorded, Gathering}
 use Rattle.steps.specs.Replying.{Replying}
 use Rattle.steps.proofs.ReplyLaws.{silent}
 use Rattle.steps.proofs.SilentSteps.{still}
-use Rattle.normal.specs.Telling.{ToldOk}
 use Rattle.handlers.proofs.ReplyStays.{message-replies, idle-replies}
 use Rattle.outside.specs.Sound.{sound}
 use Rattle.outside.specs.Calls.{checkedOf}
 use Rattle.outside.specs.Creation.{Started, createStep, recoverStep}
 use Rattle.outside.proofs.SoundLaws.{sound-is}
-use Rattle.replica.specs.Calls.{latestFor, Tabled, followedBy, following, checkedCall, messageCall, idleCall, cleared, createCall, recoverCall}
+use Rattle.replica.specs.Calls.{Tabled, followedBy, following, checkedCall, messageCall, idleCall, cleared, createCall, recoverCall}
 use Rattle.replica.specs.Lent.{Lent, Called, lengthsOf}
+use Rattle.replica.proofs.FoundLift.{latest-outcome}
 
 -- a call that is lent x
 abbrev pub Answers : Lent → Called → Type 0
 Answers x d = Replying (x .core .reps) (d .lent .core .reps) (d .answer .replies)
-
--- what is found of the client whose entry a frame carries: the one premise
-abbrev pub FoundOk : Replica → (frame : List ℕ) → Lent → Type 0
-FoundOk s frame x = (m : Message) → checkFrame (s .setup) frame ≡ Passed m → ToldOk (latestFor m (s .setup .room) (x .table))
 
 module _ (s : Replica) (x : Lent) where
   -- the table changes nothing of the answer, nor of the area
@@ -46,11 +41,11 @@ module _ (s : Replica) (x : Lent) where
 
   -- ---- on_message
 
-  module _ (frame : List ℕ) (told : FoundOk s frame x) where
+  module _ (frame : List ℕ) where
     checked-replies : sound s (lengthsOf x) ≡ true → (j : Checked) → checkFrame (s .setup) frame ≡ j → Answers x (checkedCall j s frame x)
     unfolding checkedCall
     checked-replies p (Refused k) e = silent
-    checked-replies p (Passed m) e = follows _ (message-replies s (x .core) (gathers p) m _ frame e (told m e))
+    checked-replies p (Passed m) e = follows _ (message-replies s (x .core) (gathers p) m _ frame e (λ r o q. latest-outcome m (s .setup .room) (x .table) q))
 
     pub message-call-replies : Answers x (messageCall s frame x)
     unfolding messageCall checkedOf checkedCall
