@@ -14,3 +14,4 @@ pub mod NormalRuled
 pub mod RefusedNormal
 pub mod NormalSuffices
 pub mod NormalReplies
+mod VerdictLaws

@@ -2,6 +2,8 @@ pub mod Request
 pub mod Prepare
 pub mod PrepareOk
 pub mod CountNumber
+pub mod RequestNumber
+pub mod PrepareNumber
 pub mod Commit
 pub mod Tick
 pub mod Telling

@@ -3,7 +3,8 @@ ghost use mathlib.Core.Path.{_≡_};
 ghost use Prim.Native.Nat.{_≤_, _<_};
 ghost use Rattle.steps.specs.Steps.{Sound, left};
 ghost use Rattle.book.specs.Memory.{runsBefore, runsAfter, runsHeld};
-ghost use Rattle.normal.specs.Prepare.{lowerOf, appendVerdict, prepareVerdict, appendedBy, takenPrepare, prepareStep};
+ghost use Rattle.normal.specs.Prepare.{lowerOf, appendVerdict, appendedBy, takenPrepare, prepareStep};
+ghost use Rattle.normal.specs.PrepareNumber.{WeighsPrepare};
 ghost use Rattle.numbers.specs.Lending.{was, last};
 use client_table::Latest;
 use entries::Entry;
@@ -55,7 +56,7 @@ fn weigh_append(s: Replica, p: Prepared) -> PrepareVerdict
 
 fn weigh(s: Replica, p: Prepared) -> PrepareVerdict
     requires { ⌜ s .op .0 ≤ 4096 ⌝ }
-    ensures { λ r. ⌜ r ≡ prepareVerdict s p ⌝ }
+    ensures { λ r. ⌜ WeighsPrepare s p r ⌝ }
 {
     let next = s.op.0 + 1;
     if next < p.op.0 {

@@ -3,7 +3,8 @@ ghost use mathlib.Core.Path.{_≡_};
 ghost use Prim.Native.Nat.{_+_, _*_, _≤_, _<_};
 ghost use lib.ListN.{length};
 ghost use Rattle.state.specs.Lengths.{logLength};
-ghost use Rattle.normal.specs.Request.{Ready, sendsOf, againVerdict, knownVerdict, newVerdict, clientVerdict, requestVerdict, served, took, answered, resent, accepted, requestStep};
+ghost use Rattle.normal.specs.Request.{Ready, sendsOf, againVerdict, knownVerdict, newVerdict, clientVerdict, served, took, answered, resent, accepted, requestStep};
+ghost use Rattle.normal.specs.RequestNumber.{WeighsRequest};
 ghost use Rattle.numbers.specs.Lending.{was, last};
 use client_table::Latest;
 use entries::Entry;
@@ -79,7 +80,7 @@ fn weigh_client(s: Replica, e: Entry, latest: Latest, out: usize, reps: usize) -
 
 fn weigh(s: Replica, e: Entry, latest: Latest, out: usize, reps: usize) -> RequestVerdict
     requires { ⌜ (0 < s .setup .n) × (s .setup .n ≤ 7) ⌝ }
-    ensures { λ r. ⌜ r ≡ requestVerdict s e latest out reps ⌝ }
+    ensures { λ r. ⌜ WeighsRequest s e latest out reps r ⌝ }
 {
     if !state::is_primary(s) {
         return RequestVerdict::Nothing;

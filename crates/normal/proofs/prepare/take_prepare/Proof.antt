@@ -24,22 +24,22 @@ acknowledge-requires : tie.Need-acknowledge-requires
 acknowledge-requires c κs = let a = c .before .before .before .before .before .before .before .before .before .before .before .before .before .before .before .args in (sound-heard (a .s) _ _ (c .before .before .before .before .before .heard .ensures) (c .before .before .before .before .before .before .before .before .before .before .before .before .before .before .before .pre), lower-fits _ (a .p .commit) _ _ (ap (λ (t : Replica). t .op) (c .before .before .before .before .before .heard .ensures)) (c .before .before .before .before .lower .ensures))
 
 append-requires : tie.Need-append-requires
-append-requires c κs = let a = c .before .before .before .before .before .before .before .before .before .before .before .before .before .args in (c .before .before .before .before .before .before .before .before .before .before .before .before .before .pre, room-left (a .s) (a .p) _ (c .before .before .before .before .before .before .weigh .ensures) (c .before .before .before .before .enum-told3 .given .1))
+append-requires c κs = let a = c .before .before .before .before .before .before .before .before .before .before .before .before .before .args in (c .before .before .before .before .before .before .before .before .before .before .before .before .before .pre, room-left (a .s) (a .p) _ (c .before .before .before .before .before .before .weigh .ensures .exact) (c .before .before .before .before .enum-told3 .given .1))
 
 returns : tie.Need-returns
 unfolding byPrepareVerdict
-returns c = let a = c .before .before .before .before .before .before .before .before .before .before .before .before .before .args in weighed (a .s) (a .p) _ (a .out .now) _ _ _ (c .before .before .before .before .before .before .weigh .ensures) (c .before .before .before .before .enum-told .given .1) (ap (alone (runs (a .log .now) (a .results .now) (a .totals .now))) (c .before .before .state-transfer .ensures))
+returns c = let a = c .before .before .before .before .before .before .before .before .before .before .before .before .before .args in weighed (a .s) (a .p) _ (a .out .now) _ _ _ (c .before .before .before .before .before .before .weigh .ensures .exact) (c .before .before .before .before .enum-told .given .1) (ap (alone (runs (a .log .now) (a .results .now) (a .totals .now))) (c .before .before .state-transfer .ensures))
 
 returns-2 : tie.Need-returns-2
-returns-2 c = let a = c .before .before .before .before .before .before .before .before .before .before .before .before .before .before .before .before .before .before .before .before .before .before .args in weighed (a .s) (a .p) _ (a .out .now) _ _ _ (c .before .before .before .before .before .before .before .before .before .before .before .before .before .before .before .weigh .ensures) (c .before .before .before .before .before .before .before .before .before .before .before .before .before .enum-told2 .given .1) (acked-again (a .s) (a .p) _ (a .out .now) _ _ _ (c .before .before .before .before .before .before .before .before .before .before .before .before .heard .ensures) (c .before .before .before .before .before .before .before .before .before .before .before .lower .ensures) (c .before .before .before .before .before .before .acknowledge .ensures))
+returns-2 c = let a = c .before .before .before .before .before .before .before .before .before .before .before .before .before .before .before .before .before .before .before .before .before .before .args in weighed (a .s) (a .p) _ (a .out .now) _ _ _ (c .before .before .before .before .before .before .before .before .before .before .before .before .before .before .before .weigh .ensures .exact) (c .before .before .before .before .before .before .before .before .before .before .before .before .before .enum-told2 .given .1) (acked-again (a .s) (a .p) _ (a .out .now) _ _ _ (c .before .before .before .before .before .before .before .before .before .before .before .before .heard .ensures) (c .before .before .before .before .before .before .before .before .before .before .before .lower .ensures) (c .before .before .before .before .before .before .acknowledge .ensures))
 
 returns-3 : tie.Need-returns-3
 unfolding byPrepareVerdict
-returns-3 c = let a = c .before .before .before .before .before .before .before .before .before .before .before .args in weighed (a .s) (a .p) _ (a .out .now) _ _ _ (c .before .before .before .before .weigh .ensures) (c .before .before .code .given .1) (ap (λ (x : Returned). left x (runs (a .log .now) (a .results .now) (a .totals .now)) (a .out .now)) (c .refused .ensures))
+returns-3 c = let a = c .before .before .before .before .before .before .before .before .before .before .before .args in weighed (a .s) (a .p) _ (a .out .now) _ _ _ (c .before .before .before .before .weigh .ensures .exact) (c .before .before .code .given .1) (ap (λ (x : Returned). left x (runs (a .log .now) (a .results .now) (a .totals .now)) (a .out .now)) (c .refused .ensures))
 
 returns-4 : tie.Need-returns-4
 unfolding byPrepareVerdict
-returns-4 c = let a = c .before .before .before .before .before .before .before .before .before .before .before .before .before .before .before .before .before .before .before .before .before .before .args in weighed (a .s) (a .p) _ (a .out .now) _ _ _ (c .before .before .before .before .before .before .before .before .before .before .before .before .before .before .before .weigh .ensures) (c .before .before .before .before .before .before .before .before .before .before .before .before .before .enum-told3 .given .1) (c .before .before .before .before .before .before .before .before .append .ensures)
+returns-4 c = let a = c .before .before .before .before .before .before .before .before .before .before .before .before .before .before .before .before .before .before .before .before .before .before .args in weighed (a .s) (a .p) _ (a .out .now) _ _ _ (c .before .before .before .before .before .before .before .before .before .before .before .before .before .before .before .weigh .ensures .exact) (c .before .before .before .before .before .before .before .before .before .before .before .before .before .enum-told3 .given .1) (c .before .before .before .before .before .before .before .before .append .ensures)
 
 pub take-prepare-spec : {M : Type 1} → statement M
 take-prepare-spec =
