@@ -118,7 +118,7 @@ fn hear(c: Client, v: u32, request: u64, outcome: u8, total: u64) -> Client {
     hear_frame(c, &frame)
 }
 
-fn start(n: u8, id: u64) -> Client {
+fn start(n: u32, id: u64) -> Client {
     let r = client::create(n, id);
     text::labelled(b"create: refusal ", r.refusal as u64);
     text::say(b"\n");
