@@ -22,17 +22,14 @@ fn above(n: usize) -> usize {
 fn itself(v: Vector) {
     text::labelled(b": ", v.len as u64);
     tried::said(b" bytes, number ", v);
-    text::labelled(b", message of kind ", tried::kind(v) as u64);
+    tried::said_kind(b", message of kind ", v);
 }
 
 fn cuts(v: Vector) {
     text::labelled(b"; cut at 0 to ", below(v.len) as u64);
-    text::labelled(b": ", tried::cuts(v, false));
+    tried::said_cuts(b": ", v, false);
     text::labelled(b" of ", v.len as u64);
-    text::labelled(
-        b" refused by 2, length field put right: ",
-        tried::cuts(v, true),
-    );
+    tried::said_cuts(b" refused by 2, length field put right: ", v, true);
     tried::said(b"; a byte more: ", vector::cut(v, above(v.len)));
     tried::said(
         b", length field put right: ",

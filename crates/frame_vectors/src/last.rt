@@ -77,10 +77,10 @@ pub fn order() {
 
 pub fn strays() {
     tried::said(b"The empty frame: ", vector::cut(vector::short(1), 0));
-    tried::said(b"; a Reply, kind 12: ", vector::short(12));
+    tried::said(b"; a Reply, kind 12: ", vector::reply());
     tried::said(
         b"; a Reply to addressee 1: ",
-        vector::with_byte(vector::short(12), 6, 1),
+        vector::with_byte(vector::reply(), 6, 1),
     );
     tried::said(
         b"; length 0, and no more: ",

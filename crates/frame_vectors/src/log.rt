@@ -65,7 +65,7 @@ fn limit(kind: u8) {
     text::kind_name(kind);
     tried::said(b" of L entries: ", vector::logged(kind, 3));
     tried::said(b"; of L+1 entries: ", v);
-    text::labelled(b", read as kind ", tried::kind(v) as u64);
+    tried::said_kind(b", read as kind ", v);
     tried::said(
         b", its last one of operation 0: ",
         vector::with_byte(v, at + 112, 0),

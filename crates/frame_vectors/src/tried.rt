@@ -67,7 +67,7 @@ fn number_of(s: &[u8; 192], n: usize) -> u8 {
     number_of_first(s, n)
 }
 
-pub fn number(v: Vector) -> u8 {
+fn number(v: Vector) -> u8 {
     let bytes = v.bytes;
     number_of(&bytes, v.len)
 }
@@ -83,7 +83,7 @@ fn kind_of_array(s: &[u8; 192], n: usize) -> u8 {
     kind_of_first(s, n)
 }
 
-pub fn kind(v: Vector) -> u8 {
+fn kind(v: Vector) -> u8 {
     let bytes = v.bytes;
     kind_of_array(&bytes, v.len)
 }
@@ -91,6 +91,11 @@ pub fn kind(v: Vector) -> u8 {
 // Text, then the frame's number.
 pub fn said(s: &[u8], v: Vector) {
     text::labelled(s, number(v) as u64);
+}
+
+// Text, then the kind of the message that is read.
+pub fn said_kind(s: &[u8], v: Vector) {
+    text::labelled(s, kind(v) as u64);
 }
 
 fn pair(value: u64, v: Vector) {
@@ -151,10 +156,15 @@ fn counted(hits: u64, k: u8) -> u64 {
 }
 
 // How many of the frame's prefixes are refused by 2.
-pub fn cuts(v: Vector, fit: bool) -> u64 {
+fn cuts(v: Vector, fit: bool) -> u64 {
     let mut hits = 0;
     for n in 0..v.len {
         hits = counted(hits, cut_number(v, n, fit));
     }
     hits
+}
+
+// Text, then that count.
+pub fn said_cuts(s: &[u8], v: Vector, fit: bool) {
+    text::labelled(s, cuts(v, fit));
 }

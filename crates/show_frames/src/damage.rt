@@ -1,8 +1,14 @@
 // A frame with a fault, handed in to replica 1 of 3.
+ghost use mathlib.Core.Path.{_≡_};
+ghost use Rattle.frames.specs.Refusals.{checkFrame};
+ghost use Rattle.numbers.specs.Lending.{was};
+ghost use Rattle.show_frames.specs.Shown.{setupShown, numberShown};
 use config::Setup;
 use frames::Checked;
 
-fn setup() -> Setup {
+fn setup() -> Setup
+    ensures { λ r. ⌜ r ≡ setupShown ⌝ }
+{
     Setup {
         n: 3,
         id: 1,
@@ -13,7 +19,9 @@ fn setup() -> Setup {
 }
 
 // The refusal number, 0: none.
-pub fn number(frame: &[u8]) -> u8 {
+pub fn number(frame: &[u8]) -> u8
+    ensures { λ r. ⌜ r ≡ numberShown (checkFrame setupShown (was frame)) ⌝ }
+{
     match frames::check(setup(), frame) {
         Checked::Passed { .. } => 0,
         Checked::Refused { number } => number,

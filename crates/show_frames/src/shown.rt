@@ -1,4 +1,6 @@
 // A frame shown: its bytes, what `parse` reads in them, and whether that, written again, is the same.
+ghost use mathlib.Core.Path.{_≡_};
+ghost use Rattle.show_frames.specs.Shown.{feeShown};
 use crate::damage;
 use crate::words;
 use entries::Entry;
@@ -44,7 +46,9 @@ fn put_entry(s: &mut [u8], at: usize, e: Entry) {
     entries::write_entry(&mut s[at..], e);
 }
 
-pub fn fee() -> Entry {
+pub fn fee() -> Entry
+    ensures { λ r. ⌜ r ≡ feeShown ⌝ }
+{
     Entry {
         client: 7,
         request: 0,
