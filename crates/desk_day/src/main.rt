@@ -1,5 +1,7 @@
 // A desk's day: requests, a lost reply and its re-send, a duplicate reply, a view change learned from a reply, refused requests, frames
 // that are no Reply, and a client at its last request number. Each frame is printed as hex and each answer in words. The replicas are played by hand.
+mod lent; // the client's functions on a lent record
+
 use client::Client;
 use client::Read;
 use client::ReplyOutcome;
@@ -45,7 +47,7 @@ fn say_record(c: Client) {
 
 // `on_request` over the area that is lent.
 fn ask_in(c: Client, operation: u8, member: u32, cents: u64, area: &mut [u8]) -> Client {
-    let r = client::requested(c, operation, member, cents, area);
+    let r = lent::request(c, operation, member, cents, area);
     text::labelled(b"request: refusal ", r.answer.refusal as u64);
     text::labelled(b", number ", r.answer.number);
     text::labelled(b", written ", r.answer.written as u64);
@@ -62,13 +64,15 @@ fn ask(c: Client, operation: u8, member: u32, cents: u64) -> Client {
 }
 
 // `on_idle`.
-fn wait(c: Client) {
+fn wait(c: Client) -> Client {
     let mut area = [0u8; 273];
-    let r = client::idled(c, &mut area);
-    text::labelled(b"idle: refusal ", r.refusal as u64);
-    text::labelled(b", written ", r.written as u64);
+    let r = lent::idle(c, &mut area);
+    text::labelled(b"idle: refusal ", r.answer.refusal as u64);
+    text::labelled(b", written ", r.answer.written as u64);
     text::say(b"\n");
-    say_frames(&area, r.written);
+    say_frames(&area, r.answer.written);
+    let d = r.client;
+    d
 }
 
 fn say_outcome(o: ReplyOutcome) {
@@ -98,7 +102,7 @@ fn hear_frame(c: Client, frame: &[u8]) -> Client {
             outcome,
             total,
         } => {
-            let r = client::replied(c, request, view);
+            let r = lent::reply(c, request, view);
             text::labelled(b"reply: refusal ", r.answer.refusal as u64);
             say_flag(b", done ", r.answer.done);
             say_outcome(outcome);
@@ -130,11 +134,8 @@ fn start(n: u32, id: u64) -> Client {
 // The morning: a fee, its reply lost, sent again, answered twice.
 fn morning(c: Client) -> Client {
     let asked = ask(c, 1, 3, 4500);
-    wait(asked);
-    let heard = hear(asked, 0, 0, 1, 4500);
-    let twice = hear(heard, 0, 0, 1, 4500);
-    wait(twice);
-    twice
+    let heard = hear(wait(asked), 0, 0, 1, 4500);
+    wait(hear(heard, 0, 0, 1, 4500))
 }
 
 // Noon: requests that are refused leave the record as it was.
@@ -149,8 +150,7 @@ fn noon(c: Client) -> Client {
 fn afternoon(c: Client) -> Client {
     let asked = ask(c, 2, 3, 500);
     let raised = hear(asked, 4, 0, 1, 4500);
-    wait(raised);
-    let heard = hear(raised, 4, 1, 2, 4000);
+    let heard = hear(wait(raised), 4, 1, 2, 4000);
     let total = ask(heard, 3, 3, 0);
     let bad = hear(total, 4, 2, 7, 4000);
     let cut = hear_frame(bad, b"\x00\x00\x00\x20\x01\x0c\x00");
@@ -168,8 +168,7 @@ fn last_request() {
     };
     let asked = ask(c, 3, 0, 0);
     let refused = ask(asked, 3, 0, 0);
-    wait(refused);
-    hear(refused, 5, 0xFFFF_FFFF_FFFF_FFFE, 4, 0);
+    hear(wait(refused), 5, 0xFFFF_FFFF_FFFF_FFFE, 4, 0);
 }
 
 fn main() {
