@@ -5,7 +5,7 @@ use mathlib.Core.List.{List}
 use Prim.Native.Nat.{ℕ, _+_, _-_, _*_, _≤_, _<_}
 use native.Mathlib.Nat.{mul-add}
 use native.Mathlib.Omega.{arith}
-use lib.ListN.{length, take}
+use lib.ListN.{length}
 use Rattle.numbers.specs.declared.View.{View}
 use Rattle.numbers.specs.declared.Op.{Op}
 use Rattle.numbers.proofs.WordLaws.{split}
@@ -13,7 +13,7 @@ use Rattle.config.specs.Setup.{setupOk}
 use Rattle.config.proofs.SetupLaws.{sized}
 use Rattle.state.specs.State.{changingTo}
 use Rattle.state.specs.Lengths.{storedLength}
-use Rattle.state.specs.Sound.{reportsOk}
+use Rattle.state.specs.Sound.{gatheredOk}
 use Rattle.state.specs.declared.Replica.{Replica}
 use Rattle.state.specs.declared.Report.{Report}
 use Rattle.state.specs.declared.Reports.{Reports}
@@ -28,7 +28,8 @@ use Rattle.steps.specs.Steps.{Spoke}
 use Rattle.steps.specs.Recorded.{Recorded, Gathering}
 use Rattle.steps.specs.Areas.{outLength, Suffices}
 use Rattle.steps.proofs.AreaLaws.{both-fit, each-fits, others, done, no-room, no-reply-room}
-use Rattle.steps.proofs.Held.{Held, none-ok, as-it-was, moves}
+use Rattle.state.proofs.SoundLaws.{none-gathered}
+use Rattle.steps.proofs.Held.{Held, as-it-was, moves}
 use Rattle.view_change.proofs.ChangeSuffices.{sent-start-view-suffices}
 use Rattle.book.specs.Memory.{Memory}
 use Rattle.do_view_change.specs.Begin.{firstLength, startViewsLength, entered, owed, begunIn, beginStep}
@@ -66,16 +67,17 @@ module _ (s t : Replica) (m : Memory) (ht : Held (t .setup) t (m .runs)) (stored
   Enough d = Suffices (t .setup) (length (m .out)) (length (m .reps)) (d .answer .code)
 
   -- replica r tells the report d, whose log is in `fresh`
-  module _ (first : Bool) (r : ℕ) (d : Report) (fresh : List ℕ) (op-le : d .op .0 ≤ t .setup .room) (commit-le : d .commit .0 ≤ d .op .0)
+  module _ (first : Bool) (r : ℕ) (d : Report) (fresh : List ℕ) (lt : r < t .setup .n) (there : d .there ≡ true)
+      (op-le : d .op .0 ≤ t .setup .room) (commit-le : d .commit .0 ≤ d .op .0)
       (long : 32 * d .op .0 ≤ length fresh) where
     abbrev pub rows : Reports
     rows = withReport (t .reports) r d
 
-    rows-ok : reportsOk (t .setup .room) (take (t .setup .n) (rows .rows)) ≡ true
-    rows-ok = set-ok (t .setup .room) (t .setup .n) r (t .reports .rows) d (row-ok (t .setup .room) d op-le commit-le) (ht .reports)
+    rows-ok : gatheredOk (t .setup) (t .starts) (rows .rows) ≡ true
+    rows-ok = set-ok (t .setup) (t .starts) r (t .reports .rows) d lt (row-ok (t .setup .room) d there op-le commit-le) (ht .reports)
 
     fits : Fits rows (t .setup .n) r (t .setup .room) (m .stored) fresh
-    fits = rows-fit (t .setup) (t .reports) r d (m .stored) fresh (ht .sound .sized) rows-ok stored-long long
+    fits = rows-fit (t .setup) (t .starts) (t .reports) r d (m .stored) fresh (ht .sound .sized) rows-ok stored-long long
 
     abbrev pub verdict : Judged
     verdict = judged rows (t .setup .n) r (t .setup .room) (t .commit .0) (m .runs .log) (m .stored) fresh
@@ -110,7 +112,7 @@ module _ (s t : Replica) (m : Memory) (ht : Held (t .setup) t (m .runs)) (stored
   send-suffices first =
       let a = ht .sound in
       split Enough _ _ _
-      (λ _. recorded-suffices first (t .setup .id) (ownReport t) (m .runs .log) (a .op-le) (a .commit-le) (omega (arith, a .op-le, a .log-long)))
+      (λ _. recorded-suffices first (t .setup .id) (ownReport t) (m .runs .log) (sized (t .setup) (a .sized) .own) refl (a .op-le) (a .commit-le) (omega (arith, a .op-le, a .log-long)))
       (λ _.
       split (λ (d : Spoke). Suffices (t .setup) (length (m .out)) (length (m .reps)) (d .answer .code)) _ _ _
       (no-room _ (report-fits t (a .sized) first (a .op-le))) (λ _. done))
@@ -131,9 +133,9 @@ module _ (s : Replica) (m : Memory) (h : Gathering s m) where
       split EnoughHere _ _ _ (λ _. done) λ _.
       split EnoughHere _ _ _
       (λ _.
-      recorded-suffices s (changingTo s v) m (moves here (changingTo s v) refl refl refl (none-ok (s .setup))) (h .stored-long) true r
-      (reportOf l o c) part (told .1 .0) (told .1 .1 .0) (told .1 .1 .1))
+      recorded-suffices s (changingTo s v) m (moves here (changingTo s v) refl refl refl (none-gathered (s .setup))) (h .stored-long) true r
+      (reportOf l o c) part (told .0) refl (told .1 .0) (told .1 .1 .0) (told .1 .1 .1))
       λ _.
       split EnoughHere _ _ _
       (λ _. sent-start-view-suffices (m .out) (length (m .reps)) s (h .sound .sized) (h .sound .op-le) r (m .runs .log)) λ _.
-      recorded-suffices s s m here (h .stored-long) false r (reportOf l o c) part (told .1 .0) (told .1 .1 .0) (told .1 .1 .1)
+      recorded-suffices s s m here (h .stored-long) false r (reportOf l o c) part (told .0) refl (told .1 .0) (told .1 .1 .0) (told .1 .1 .1)

@@ -23,7 +23,7 @@ use Rattle.normal.specs.Prepare.{preparedBy}
 use Rattle.normal.specs.Telling.{ToldOk}
 use Rattle.transfer.specs.NewState.{partOf}
 use Rattle.handlers.specs.Handlers.{handled, messageStep, followTick, normalTick, askTick, changingTick, idleStep}
-use Rattle.handlers.proofs.FrameLaws.{report-fit}
+use Rattle.handlers.proofs.FrameLaws.{call-fit, report-fit}
 use Rattle.normal.proofs.NormalReplies.{request-replies, prepare-ok-replies, prepare-mute, commit-mute, primary-tick-mute}
 use Rattle.transfer.proofs.TransferReplies.{get-state-mute, new-state-mute, transfer-tick-mute}
 use Rattle.view_change.proofs.ChangeReplies.{start-view-mute}
@@ -44,7 +44,7 @@ module _ (s : Replica) (m : Memory) (h : Gathering s m) where
   handled-replies (GetState r v o) latest frame ok told = still _ (get-state-mute s (m .out) r v o (m .runs .log))
   handled-replies (NewState v a z c) latest frame ok told =
       still _ (new-state-mute s (m .out) v (partOf a z c) (carriedBytes (NewState v a z c) frame) (m .runs))
-  handled-replies (StartViewChange v r) latest frame ok told = start-view-change-replies s m h v r
+  handled-replies (StartViewChange v r) latest frame ok told = start-view-change-replies s m h v r (call-fit (s .setup) frame v r ok)
   handled-replies (DoViewChange v r l o c) latest frame ok told =
       do-view-change-replies s m h v r l o c (carriedBytes (DoViewChange v r l o c) frame) (report-fit (s .setup) frame v r l o c ok)
   handled-replies (StartView v o c) latest frame ok told =

@@ -23,7 +23,7 @@ use Rattle.book.specs.Memory.{Memory}
 use Rattle.normal.specs.Prepare.{preparedBy}
 use Rattle.transfer.specs.NewState.{partOf}
 use Rattle.handlers.specs.Handlers.{handled, messageStep, followTick, normalTick, askTick, changingTick, idleStep}
-use Rattle.handlers.proofs.FrameLaws.{report-fit}
+use Rattle.handlers.proofs.FrameLaws.{call-fit, report-fit}
 use Rattle.normal.proofs.NormalSuffices.{request-suffices, prepare-suffices, prepare-ok-suffices, commit-suffices, primary-tick-suffices}
 use Rattle.transfer.proofs.TransferSuffices.{get-state-suffices, new-state-suffices, transfer-tick-suffices}
 use Rattle.view_change.proofs.ChangeSuffices.{start-view-suffices}
@@ -54,7 +54,7 @@ module _ (s : Replica) (m : Memory) (h : Gathering s m) where
   handled-suffices (GetState r v o) latest frame ok = get-state-suffices s (m .runs) (h .sound) (m .out) b r v o (m .runs .log)
   handled-suffices (NewState v i z c) latest frame ok =
       new-state-suffices s (m .runs) (h .sound) (m .out) b v (partOf i z c) (carriedBytes (NewState v i z c) frame)
-  handled-suffices (StartViewChange v r) latest frame ok = start-view-change-suffices s m h v r
+  handled-suffices (StartViewChange v r) latest frame ok = start-view-change-suffices s m h v r (call-fit (s .setup) frame v r ok)
   handled-suffices (DoViewChange v r l o c) latest frame ok =
       do-view-change-suffices s m h v r l o c (carriedBytes (DoViewChange v r l o c) frame) (report-fit (s .setup) frame v r l o c ok)
   handled-suffices (StartView v o c) latest frame ok =

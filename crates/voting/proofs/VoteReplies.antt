@@ -3,7 +3,7 @@
 use mathlib.Core.Path.{_≡_, refl}
 use mathlib.Core.Bool.{Bool, true, false}
 use mathlib.Core.List.{List}
-use Prim.Native.Nat.{ℕ}
+use Prim.Native.Nat.{ℕ, _<_}
 use lib.ListN.{length}
 use Rattle.numbers.specs.declared.View.{View}
 use Rattle.numbers.proofs.WordLaws.{split}
@@ -12,7 +12,8 @@ use Rattle.state.specs.State.{withClock, changingTo, withStart, withSent}
 use Rattle.state.specs.Lengths.{storedLength}
 use Rattle.state.specs.declared.Replica.{Replica}
 use Rattle.steps.specs.Recorded.{Gathering}
-use Rattle.steps.proofs.Held.{Held, none-ok, as-it-was, moves}
+use Rattle.state.proofs.SoundLaws.{none-gathered, start-gathered}
+use Rattle.steps.proofs.Held.{Held, as-it-was, moves}
 use Rattle.steps.proofs.ReplyLaws.{silent}
 use Rattle.steps.proofs.SilentSteps.{Mute, still, asked-mute}
 use Rattle.book.specs.Memory.{Memory}
@@ -39,21 +40,21 @@ module _ (s : Replica) (m : Memory) (h : Gathering s m) where
 
   -- ---- StartViewChange
 
-  same-view-replies : (r : ℕ) → Answers m (sameView s r m)
+  same-view-replies : (r : ℕ) → r < s .setup .n → Answers m (sameView s r m)
   unfolding sameView
-  same-view-replies r =
+  same-view-replies r lt =
       split (Answers m) _ _ _
-      (λ _. maybe-replies s (withStart s r) m (moves here (withStart s r) refl refl refl (h .reports)) (h .stored-long) false) λ _.
+      (λ _. maybe-replies s (withStart s r) m (moves here (withStart s r) refl refl refl (start-gathered (s .setup) (s .starts) r _ lt (h .reports))) (h .stored-long) false) λ _.
       split (Answers m) _ _ _ (λ _. silent) λ _.
       split (Answers m) _ _ _ (λ _. still _ (sent-start-view-mute s r (m .runs .log) (m .out))) λ _. silent
 
-  pub start-view-change-replies : (v : View) (r : ℕ) → Answers m (startViewChangeStep s v r m)
+  pub start-view-change-replies : (v : View) (r : ℕ) → r < s .setup .n → Answers m (startViewChangeStep s v r m)
   unfolding startViewChangeStep
-  start-view-change-replies v r =
+  start-view-change-replies v r lt =
       let t = withStart (changingTo s v) r in
       split (Answers m) _ _ _ (λ _. silent) λ _.
-      split (Answers m) _ _ _ (λ _. maybe-replies s t m (moves here t refl refl refl (none-ok (s .setup))) (h .stored-long) true) λ _.
-      same-view-replies r
+      split (Answers m) _ _ _ (λ _. maybe-replies s t m (moves here t refl refl refl (start-gathered (s .setup) 0 r _ lt (none-gathered (s .setup)))) (h .stored-long) true) λ _.
+      same-view-replies r lt
 
   -- ---- ticks; c is the clock after it
 

@@ -2,7 +2,7 @@
 -- bytes. Assumes nothing.
 use mathlib.Core.Path.{_≡_, refl}
 use mathlib.Core.Bool.{Bool, true, false}
-use Prim.Native.Nat.{ℕ, _+_}
+use Prim.Native.Nat.{ℕ, _+_, _<_}
 use native.Mathlib.Omega.{arith}
 use lib.ListN.{length}
 use Rattle.numbers.specs.declared.View.{View}
@@ -17,7 +17,8 @@ use Rattle.steps.specs.Recorded.{Recorded, Gathering, onlySent}
 use Rattle.steps.specs.Areas.{Suffices}
 use Rattle.steps.proofs.AreaLaws.{both-fit, others, done, no-room}
 use Rattle.steps.proofs.StepsSuffice.{Spoken, asked-suffices}
-use Rattle.steps.proofs.Held.{Held, none-ok, as-it-was, moves}
+use Rattle.state.proofs.SoundLaws.{none-gathered, start-gathered}
+use Rattle.steps.proofs.Held.{Held, as-it-was, moves}
 use Rattle.book.specs.Memory.{Memory}
 use Rattle.view_change.specs.StartViewChange.{callsLength}
 use Rattle.view_change.proofs.ChangeSuffices.{started-suffices, sent-start-view-suffices}
@@ -51,22 +52,22 @@ module _ (s : Replica) (m : Memory) (h : Gathering s m) where
 
   -- ---- StartViewChange
 
-  same-view-suffices : (r : ℕ) → EnoughHere (sameView s r m)
+  same-view-suffices : (r : ℕ) → r < s .setup .n → EnoughHere (sameView s r m)
   unfolding sameView
-  same-view-suffices r =
+  same-view-suffices r lt =
       split EnoughHere _ _ _
-      (λ _. maybe-suffices s (withStart s r) m (moves here (withStart s r) refl refl refl (h .reports)) (h .stored-long) false) λ _.
+      (λ _. maybe-suffices s (withStart s r) m (moves here (withStart s r) refl refl refl (start-gathered (s .setup) (s .starts) r _ lt (h .reports))) (h .stored-long) false) λ _.
       split EnoughHere _ _ _ (λ _. done) λ _.
       split EnoughHere _ _ _
       (λ _. sent-start-view-suffices (m .out) (length (m .reps)) s (h .sound .sized) (h .sound .op-le) r (m .runs .log)) λ _. done
 
-  pub start-view-change-suffices : (v : View) (r : ℕ) → EnoughHere (startViewChangeStep s v r m)
+  pub start-view-change-suffices : (v : View) (r : ℕ) → r < s .setup .n → EnoughHere (startViewChangeStep s v r m)
   unfolding startViewChangeStep
-  start-view-change-suffices v r =
+  start-view-change-suffices v r lt =
       let t = withStart (changingTo s v) r in
       split EnoughHere _ _ _ (λ _. done) λ _.
-      split EnoughHere _ _ _ (λ _. maybe-suffices s t m (moves here t refl refl refl (none-ok (s .setup))) (h .stored-long) true) λ _.
-      same-view-suffices r
+      split EnoughHere _ _ _ (λ _. maybe-suffices s t m (moves here t refl refl refl (start-gathered (s .setup) 0 r _ lt (none-gathered (s .setup)))) (h .stored-long) true) λ _.
+      same-view-suffices r lt
 
   -- ---- ticks; c is the clock after it
 
