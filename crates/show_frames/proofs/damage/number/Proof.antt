@@ -15,11 +15,11 @@ number-told u xs r q e f g = ap numberShown (sym g ∙ (f ∙ ap (λ (w : Setup)
 
 returns : tie.Need-returns
 unfolding numberShown
-returns c = number-told _ _ _ _ (c .before .before .before .setup .ensures) (c .before .before .check .ensures) (c .enum-told .given .1)
+returns c = number-told _ _ _ _ (c .before .before .before .setup .ensures) (c .before .before .check .ensures .exact) (c .enum-told .given .1)
 
 returns-2 : tie.Need-returns-2
 unfolding numberShown
-returns-2 c = number-told _ _ _ _ (c .before .before .before .before .setup .ensures) (c .before .before .before .check .ensures) (c .before .number .given .1)
+returns-2 c = number-told _ _ _ _ (c .before .before .before .before .setup .ensures) (c .before .before .before .check .ensures .exact) (c .before .number .given .1)
 
 pub number-spec : {M : Type 1} → statement M
 number-spec =
