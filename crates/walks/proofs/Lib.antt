@@ -1,3 +1,4 @@
+pub mod Arrays
 pub mod Calling
 pub mod Handing
 pub mod Mixed
