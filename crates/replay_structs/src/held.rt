@@ -1,0 +1,150 @@
+// The replica's four calls, each over tables that are held here: the first `l` rows of two arrays are lent to it, and come back with its answer.
+ghost use Prim.Native.Nat.{_≤_};
+use client_table_structs::Row;
+use config::Setup;
+use numbers::View;
+use state::Replica;
+use state::Returned;
+
+// What a call answered, and the rows after it.
+pub struct Left {
+    pub answer: Returned,
+    pub table: [Row; 8],
+    pub old: [Row; 8],
+}
+
+pub fn with_rows(answer: Returned, table: [Row; 8], old: [Row; 8]) -> Left {
+    Left { answer, table, old }
+}
+
+// new
+pub fn create(
+    u: Setup,
+    log: &[u8],
+    results: &[u8],
+    totals: &mut [u8],
+    acks: &mut [u8],
+    stored: &[u8],
+    l: usize,
+    table: [Row; 8],
+    old: [Row; 8],
+) -> Left
+    requires { ⌜ l ≤ 8 ⌝ }
+{
+    let mut rows = table;
+    let spare = old;
+    let a = replica_structs::create(
+        u,
+        log,
+        results,
+        totals,
+        acks,
+        stored,
+        &mut rows[0..l],
+        &spare[0..l],
+    );
+    with_rows(a, rows, spare)
+}
+
+// recover
+pub fn recover(
+    u: Setup,
+    view: View,
+    nonce: u64,
+    log: &[u8],
+    results: &[u8],
+    totals: &mut [u8],
+    acks: &mut [u8],
+    stored: &[u8],
+    out: &mut [u8],
+    l: usize,
+    table: [Row; 8],
+    old: [Row; 8],
+) -> Left
+    requires { ⌜ l ≤ 8 ⌝ }
+{
+    let mut rows = table;
+    let spare = old;
+    let a = replica_structs::recover(
+        u,
+        view,
+        nonce,
+        log,
+        results,
+        totals,
+        acks,
+        stored,
+        &mut rows[0..l],
+        &spare[0..l],
+        out,
+    );
+    with_rows(a, rows, spare)
+}
+
+// on_message
+pub fn on_message(
+    s: Replica,
+    frame: &[u8],
+    log: &mut [u8],
+    results: &mut [u8],
+    totals: &mut [u8],
+    acks: &mut [u8],
+    stored: &mut [u8],
+    out: &mut [u8],
+    reps: &mut [u8],
+    l: usize,
+    table: [Row; 8],
+    old: [Row; 8],
+) -> Left
+    requires { ⌜ l ≤ 8 ⌝ }
+{
+    let mut rows = table;
+    let mut spare = old;
+    let a = replica_structs::on_message(
+        s,
+        frame,
+        log,
+        results,
+        totals,
+        acks,
+        stored,
+        &mut rows[0..l],
+        &mut spare[0..l],
+        out,
+        reps,
+    );
+    with_rows(a, rows, spare)
+}
+
+// on_idle
+pub fn on_idle(
+    s: Replica,
+    log: &mut [u8],
+    results: &mut [u8],
+    totals: &mut [u8],
+    acks: &mut [u8],
+    stored: &mut [u8],
+    out: &mut [u8],
+    reps: &mut [u8],
+    l: usize,
+    table: [Row; 8],
+    old: [Row; 8],
+) -> Left
+    requires { ⌜ l ≤ 8 ⌝ }
+{
+    let mut rows = table;
+    let mut spare = old;
+    let a = replica_structs::on_idle(
+        s,
+        log,
+        results,
+        totals,
+        acks,
+        stored,
+        &mut rows[0..l],
+        &mut spare[0..l],
+        out,
+        reps,
+    );
+    with_rows(a, rows, spare)
+}
