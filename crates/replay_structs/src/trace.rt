@@ -272,7 +272,7 @@ fn closed(p: Play) -> Play {
 
 // At a line; before a run the one before is closed, and the title printed.
 fn opened(trace: &[u8], c: u8, t: Place, p: Play) -> Play {
-    let q = counts::numbered(p);
+    let q = counts::next_line(p);
     if !begins(c) {
         return q;
     }
@@ -337,7 +337,7 @@ fn beginning() -> Turn {
 // Behind the last line.
 fn end(t: Turn) -> Play {
     let p = t.play;
-    closed(counts::numbered(p))
+    closed(counts::next_line(p))
 }
 
 // Every line; the last one may have no end.
