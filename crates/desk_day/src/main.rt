@@ -1,6 +1,8 @@
 // A desk's day: requests, a lost reply and its re-send, a duplicate reply, a view change learned from a reply, refused requests, frames
 // that are no Reply, and a client at its last request number. Each frame is printed as hex and each answer in words. The replicas are played by hand.
+// Then the recorded calls of clients that come in as input, compared.
 mod lent; // the client's functions on a lent record
+mod recorded; // recorded calls, played through them
 
 use client::Client;
 use client::Read;
@@ -171,6 +173,13 @@ fn last_request() {
     hear(wait(refused), 5, 0xFFFF_FFFF_FFFF_FFFE, 4, 0);
 }
 
+// The recorded calls that come in, of 32,768 bytes at most.
+fn play_recorded() {
+    let mut input = [0u8; 32768];
+    let n = io::read_full(0, &mut input);
+    recorded::replay(&input[..n]);
+}
+
 fn main() {
     let none = start(2, 7);
     let refused = ask(none, 1, 3, 4500);
@@ -182,4 +191,5 @@ fn main() {
     let replaced = ask(ask(a, 1, 5, 100), 1, 5, 200);
     wait(replaced);
     last_request();
+    play_recorded();
 }
