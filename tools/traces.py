@@ -150,10 +150,11 @@ def best_front(shown, known, taken):
 
 
 def picked(runs, most):
-    """Fronts of runs that show the most in at most so many calls together, in the trace's order, and whether others show something
-    that these don't. The same runs give the same choice."""
+    """Every creation of a replica that is refused, which costs no call, and fronts of runs that show the most in at most so many calls
+    together, in the trace's order, and whether others show something that these don't. The same runs give the same choice."""
     shown = {place: shown_by(run) for place, run in enumerate(runs)}
-    known, lengths, left = set(), {}, most
+    lengths = {place: 0 for place, run in enumerate(runs) if not is_client(run) and refused_creation(run)}
+    known, left = set().union(*(shown[place][0] for place in lengths)), most
     while True:
         shown = {place: things for place, things in shown.items() if set().union(*things) - known}
         best = (0, 0, 0)

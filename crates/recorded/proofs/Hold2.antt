@@ -2,52 +2,596 @@
 use mathlib.Core.Path.{refl}
 use Rattle.against_rust.specs.Shape.{RunHolds}
 use Rattle.against_rust.proofs.OpenRuns.{open-runs}
-use Rattle.recorded.specs.Runs2.{run46, run47, run48, run49, run50, run51, run52, run53, run54, run55, run56, run57}
+use Rattle.recorded.specs.Runs2.{run261, run262, run263, run264, run265, run266, run267, run268, run269, run270, run271, run272, run273, run274, run275, run276, run277, run278, run279, run280, run281, run282, run283, run284, run285, run286, run287, run288, run289, run290, run291, run292, run293, run294, run295, run296, run297, run298, run299, run300, run301, run302, run303, run304, run305, run306, run307, run308, run309, run310, run311, run312, run313, run314, run315, run316, run317, run318, run319, run320, run321, run322, run323, run324, run325, run326, run327, run328, run329, run330, run331, run332, run333, run334, run335, run336, run337, run338, run339, run340, run341, run342, run343, run344, run345, run346, run347, run348, run349, run350, run351, run352, run353, run354, run355, run356, run357, run358, run359, run360, run361, run362, run363, run364, run365, run366, run367, run368, run369, run370, run371, run372, run373, run374, run375, run376, run377, run378, run379, run380, run381, run382, run383, run384, run385, run386, run387, run388, run389, run390, run391, run392, run393, run394, run395, run396, run397, run398, run399, run400, run401, run402, run403, run404, run405, run406, run407, run408}
 
-pub hold46 : RunHolds run46
-unfolding open-runs run46
-hold46 = refl
+pub hold261 : RunHolds run261
+unfolding open-runs run261
+hold261 = refl
 
-pub hold47 : RunHolds run47
-unfolding open-runs run47
-hold47 = refl
+pub hold262 : RunHolds run262
+unfolding open-runs run262
+hold262 = refl
 
-pub hold48 : RunHolds run48
-unfolding open-runs run48
-hold48 = refl
+pub hold263 : RunHolds run263
+unfolding open-runs run263
+hold263 = refl
 
-pub hold49 : RunHolds run49
-unfolding open-runs run49
-hold49 = refl
+pub hold264 : RunHolds run264
+unfolding open-runs run264
+hold264 = refl
 
-pub hold50 : RunHolds run50
-unfolding open-runs run50
-hold50 = refl
+pub hold265 : RunHolds run265
+unfolding open-runs run265
+hold265 = refl
 
-pub hold51 : RunHolds run51
-unfolding open-runs run51
-hold51 = refl
+pub hold266 : RunHolds run266
+unfolding open-runs run266
+hold266 = refl
 
-pub hold52 : RunHolds run52
-unfolding open-runs run52
-hold52 = refl
+pub hold267 : RunHolds run267
+unfolding open-runs run267
+hold267 = refl
 
-pub hold53 : RunHolds run53
-unfolding open-runs run53
-hold53 = refl
+pub hold268 : RunHolds run268
+unfolding open-runs run268
+hold268 = refl
 
-pub hold54 : RunHolds run54
-unfolding open-runs run54
-hold54 = refl
+pub hold269 : RunHolds run269
+unfolding open-runs run269
+hold269 = refl
 
-pub hold55 : RunHolds run55
-unfolding open-runs run55
-hold55 = refl
+pub hold270 : RunHolds run270
+unfolding open-runs run270
+hold270 = refl
 
-pub hold56 : RunHolds run56
-unfolding open-runs run56
-hold56 = refl
+pub hold271 : RunHolds run271
+unfolding open-runs run271
+hold271 = refl
 
-pub hold57 : RunHolds run57
-unfolding open-runs run57
-hold57 = refl
+pub hold272 : RunHolds run272
+unfolding open-runs run272
+hold272 = refl
+
+pub hold273 : RunHolds run273
+unfolding open-runs run273
+hold273 = refl
+
+pub hold274 : RunHolds run274
+unfolding open-runs run274
+hold274 = refl
+
+pub hold275 : RunHolds run275
+unfolding open-runs run275
+hold275 = refl
+
+pub hold276 : RunHolds run276
+unfolding open-runs run276
+hold276 = refl
+
+pub hold277 : RunHolds run277
+unfolding open-runs run277
+hold277 = refl
+
+pub hold278 : RunHolds run278
+unfolding open-runs run278
+hold278 = refl
+
+pub hold279 : RunHolds run279
+unfolding open-runs run279
+hold279 = refl
+
+pub hold280 : RunHolds run280
+unfolding open-runs run280
+hold280 = refl
+
+pub hold281 : RunHolds run281
+unfolding open-runs run281
+hold281 = refl
+
+pub hold282 : RunHolds run282
+unfolding open-runs run282
+hold282 = refl
+
+pub hold283 : RunHolds run283
+unfolding open-runs run283
+hold283 = refl
+
+pub hold284 : RunHolds run284
+unfolding open-runs run284
+hold284 = refl
+
+pub hold285 : RunHolds run285
+unfolding open-runs run285
+hold285 = refl
+
+pub hold286 : RunHolds run286
+unfolding open-runs run286
+hold286 = refl
+
+pub hold287 : RunHolds run287
+unfolding open-runs run287
+hold287 = refl
+
+pub hold288 : RunHolds run288
+unfolding open-runs run288
+hold288 = refl
+
+pub hold289 : RunHolds run289
+unfolding open-runs run289
+hold289 = refl
+
+pub hold290 : RunHolds run290
+unfolding open-runs run290
+hold290 = refl
+
+pub hold291 : RunHolds run291
+unfolding open-runs run291
+hold291 = refl
+
+pub hold292 : RunHolds run292
+unfolding open-runs run292
+hold292 = refl
+
+pub hold293 : RunHolds run293
+unfolding open-runs run293
+hold293 = refl
+
+pub hold294 : RunHolds run294
+unfolding open-runs run294
+hold294 = refl
+
+pub hold295 : RunHolds run295
+unfolding open-runs run295
+hold295 = refl
+
+pub hold296 : RunHolds run296
+unfolding open-runs run296
+hold296 = refl
+
+pub hold297 : RunHolds run297
+unfolding open-runs run297
+hold297 = refl
+
+pub hold298 : RunHolds run298
+unfolding open-runs run298
+hold298 = refl
+
+pub hold299 : RunHolds run299
+unfolding open-runs run299
+hold299 = refl
+
+pub hold300 : RunHolds run300
+unfolding open-runs run300
+hold300 = refl
+
+pub hold301 : RunHolds run301
+unfolding open-runs run301
+hold301 = refl
+
+pub hold302 : RunHolds run302
+unfolding open-runs run302
+hold302 = refl
+
+pub hold303 : RunHolds run303
+unfolding open-runs run303
+hold303 = refl
+
+pub hold304 : RunHolds run304
+unfolding open-runs run304
+hold304 = refl
+
+pub hold305 : RunHolds run305
+unfolding open-runs run305
+hold305 = refl
+
+pub hold306 : RunHolds run306
+unfolding open-runs run306
+hold306 = refl
+
+pub hold307 : RunHolds run307
+unfolding open-runs run307
+hold307 = refl
+
+pub hold308 : RunHolds run308
+unfolding open-runs run308
+hold308 = refl
+
+pub hold309 : RunHolds run309
+unfolding open-runs run309
+hold309 = refl
+
+pub hold310 : RunHolds run310
+unfolding open-runs run310
+hold310 = refl
+
+pub hold311 : RunHolds run311
+unfolding open-runs run311
+hold311 = refl
+
+pub hold312 : RunHolds run312
+unfolding open-runs run312
+hold312 = refl
+
+pub hold313 : RunHolds run313
+unfolding open-runs run313
+hold313 = refl
+
+pub hold314 : RunHolds run314
+unfolding open-runs run314
+hold314 = refl
+
+pub hold315 : RunHolds run315
+unfolding open-runs run315
+hold315 = refl
+
+pub hold316 : RunHolds run316
+unfolding open-runs run316
+hold316 = refl
+
+pub hold317 : RunHolds run317
+unfolding open-runs run317
+hold317 = refl
+
+pub hold318 : RunHolds run318
+unfolding open-runs run318
+hold318 = refl
+
+pub hold319 : RunHolds run319
+unfolding open-runs run319
+hold319 = refl
+
+pub hold320 : RunHolds run320
+unfolding open-runs run320
+hold320 = refl
+
+pub hold321 : RunHolds run321
+unfolding open-runs run321
+hold321 = refl
+
+pub hold322 : RunHolds run322
+unfolding open-runs run322
+hold322 = refl
+
+pub hold323 : RunHolds run323
+unfolding open-runs run323
+hold323 = refl
+
+pub hold324 : RunHolds run324
+unfolding open-runs run324
+hold324 = refl
+
+pub hold325 : RunHolds run325
+unfolding open-runs run325
+hold325 = refl
+
+pub hold326 : RunHolds run326
+unfolding open-runs run326
+hold326 = refl
+
+pub hold327 : RunHolds run327
+unfolding open-runs run327
+hold327 = refl
+
+pub hold328 : RunHolds run328
+unfolding open-runs run328
+hold328 = refl
+
+pub hold329 : RunHolds run329
+unfolding open-runs run329
+hold329 = refl
+
+pub hold330 : RunHolds run330
+unfolding open-runs run330
+hold330 = refl
+
+pub hold331 : RunHolds run331
+unfolding open-runs run331
+hold331 = refl
+
+pub hold332 : RunHolds run332
+unfolding open-runs run332
+hold332 = refl
+
+pub hold333 : RunHolds run333
+unfolding open-runs run333
+hold333 = refl
+
+pub hold334 : RunHolds run334
+unfolding open-runs run334
+hold334 = refl
+
+pub hold335 : RunHolds run335
+unfolding open-runs run335
+hold335 = refl
+
+pub hold336 : RunHolds run336
+unfolding open-runs run336
+hold336 = refl
+
+pub hold337 : RunHolds run337
+unfolding open-runs run337
+hold337 = refl
+
+pub hold338 : RunHolds run338
+unfolding open-runs run338
+hold338 = refl
+
+pub hold339 : RunHolds run339
+unfolding open-runs run339
+hold339 = refl
+
+pub hold340 : RunHolds run340
+unfolding open-runs run340
+hold340 = refl
+
+pub hold341 : RunHolds run341
+unfolding open-runs run341
+hold341 = refl
+
+pub hold342 : RunHolds run342
+unfolding open-runs run342
+hold342 = refl
+
+pub hold343 : RunHolds run343
+unfolding open-runs run343
+hold343 = refl
+
+pub hold344 : RunHolds run344
+unfolding open-runs run344
+hold344 = refl
+
+pub hold345 : RunHolds run345
+unfolding open-runs run345
+hold345 = refl
+
+pub hold346 : RunHolds run346
+unfolding open-runs run346
+hold346 = refl
+
+pub hold347 : RunHolds run347
+unfolding open-runs run347
+hold347 = refl
+
+pub hold348 : RunHolds run348
+unfolding open-runs run348
+hold348 = refl
+
+pub hold349 : RunHolds run349
+unfolding open-runs run349
+hold349 = refl
+
+pub hold350 : RunHolds run350
+unfolding open-runs run350
+hold350 = refl
+
+pub hold351 : RunHolds run351
+unfolding open-runs run351
+hold351 = refl
+
+pub hold352 : RunHolds run352
+unfolding open-runs run352
+hold352 = refl
+
+pub hold353 : RunHolds run353
+unfolding open-runs run353
+hold353 = refl
+
+pub hold354 : RunHolds run354
+unfolding open-runs run354
+hold354 = refl
+
+pub hold355 : RunHolds run355
+unfolding open-runs run355
+hold355 = refl
+
+pub hold356 : RunHolds run356
+unfolding open-runs run356
+hold356 = refl
+
+pub hold357 : RunHolds run357
+unfolding open-runs run357
+hold357 = refl
+
+pub hold358 : RunHolds run358
+unfolding open-runs run358
+hold358 = refl
+
+pub hold359 : RunHolds run359
+unfolding open-runs run359
+hold359 = refl
+
+pub hold360 : RunHolds run360
+unfolding open-runs run360
+hold360 = refl
+
+pub hold361 : RunHolds run361
+unfolding open-runs run361
+hold361 = refl
+
+pub hold362 : RunHolds run362
+unfolding open-runs run362
+hold362 = refl
+
+pub hold363 : RunHolds run363
+unfolding open-runs run363
+hold363 = refl
+
+pub hold364 : RunHolds run364
+unfolding open-runs run364
+hold364 = refl
+
+pub hold365 : RunHolds run365
+unfolding open-runs run365
+hold365 = refl
+
+pub hold366 : RunHolds run366
+unfolding open-runs run366
+hold366 = refl
+
+pub hold367 : RunHolds run367
+unfolding open-runs run367
+hold367 = refl
+
+pub hold368 : RunHolds run368
+unfolding open-runs run368
+hold368 = refl
+
+pub hold369 : RunHolds run369
+unfolding open-runs run369
+hold369 = refl
+
+pub hold370 : RunHolds run370
+unfolding open-runs run370
+hold370 = refl
+
+pub hold371 : RunHolds run371
+unfolding open-runs run371
+hold371 = refl
+
+pub hold372 : RunHolds run372
+unfolding open-runs run372
+hold372 = refl
+
+pub hold373 : RunHolds run373
+unfolding open-runs run373
+hold373 = refl
+
+pub hold374 : RunHolds run374
+unfolding open-runs run374
+hold374 = refl
+
+pub hold375 : RunHolds run375
+unfolding open-runs run375
+hold375 = refl
+
+pub hold376 : RunHolds run376
+unfolding open-runs run376
+hold376 = refl
+
+pub hold377 : RunHolds run377
+unfolding open-runs run377
+hold377 = refl
+
+pub hold378 : RunHolds run378
+unfolding open-runs run378
+hold378 = refl
+
+pub hold379 : RunHolds run379
+unfolding open-runs run379
+hold379 = refl
+
+pub hold380 : RunHolds run380
+unfolding open-runs run380
+hold380 = refl
+
+pub hold381 : RunHolds run381
+unfolding open-runs run381
+hold381 = refl
+
+pub hold382 : RunHolds run382
+unfolding open-runs run382
+hold382 = refl
+
+pub hold383 : RunHolds run383
+unfolding open-runs run383
+hold383 = refl
+
+pub hold384 : RunHolds run384
+unfolding open-runs run384
+hold384 = refl
+
+pub hold385 : RunHolds run385
+unfolding open-runs run385
+hold385 = refl
+
+pub hold386 : RunHolds run386
+unfolding open-runs run386
+hold386 = refl
+
+pub hold387 : RunHolds run387
+unfolding open-runs run387
+hold387 = refl
+
+pub hold388 : RunHolds run388
+unfolding open-runs run388
+hold388 = refl
+
+pub hold389 : RunHolds run389
+unfolding open-runs run389
+hold389 = refl
+
+pub hold390 : RunHolds run390
+unfolding open-runs run390
+hold390 = refl
+
+pub hold391 : RunHolds run391
+unfolding open-runs run391
+hold391 = refl
+
+pub hold392 : RunHolds run392
+unfolding open-runs run392
+hold392 = refl
+
+pub hold393 : RunHolds run393
+unfolding open-runs run393
+hold393 = refl
+
+pub hold394 : RunHolds run394
+unfolding open-runs run394
+hold394 = refl
+
+pub hold395 : RunHolds run395
+unfolding open-runs run395
+hold395 = refl
+
+pub hold396 : RunHolds run396
+unfolding open-runs run396
+hold396 = refl
+
+pub hold397 : RunHolds run397
+unfolding open-runs run397
+hold397 = refl
+
+pub hold398 : RunHolds run398
+unfolding open-runs run398
+hold398 = refl
+
+pub hold399 : RunHolds run399
+unfolding open-runs run399
+hold399 = refl
+
+pub hold400 : RunHolds run400
+unfolding open-runs run400
+hold400 = refl
+
+pub hold401 : RunHolds run401
+unfolding open-runs run401
+hold401 = refl
+
+pub hold402 : RunHolds run402
+unfolding open-runs run402
+hold402 = refl
+
+pub hold403 : RunHolds run403
+unfolding open-runs run403
+hold403 = refl
+
+pub hold404 : RunHolds run404
+unfolding open-runs run404
+hold404 = refl
+
+pub hold405 : RunHolds run405
+unfolding open-runs run405
+hold405 = refl
+
+pub hold406 : RunHolds run406
+unfolding open-runs run406
+hold406 = refl
+
+pub hold407 : RunHolds run407
+unfolding open-runs run407
+hold407 = refl
+
+pub hold408 : RunHolds run408
+unfolding open-runs run408
+hold408 = refl

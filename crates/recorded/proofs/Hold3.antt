@@ -2,72 +2,468 @@
 use mathlib.Core.Path.{refl}
 use Rattle.against_rust.specs.Shape.{RunHolds}
 use Rattle.against_rust.proofs.OpenRuns.{open-runs}
-use Rattle.recorded.specs.Runs3.{run58, run59, run60, run61, run62, run63, run64, run65, run66, run67, run68, run69, run70, run71, run72, run73, run74}
+use Rattle.recorded.specs.Runs3.{run409, run410, run411, run412, run413, run414, run415, run416, run417, run418, run419, run420, run421, run422, run423, run424, run425, run426, run427, run428, run429, run430, run431, run432, run433, run434, run435, run436, run437, run438, run439, run440, run441, run442, run443, run444, run445, run446, run447, run448, run449, run450, run451, run452, run453, run454, run455, run456, run457, run458, run459, run460, run461, run462, run463, run464, run465, run466, run467, run468, run469, run470, run471, run472, run473, run474, run475, run476, run477, run478, run479, run480, run481, run482, run483, run484, run485, run486, run487, run488, run489, run490, run491, run492, run493, run494, run495, run496, run497, run498, run499, run500, run501, run502, run503, run504, run505, run506, run507, run508, run509, run510, run511, run512, run513, run514, run515, run516, run517, run518, run519, run520, run521, run522, run523, run524}
 
-pub hold58 : RunHolds run58
-unfolding open-runs run58
-hold58 = refl
+pub hold409 : RunHolds run409
+unfolding open-runs run409
+hold409 = refl
 
-pub hold59 : RunHolds run59
-unfolding open-runs run59
-hold59 = refl
+pub hold410 : RunHolds run410
+unfolding open-runs run410
+hold410 = refl
 
-pub hold60 : RunHolds run60
-unfolding open-runs run60
-hold60 = refl
+pub hold411 : RunHolds run411
+unfolding open-runs run411
+hold411 = refl
 
-pub hold61 : RunHolds run61
-unfolding open-runs run61
-hold61 = refl
+pub hold412 : RunHolds run412
+unfolding open-runs run412
+hold412 = refl
 
-pub hold62 : RunHolds run62
-unfolding open-runs run62
-hold62 = refl
+pub hold413 : RunHolds run413
+unfolding open-runs run413
+hold413 = refl
 
-pub hold63 : RunHolds run63
-unfolding open-runs run63
-hold63 = refl
+pub hold414 : RunHolds run414
+unfolding open-runs run414
+hold414 = refl
 
-pub hold64 : RunHolds run64
-unfolding open-runs run64
-hold64 = refl
+pub hold415 : RunHolds run415
+unfolding open-runs run415
+hold415 = refl
 
-pub hold65 : RunHolds run65
-unfolding open-runs run65
-hold65 = refl
+pub hold416 : RunHolds run416
+unfolding open-runs run416
+hold416 = refl
 
-pub hold66 : RunHolds run66
-unfolding open-runs run66
-hold66 = refl
+pub hold417 : RunHolds run417
+unfolding open-runs run417
+hold417 = refl
 
-pub hold67 : RunHolds run67
-unfolding open-runs run67
-hold67 = refl
+pub hold418 : RunHolds run418
+unfolding open-runs run418
+hold418 = refl
 
-pub hold68 : RunHolds run68
-unfolding open-runs run68
-hold68 = refl
+pub hold419 : RunHolds run419
+unfolding open-runs run419
+hold419 = refl
 
-pub hold69 : RunHolds run69
-unfolding open-runs run69
-hold69 = refl
+pub hold420 : RunHolds run420
+unfolding open-runs run420
+hold420 = refl
 
-pub hold70 : RunHolds run70
-unfolding open-runs run70
-hold70 = refl
+pub hold421 : RunHolds run421
+unfolding open-runs run421
+hold421 = refl
 
-pub hold71 : RunHolds run71
-unfolding open-runs run71
-hold71 = refl
+pub hold422 : RunHolds run422
+unfolding open-runs run422
+hold422 = refl
 
-pub hold72 : RunHolds run72
-unfolding open-runs run72
-hold72 = refl
+pub hold423 : RunHolds run423
+unfolding open-runs run423
+hold423 = refl
 
-pub hold73 : RunHolds run73
-unfolding open-runs run73
-hold73 = refl
+pub hold424 : RunHolds run424
+unfolding open-runs run424
+hold424 = refl
 
-pub hold74 : RunHolds run74
-unfolding open-runs run74
-hold74 = refl
+pub hold425 : RunHolds run425
+unfolding open-runs run425
+hold425 = refl
+
+pub hold426 : RunHolds run426
+unfolding open-runs run426
+hold426 = refl
+
+pub hold427 : RunHolds run427
+unfolding open-runs run427
+hold427 = refl
+
+pub hold428 : RunHolds run428
+unfolding open-runs run428
+hold428 = refl
+
+pub hold429 : RunHolds run429
+unfolding open-runs run429
+hold429 = refl
+
+pub hold430 : RunHolds run430
+unfolding open-runs run430
+hold430 = refl
+
+pub hold431 : RunHolds run431
+unfolding open-runs run431
+hold431 = refl
+
+pub hold432 : RunHolds run432
+unfolding open-runs run432
+hold432 = refl
+
+pub hold433 : RunHolds run433
+unfolding open-runs run433
+hold433 = refl
+
+pub hold434 : RunHolds run434
+unfolding open-runs run434
+hold434 = refl
+
+pub hold435 : RunHolds run435
+unfolding open-runs run435
+hold435 = refl
+
+pub hold436 : RunHolds run436
+unfolding open-runs run436
+hold436 = refl
+
+pub hold437 : RunHolds run437
+unfolding open-runs run437
+hold437 = refl
+
+pub hold438 : RunHolds run438
+unfolding open-runs run438
+hold438 = refl
+
+pub hold439 : RunHolds run439
+unfolding open-runs run439
+hold439 = refl
+
+pub hold440 : RunHolds run440
+unfolding open-runs run440
+hold440 = refl
+
+pub hold441 : RunHolds run441
+unfolding open-runs run441
+hold441 = refl
+
+pub hold442 : RunHolds run442
+unfolding open-runs run442
+hold442 = refl
+
+pub hold443 : RunHolds run443
+unfolding open-runs run443
+hold443 = refl
+
+pub hold444 : RunHolds run444
+unfolding open-runs run444
+hold444 = refl
+
+pub hold445 : RunHolds run445
+unfolding open-runs run445
+hold445 = refl
+
+pub hold446 : RunHolds run446
+unfolding open-runs run446
+hold446 = refl
+
+pub hold447 : RunHolds run447
+unfolding open-runs run447
+hold447 = refl
+
+pub hold448 : RunHolds run448
+unfolding open-runs run448
+hold448 = refl
+
+pub hold449 : RunHolds run449
+unfolding open-runs run449
+hold449 = refl
+
+pub hold450 : RunHolds run450
+unfolding open-runs run450
+hold450 = refl
+
+pub hold451 : RunHolds run451
+unfolding open-runs run451
+hold451 = refl
+
+pub hold452 : RunHolds run452
+unfolding open-runs run452
+hold452 = refl
+
+pub hold453 : RunHolds run453
+unfolding open-runs run453
+hold453 = refl
+
+pub hold454 : RunHolds run454
+unfolding open-runs run454
+hold454 = refl
+
+pub hold455 : RunHolds run455
+unfolding open-runs run455
+hold455 = refl
+
+pub hold456 : RunHolds run456
+unfolding open-runs run456
+hold456 = refl
+
+pub hold457 : RunHolds run457
+unfolding open-runs run457
+hold457 = refl
+
+pub hold458 : RunHolds run458
+unfolding open-runs run458
+hold458 = refl
+
+pub hold459 : RunHolds run459
+unfolding open-runs run459
+hold459 = refl
+
+pub hold460 : RunHolds run460
+unfolding open-runs run460
+hold460 = refl
+
+pub hold461 : RunHolds run461
+unfolding open-runs run461
+hold461 = refl
+
+pub hold462 : RunHolds run462
+unfolding open-runs run462
+hold462 = refl
+
+pub hold463 : RunHolds run463
+unfolding open-runs run463
+hold463 = refl
+
+pub hold464 : RunHolds run464
+unfolding open-runs run464
+hold464 = refl
+
+pub hold465 : RunHolds run465
+unfolding open-runs run465
+hold465 = refl
+
+pub hold466 : RunHolds run466
+unfolding open-runs run466
+hold466 = refl
+
+pub hold467 : RunHolds run467
+unfolding open-runs run467
+hold467 = refl
+
+pub hold468 : RunHolds run468
+unfolding open-runs run468
+hold468 = refl
+
+pub hold469 : RunHolds run469
+unfolding open-runs run469
+hold469 = refl
+
+pub hold470 : RunHolds run470
+unfolding open-runs run470
+hold470 = refl
+
+pub hold471 : RunHolds run471
+unfolding open-runs run471
+hold471 = refl
+
+pub hold472 : RunHolds run472
+unfolding open-runs run472
+hold472 = refl
+
+pub hold473 : RunHolds run473
+unfolding open-runs run473
+hold473 = refl
+
+pub hold474 : RunHolds run474
+unfolding open-runs run474
+hold474 = refl
+
+pub hold475 : RunHolds run475
+unfolding open-runs run475
+hold475 = refl
+
+pub hold476 : RunHolds run476
+unfolding open-runs run476
+hold476 = refl
+
+pub hold477 : RunHolds run477
+unfolding open-runs run477
+hold477 = refl
+
+pub hold478 : RunHolds run478
+unfolding open-runs run478
+hold478 = refl
+
+pub hold479 : RunHolds run479
+unfolding open-runs run479
+hold479 = refl
+
+pub hold480 : RunHolds run480
+unfolding open-runs run480
+hold480 = refl
+
+pub hold481 : RunHolds run481
+unfolding open-runs run481
+hold481 = refl
+
+pub hold482 : RunHolds run482
+unfolding open-runs run482
+hold482 = refl
+
+pub hold483 : RunHolds run483
+unfolding open-runs run483
+hold483 = refl
+
+pub hold484 : RunHolds run484
+unfolding open-runs run484
+hold484 = refl
+
+pub hold485 : RunHolds run485
+unfolding open-runs run485
+hold485 = refl
+
+pub hold486 : RunHolds run486
+unfolding open-runs run486
+hold486 = refl
+
+pub hold487 : RunHolds run487
+unfolding open-runs run487
+hold487 = refl
+
+pub hold488 : RunHolds run488
+unfolding open-runs run488
+hold488 = refl
+
+pub hold489 : RunHolds run489
+unfolding open-runs run489
+hold489 = refl
+
+pub hold490 : RunHolds run490
+unfolding open-runs run490
+hold490 = refl
+
+pub hold491 : RunHolds run491
+unfolding open-runs run491
+hold491 = refl
+
+pub hold492 : RunHolds run492
+unfolding open-runs run492
+hold492 = refl
+
+pub hold493 : RunHolds run493
+unfolding open-runs run493
+hold493 = refl
+
+pub hold494 : RunHolds run494
+unfolding open-runs run494
+hold494 = refl
+
+pub hold495 : RunHolds run495
+unfolding open-runs run495
+hold495 = refl
+
+pub hold496 : RunHolds run496
+unfolding open-runs run496
+hold496 = refl
+
+pub hold497 : RunHolds run497
+unfolding open-runs run497
+hold497 = refl
+
+pub hold498 : RunHolds run498
+unfolding open-runs run498
+hold498 = refl
+
+pub hold499 : RunHolds run499
+unfolding open-runs run499
+hold499 = refl
+
+pub hold500 : RunHolds run500
+unfolding open-runs run500
+hold500 = refl
+
+pub hold501 : RunHolds run501
+unfolding open-runs run501
+hold501 = refl
+
+pub hold502 : RunHolds run502
+unfolding open-runs run502
+hold502 = refl
+
+pub hold503 : RunHolds run503
+unfolding open-runs run503
+hold503 = refl
+
+pub hold504 : RunHolds run504
+unfolding open-runs run504
+hold504 = refl
+
+pub hold505 : RunHolds run505
+unfolding open-runs run505
+hold505 = refl
+
+pub hold506 : RunHolds run506
+unfolding open-runs run506
+hold506 = refl
+
+pub hold507 : RunHolds run507
+unfolding open-runs run507
+hold507 = refl
+
+pub hold508 : RunHolds run508
+unfolding open-runs run508
+hold508 = refl
+
+pub hold509 : RunHolds run509
+unfolding open-runs run509
+hold509 = refl
+
+pub hold510 : RunHolds run510
+unfolding open-runs run510
+hold510 = refl
+
+pub hold511 : RunHolds run511
+unfolding open-runs run511
+hold511 = refl
+
+pub hold512 : RunHolds run512
+unfolding open-runs run512
+hold512 = refl
+
+pub hold513 : RunHolds run513
+unfolding open-runs run513
+hold513 = refl
+
+pub hold514 : RunHolds run514
+unfolding open-runs run514
+hold514 = refl
+
+pub hold515 : RunHolds run515
+unfolding open-runs run515
+hold515 = refl
+
+pub hold516 : RunHolds run516
+unfolding open-runs run516
+hold516 = refl
+
+pub hold517 : RunHolds run517
+unfolding open-runs run517
+hold517 = refl
+
+pub hold518 : RunHolds run518
+unfolding open-runs run518
+hold518 = refl
+
+pub hold519 : RunHolds run519
+unfolding open-runs run519
+hold519 = refl
+
+pub hold520 : RunHolds run520
+unfolding open-runs run520
+hold520 = refl
+
+pub hold521 : RunHolds run521
+unfolding open-runs run521
+hold521 = refl
+
+pub hold522 : RunHolds run522
+unfolding open-runs run522
+hold522 = refl
+
+pub hold523 : RunHolds run523
+unfolding open-runs run523
+hold523 = refl
+
+pub hold524 : RunHolds run524
+unfolding open-runs run524
+hold524 = refl

@@ -2,4 +2,5 @@ pub mod Hold0
 pub mod Hold1
 pub mod Hold2
 pub mod Hold3
+pub mod Hold4
 pub mod ClientsHold0
