@@ -31,7 +31,7 @@ extern "C" {
 
 /* Numbers that a call returns. */
 #define WHITHERHAUL_DONE 0                  /* done, which includes messages that are ignored */
-#define WHITHERHAUL_REFUSED_SIZES 1         /* setup outside the sizes, a state number out of range, a run of another length */
+#define WHITHERHAUL_REFUSED_SIZES 1         /* setup outside the sizes, a state number out of range or a byte without meaning, a run of another length */
 #define WHITHERHAUL_REFUSED_MALFORMED 2     /* frame malformed; client: operation or cents outside the entry rules */
 #define WHITHERHAUL_REFUSED_REPLICA 3       /* addressee isn't this replica, or sender not below n */
 #define WHITHERHAUL_REFUSED_ROOM 4          /* an op number above L, or an append at L entries */
@@ -84,10 +84,10 @@ extern "C" {
 #define WHITHERHAUL_STATE_OP_AT 22          /* 4: how many entries the log has */
 #define WHITHERHAUL_STATE_COMMIT_AT 26      /* 4: how many of them are committed */
 #define WHITHERHAUL_STATE_CLOCK_AT 30       /* heard 1 (0 or 1), waiting 4, stable 2, attempts 1 */
-#define WHITHERHAUL_STATE_STARTS_AT 38      /* 1: who sent StartViewChange for this view, a bit a replica */
+#define WHITHERHAUL_STATE_STARTS_AT 38      /* 1: who sent StartViewChange for this view, a bit a replica; bits from n on are 0 */
 #define WHITHERHAUL_STATE_SENT_AT 39        /* 1: whether DoViewChange was sent, 0 or 1 */
 #define WHITHERHAUL_STATE_NONCE_AT 40       /* 8 */
-#define WHITHERHAUL_STATE_REPORTS_AT 48     /* 7 times: there 1, with a log 1, view 4, op 4, commit 4 */
+#define WHITHERHAUL_STATE_REPORTS_AT 48     /* 7 times: there 1, with a log 1, view 4, op 4, commit 4; all zero where none is there, and from n on */
 
 #define WHITHERHAUL_NORMAL 0
 #define WHITHERHAUL_STATE_TRANSFER 1
