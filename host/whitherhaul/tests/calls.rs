@@ -182,6 +182,54 @@ fn a_run_of_another_length() {
     assert!(replica.on_idle().is_ok());
 }
 
+/// Each place of the state run with a byte that has no meaning there: what a fresh replica holds is refused, and left as it is.
+#[test]
+fn a_byte_without_meaning() {
+    for (place, byte) in [
+        (12, 4),
+        (21, 2),
+        (38, 8),
+        (49, 1),
+        (53, 1),
+        (90, 1),
+        (145, 1),
+    ] {
+        let mut replica = Replica::new(&SETUP).unwrap();
+        replica.parts_mut().state[place] = byte;
+        let before = replica.parts().clone();
+        assert_eq!(replica.on_idle().unwrap_err(), Refusal::OutsideSizes);
+        assert_eq!(
+            replica.on_message(&request()).unwrap_err(),
+            Refusal::OutsideSizes
+        );
+        assert_eq!(replica.parts(), &before, "byte {byte} at {place}");
+    }
+}
+
+/// Bits of ids that aren't below n stay in a set of acks, and count for nothing.
+#[test]
+fn acks_of_no_replica() {
+    let mut replica = Replica::new(&SETUP).unwrap();
+    replica.on_message(&request()).unwrap();
+    replica.parts_mut().acks[0] |= 0x80;
+    replica.on_message(&prepare_ok(1, 1)).unwrap();
+    assert_eq!(replica.commit_number(), 1);
+}
+
+/// A row whose mark is no outcome keeps no reply, so that none is sent.
+#[test]
+fn a_mark_that_is_no_outcome() {
+    let mut replica = Replica::new(&SETUP).unwrap();
+    replica.on_message(&request()).unwrap();
+    replica.on_message(&prepare_ok(1, 1)).unwrap();
+    let again = replica.on_message(&request()).unwrap();
+    assert_eq!(again.replies().count(), 1);
+    replica.parts_mut().table[16] = 9;
+    let again = replica.on_message(&request()).unwrap();
+    assert_eq!(again.replies().count(), 0);
+    assert_eq!(replica.op_number(), 1);
+}
+
 #[test]
 fn a_client_and_its_numbers() {
     let mut client = Client::new(5, 9).unwrap();
