@@ -7,10 +7,6 @@ use lib.ListN.{length, take, drop, replicate}
 use Rattle.numbers.specs.Words.{if_then_else_, _and_}
 use Rattle.numbers.specs.Numbers.{over, putAt}
 
--- where the stored logs begin
-abbrev pub STORED-AT : ℕ
-STORED-AT = 800
-
 -- the run at a place, over an area of its length; the area as it was where there is none
 unfoldable pub fetchedAt : (a : ℕ) (memory area : List ℕ) → List ℕ
 fetchedAt a memory area = if leb (a + length area) (length memory) then take (length area) (drop a memory) else area
