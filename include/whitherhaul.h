@@ -1,23 +1,26 @@
 /*
  * Whitherhaul: a replicated ledger of club fees (Viewstamped Replication), for owners in C.
  *
- * Every function returns document 01's number: 0 where it is done, else a refusal (WHITHERHAUL_REFUSED_..). What it answers
- * besides goes to one struct of numbers, to which the last argument points; a creation has none. A refused call leaves every
- * byte of the lent runs as it was and writes zeros to the struct. No call keeps a pointer, allocates memory, blocks or ends the
- * program, whatever the bytes: what a caller owes is only that each pointer points to as many bytes as the length behind it
- * says, that neither two runs of a call nor a run and the struct share a byte, and that every pointer is valid also for a
- * length of 0 (never NULL).
+ * Every call returns document 01's number: 0 where it is done, else a refusal
+ * (WHITHERHAUL_REFUSED_..). What it answers besides goes to one struct of numbers, to which the
+ * last argument points; a creation has none. A refused call leaves every byte of the lent runs as
+ * it was and writes zeros to the struct. No call keeps a pointer, allocates memory, blocks or ends
+ * the program, whatever the bytes: what a caller owes is only that each pointer points to as many
+ * bytes as the length behind it says, that neither two runs of a call nor a run and the struct
+ * share a byte, and that every pointer is valid also for a length of 0 (never NULL).
  *
- * A run is a pointer, then its length. Runs marked const are only read. The runs of a replica are its owner's memory: he
- * hands the same ones to each call and doesn't change them between calls. Their lengths follow from n (replicas), L (room of
- * the log) and M (members); any other length is refusal 1.
+ * A run is a pointer, then its length. Runs marked const are only read. The runs of a replica are
+ * its owner's memory: he hands the same ones to each call and doesn't change them between calls.
+ * Their lengths follow from n (replicas), L (room of the log) and M (members); any other length is
+ * refusal 1.
  *
- * `out` takes messages to replicas, `reps` replies to clients: frames straight one after another from byte 0; bytes past the
- * counts stay as they were. A frame begins with its length (4 bytes, of what follows), version 1, kind, and the replica that
- * it is for (WHITHERHAUL_FRAME_..). All numbers in frames and runs are big-endian.
+ * `out` takes messages to replicas, `reps` replies to clients: frames straight one after another
+ * from byte 0; bytes past the counts stay as they were. A frame begins with its length (4 bytes, of
+ * what follows), version 1, kind, and the replica that it is for (WHITHERHAUL_FRAME_..). All
+ * numbers in frames and runs are big-endian.
  *
- * Two calls may run at once where they share no run. Link target/staticlib/native/libwhitherhaul.a; it needs the C library for memmove and
- * memset only.
+ * Two calls may run at once where they share no run. Link
+ * target/staticlib/native/libwhitherhaul.a; it needs the C library for memmove and memset only.
  */
 #ifndef WHITHERHAUL_H
 #define WHITHERHAUL_H
@@ -31,19 +34,36 @@ extern "C" {
 
 /* Numbers that a call returns. */
 #define WHITHERHAUL_DONE 0                  /* done, which includes messages that are ignored */
-#define WHITHERHAUL_REFUSED_SIZES 1         /* setup outside the sizes, a state number out of range or a byte without meaning, a run of another length */
-#define WHITHERHAUL_REFUSED_MALFORMED 2     /* frame malformed; client: operation or cents outside the entry rules */
-#define WHITHERHAUL_REFUSED_REPLICA 3       /* addressee isn't this replica, or sender not below n */
-#define WHITHERHAUL_REFUSED_ROOM 4          /* an op number above L, or an append at L entries */
-#define WHITHERHAUL_REFUSED_COMMIT 5        /* a commit number past the carried log, or a commit past the own log */
-#define WHITHERHAUL_REFUSED_RISING 6        /* a client's request numbers wouldn't strictly rise along the log */
-#define WHITHERHAUL_REFUSED_COMMITTED 7     /* committed entries would be shortened or altered */
-#define WHITHERHAUL_REFUSED_LAST_VIEW 8     /* a tick would move past view 4,294,967,295 */
-#define WHITHERHAUL_REFUSED_MESSAGES 9      /* the messages don't fit `out`, or a client's frames its area */
-#define WHITHERHAUL_REFUSED_REPLIES 10      /* the replies don't fit `reps` */
-#define WHITHERHAUL_REFUSED_NUMBERS 11      /* client: the next request number is 2^64-1 */
+/*
+ * 1: setup outside the sizes, a state number out of range or a byte without meaning, a run of
+ * another length.
+ */
+#define WHITHERHAUL_REFUSED_SIZES 1
+/* 2: frame malformed; client: operation or cents outside the entry rules. */
+#define WHITHERHAUL_REFUSED_MALFORMED 2
+/* 3: addressee isn't this replica, or sender not below n. */
+#define WHITHERHAUL_REFUSED_REPLICA 3
+/* 4: an op number above L, or an append at L entries. */
+#define WHITHERHAUL_REFUSED_ROOM 4
+/* 5: a commit number past the carried log, or a commit past the own log. */
+#define WHITHERHAUL_REFUSED_COMMIT 5
+/* 6: a client's request numbers wouldn't strictly rise along the log. */
+#define WHITHERHAUL_REFUSED_RISING 6
+/* 7: committed entries would be shortened or altered. */
+#define WHITHERHAUL_REFUSED_COMMITTED 7
+/* 8: a tick would move past view 4,294,967,295. */
+#define WHITHERHAUL_REFUSED_LAST_VIEW 8
+/* 9: the messages don't fit `out`, or a client's frames its area. */
+#define WHITHERHAUL_REFUSED_MESSAGES 9
+/* 10: the replies don't fit `reps`. */
+#define WHITHERHAUL_REFUSED_REPLIES 10
+/* 11: client: the next request number is 2^64-1. */
+#define WHITHERHAUL_REFUSED_NUMBERS 11
 
-/* Sizes: n is 3 to 7, an id 0 to n-1, T (timeout, in ticks) 1 to 65,535, L and M 1 to 4,096. A creation refuses any other number by 1. */
+/*
+ * Sizes: n is 3 to 7, an id 0 to n-1, T (timeout, in ticks) 1 to 65,535, L and M 1 to 4,096. A
+ * creation refuses any other number by 1.
+ */
 #define WHITHERHAUL_MOST_REPLICAS 7
 #define WHITHERHAUL_MOST_TIMEOUT 65535
 #define WHITHERHAUL_MOST_ROOM 4096
@@ -51,23 +71,34 @@ extern "C" {
 
 /* Lengths of the lent runs. */
 #define WHITHERHAUL_STATE_BYTES 146
-#define WHITHERHAUL_LOG_BYTES(L) (32 * (size_t)(L))               /* entries, as on the wire */
-#define WHITHERHAUL_RESULTS_BYTES(L) (9 * (size_t)(L))            /* of each applied entry: outcome 1, total 8 */
-#define WHITHERHAUL_TOTALS_BYTES(M) (8 * (size_t)(M))             /* a total of 8 bytes a member */
-#define WHITHERHAUL_ACKS_BYTES(L) ((size_t)(L))                   /* a set of replicas for each op number */
-#define WHITHERHAUL_STORED_BYTES(L, n) (32 * (size_t)(L) * (n))   /* logs of DoViewChanges or recovery responses */
-#define WHITHERHAUL_TABLE_BYTES(L) (25 * (size_t)(L))             /* rows: client 8, request 8, mark 1, total 8 */
-#define WHITHERHAUL_OLD_BYTES(L) (25 * (size_t)(L))               /* where a rebuild keeps the rows that it replaces */
-#define WHITHERHAUL_CLIENT_BYTES 54                               /* a client's record */
+/* Entries, as on the wire. */
+#define WHITHERHAUL_LOG_BYTES(L) (32 * (size_t)(L))
+/* Of each applied entry: outcome 1, total 8. */
+#define WHITHERHAUL_RESULTS_BYTES(L) (9 * (size_t)(L))
+/* A total of 8 bytes a member. */
+#define WHITHERHAUL_TOTALS_BYTES(M) (8 * (size_t)(M))
+/* A set of replicas for each op number. */
+#define WHITHERHAUL_ACKS_BYTES(L) ((size_t)(L))
+/* Logs of DoViewChanges or recovery responses. */
+#define WHITHERHAUL_STORED_BYTES(L, n) (32 * (size_t)(L) * (n))
+/* Rows: client 8, request 8, mark 1, total 8. */
+#define WHITHERHAUL_TABLE_BYTES(L) (25 * (size_t)(L))
+/* Where a rebuild keeps the rows that it replaces. */
+#define WHITHERHAUL_OLD_BYTES(L) (25 * (size_t)(L))
+/* A client's record. */
+#define WHITHERHAUL_CLIENT_BYTES 54
 
 /*
- * The longest that messages and replies of one call can be: no call is refused by 9 or 10 with areas of these lengths. The
- * longest messages are those of the primary's tick, a Commit and up to L Prepares to each other replica.
+ * The longest that messages and replies of one call can be: no call is refused by 9 or 10 with
+ * areas of these lengths. The longest messages are those of the primary's tick, a Commit and up to
+ * L Prepares to each other replica.
  */
 #define WHITHERHAUL_OUT_BYTES(L, n) (((size_t)(n) - 1) * (15 + 51 * (size_t)(L)))
 #define WHITHERHAUL_REPS_BYTES(L) (36 * (size_t)(L))
-#define WHITHERHAUL_REQUEST_BYTES 39                              /* a Request; a client's idle call writes n of them */
-#define WHITHERHAUL_REPLY_BYTES 36                                /* a Reply */
+/* A Request; a client's idle call writes n of them. */
+#define WHITHERHAUL_REQUEST_BYTES 39
+/* A Reply. */
+#define WHITHERHAUL_REPLY_BYTES 36
 
 /* Places in a frame. */
 #define WHITHERHAUL_FRAME_LENGTH_AT 0       /* 4 bytes: length of what follows */
@@ -78,16 +109,19 @@ extern "C" {
 /* Places in the state run. */
 #define WHITHERHAUL_STATE_SETUP_AT 0        /* n 1, id 1, T 2, L 4, M 4 */
 #define WHITHERHAUL_STATE_STATUS_AT 12      /* 1: WHITHERHAUL_NORMAL .. */
-#define WHITHERHAUL_STATE_VIEW_AT 13        /* 4: to be kept where a crash doesn't reach it, before what a call sent is delivered */
+#define WHITHERHAUL_STATE_VIEW_AT 13        /* 4: an owner keeps it where a crash doesn't reach it,
+                                               before it delivers what a call sent */
 #define WHITHERHAUL_STATE_NORMAL_VIEW_AT 17 /* 4: the last view in which the status was Normal */
 #define WHITHERHAUL_STATE_CATCHING_UP_AT 21 /* 1: 0 or 1 */
 #define WHITHERHAUL_STATE_OP_AT 22          /* 4: how many entries the log has */
 #define WHITHERHAUL_STATE_COMMIT_AT 26      /* 4: how many of them are committed */
 #define WHITHERHAUL_STATE_CLOCK_AT 30       /* heard 1 (0 or 1), waiting 4, stable 2, attempts 1 */
-#define WHITHERHAUL_STATE_STARTS_AT 38      /* 1: who sent StartViewChange for this view, a bit a replica; bits from n on are 0 */
+#define WHITHERHAUL_STATE_STARTS_AT 38      /* 1: who sent StartViewChange for this view, a bit a
+                                               replica; bits from n on are 0 */
 #define WHITHERHAUL_STATE_SENT_AT 39        /* 1: whether DoViewChange was sent, 0 or 1 */
 #define WHITHERHAUL_STATE_NONCE_AT 40       /* 8 */
-#define WHITHERHAUL_STATE_REPORTS_AT 48     /* 7 times: there 1, with a log 1, view 4, op 4, commit 4; all zero where none is there, and from n on */
+#define WHITHERHAUL_STATE_REPORTS_AT 48     /* 7 times: there 1, with a log 1, view 4, op 4, commit
+                                               4; all zero where none is there, and from n on */
 
 #define WHITHERHAUL_NORMAL 0
 #define WHITHERHAUL_STATE_TRANSFER 1
@@ -97,7 +131,7 @@ extern "C" {
 /* Places in a client's record. */
 #define WHITHERHAUL_CLIENT_N_AT 0           /* 1 */
 #define WHITHERHAUL_CLIENT_ID_AT 1          /* 8 */
-#define WHITHERHAUL_CLIENT_VIEW_AT 9        /* 4: the latest view that it heard of; view mod n leads */
+#define WHITHERHAUL_CLIENT_VIEW_AT 9        /* 4: the latest view it heard of; view mod n leads */
 #define WHITHERHAUL_CLIENT_NEXT_AT 13       /* 8: the next request number */
 #define WHITHERHAUL_CLIENT_PENDING_AT 21    /* 1: 0, or 1 and the entry that waits (32) */
 
@@ -146,8 +180,8 @@ struct whitherhaul_said {
 };
 
 /*
- * A replica for the first time: Normal, in view 0, with an empty log. Totals, acks and table are zeroed, the state is written;
- * log, results, stored and old stay as they were. 0 or 1.
+ * A replica for the first time: Normal, in view 0, with an empty log. Totals, acks and table are
+ * zeroed, the state is written; log, results, stored and old stay as they were. 0 or 1.
  */
 uint8_t whitherhaul_create(uint32_t n, uint32_t id, uint32_t timeout, uint32_t room, uint32_t members,
                            uint8_t *state, size_t state_length,
@@ -160,8 +194,9 @@ uint8_t whitherhaul_create(uint32_t n, uint32_t id, uint32_t timeout, uint32_t r
                            const uint8_t *old, size_t old_length);
 
 /*
- * A replica that lost its memory in a crash: Recovering, in the view that its owner kept, with a nonce that it never used
- * before. It asks all others by Recovery frames, 20 (n-1) bytes of `out`; there are no replies. 0, 1 or 9.
+ * A replica that lost its memory in a crash: Recovering, in the view that its owner kept, with a
+ * nonce that it never used before. It asks all others by Recovery frames, 20 (n-1) bytes of `out`;
+ * there are no replies. 0, 1 or 9.
  */
 uint8_t whitherhaul_recover(uint32_t n, uint32_t id, uint32_t timeout, uint32_t room, uint32_t members,
                             uint32_t view, uint64_t nonce,
@@ -190,7 +225,9 @@ uint8_t whitherhaul_on_message(uint8_t *state, size_t state_length,
                                uint8_t *reps, size_t reps_length,
                                struct whitherhaul_counts *counts);
 
-/* Time has passed: a tick, to be called at a regular interval. Answers as whitherhaul_on_message. */
+/*
+ * Time has passed: a tick, to be called at a regular interval. Answers as whitherhaul_on_message.
+ */
 uint8_t whitherhaul_on_idle(uint8_t *state, size_t state_length,
                             uint8_t *log, size_t log_length,
                             uint8_t *results, size_t results_length,
@@ -206,17 +243,27 @@ uint8_t whitherhaul_on_idle(uint8_t *state, size_t state_length,
 /* A new client of n replicas. Its id must be its own for ever. 0 or 1. */
 uint8_t whitherhaul_client_create(uint32_t n, uint64_t id, uint8_t *record, size_t record_length);
 
-/* A request, in place of one that waits: its frame (39 bytes) is for the primary. Member is any number. 0, 1, 2, 9 or 11. */
+/*
+ * A request, in place of one that waits: its frame (39 bytes) is for the primary. Member is any
+ * number. 0, 1, 2, 9 or 11.
+ */
 uint8_t whitherhaul_client_request(uint8_t *record, size_t record_length,
                                    uint8_t operation, uint32_t member, uint64_t cents,
                                    uint8_t *area, size_t area_length,
                                    struct whitherhaul_requested *answers);
 
-/* A reply came for this request number, of this view. The record follows the view also where it isn't awaited. 0 or 1. */
+/*
+ * A reply came for this request number, of this view. The record follows the view also where it
+ * isn't awaited. It asks for no client id: the caller sees that the reply is for this client. 0 or
+ * 1.
+ */
 uint8_t whitherhaul_client_reply(uint8_t *record, size_t record_length, uint64_t number, uint32_t view,
                                  struct whitherhaul_replied *answers);
 
-/* No reply came for a while: the request that waits, for every replica (39 n bytes); none where nothing waits. 0, 1 or 9. */
+/*
+ * No reply came for a while: the request that waits, for every replica (39 n bytes); none where
+ * nothing waits. 0, 1 or 9.
+ */
 uint8_t whitherhaul_client_idle(const uint8_t *record, size_t record_length,
                                 uint8_t *area, size_t area_length, struct whitherhaul_idled *answers);
 
