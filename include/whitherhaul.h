@@ -1,6 +1,14 @@
 /*
  * Whitherhaul: a replicated ledger of club fees (Viewstamped Replication), for owners in C.
  *
+ * Three to seven replicas agree on each charge, and a charge that is sent again isn't taken again.
+ * The library does no input or output, keeps no clock and starts no thread: the owner hands a
+ * replica the frames that arrive, tells it when time has passed, and delivers what it sends; a
+ * client (a desk that charges fees) likewise.
+ *
+ * The nine calls of the library take every piece of memory as a pointer and a length. Behind them
+ * stand helpers that keep the memory of a replica or a client together; most owners use only these.
+ *
  * Every call returns document 01's number: 0 where it is done, else a refusal
  * (WHITHERHAUL_REFUSED_..). What it answers besides goes to one struct of numbers, to which the
  * last argument points; a creation has none. A refused call leaves every byte of the lent runs as
@@ -64,10 +72,12 @@ extern "C" {
  * Sizes: n is 3 to 7, an id 0 to n-1, T (timeout, in ticks) 1 to 65,535, L and M 1 to 4,096. A
  * creation refuses any other number by 1.
  */
+#define WHITHERHAUL_LEAST_REPLICAS 3
 #define WHITHERHAUL_MOST_REPLICAS 7
 #define WHITHERHAUL_MOST_TIMEOUT 65535
 #define WHITHERHAUL_MOST_ROOM 4096
 #define WHITHERHAUL_MOST_MEMBERS 4096
+#define WHITHERHAUL_DEFAULT_TIMEOUT 3
 
 /* Lengths of the lent runs. */
 #define WHITHERHAUL_STATE_BYTES 146
@@ -80,7 +90,7 @@ extern "C" {
 /* A set of replicas for each op number. */
 #define WHITHERHAUL_ACKS_BYTES(L) ((size_t)(L))
 /* Logs of DoViewChanges or recovery responses. */
-#define WHITHERHAUL_STORED_BYTES(L, n) (32 * (size_t)(L) * (n))
+#define WHITHERHAUL_STORED_BYTES(L, n) (32 * (size_t)(L) * (size_t)(n))
 /* Rows: client 8, request 8, mark 1, total 8. */
 #define WHITHERHAUL_TABLE_BYTES(L) (25 * (size_t)(L))
 /* Where a rebuild keeps the rows that it replaces. */
@@ -269,6 +279,364 @@ uint8_t whitherhaul_client_idle(const uint8_t *record, size_t record_length,
 
 /* A Reply, read. 0, or 2 where the bytes are no well-formed one. */
 uint8_t whitherhaul_read_reply(const uint8_t *frame, size_t frame_length, struct whitherhaul_said *answers);
+
+/*
+ * Helpers, written over the calls above; the calls are proved, these are tested. They answer by the
+ * same numbers. A refused one leaves every byte as it was, but for counts and answers, which are
+ * then 0; a refused creation leaves these too.
+ */
+
+/* What a number says, in plain words; never NULL. */
+static inline const char *whitherhaul_words(uint8_t number)
+{
+    switch (number) {
+    case WHITHERHAUL_DONE:
+        return "done";
+    case WHITHERHAUL_REFUSED_SIZES:
+        return "setup or state outside the sizes, or a lent run of another length";
+    case WHITHERHAUL_REFUSED_MALFORMED:
+        return "malformed frame, or operation or cents outside the entry rules";
+    case WHITHERHAUL_REFUSED_REPLICA:
+        return "for another replica, or from one that isn't there";
+    case WHITHERHAUL_REFUSED_ROOM:
+        return "past the room of the log";
+    case WHITHERHAUL_REFUSED_COMMIT:
+        return "a commit number past the log";
+    case WHITHERHAUL_REFUSED_RISING:
+        return "request numbers of a client that don't rise along the log";
+    case WHITHERHAUL_REFUSED_COMMITTED:
+        return "committed entries would be shortened or altered";
+    case WHITHERHAUL_REFUSED_LAST_VIEW:
+        return "past the last view, 4294967295";
+    case WHITHERHAUL_REFUSED_MESSAGES:
+        return "the messages don't fit their area";
+    case WHITHERHAUL_REFUSED_REPLIES:
+        return "the replies don't fit their area";
+    case WHITHERHAUL_REFUSED_NUMBERS:
+        return "the next request number is 2^64-1";
+    default:
+        return "no number of this library";
+    }
+}
+
+/* The big-endian number of 4 bytes. */
+static inline uint32_t whitherhaul_u32_at(const uint8_t *bytes)
+{
+    return (uint32_t)bytes[0] << 24 | (uint32_t)bytes[1] << 16 | (uint32_t)bytes[2] << 8 | bytes[3];
+}
+
+/* The big-endian number of 8 bytes. */
+static inline uint64_t whitherhaul_u64_at(const uint8_t *bytes)
+{
+    return (uint64_t)whitherhaul_u32_at(bytes) << 32 | whitherhaul_u32_at(bytes + 4);
+}
+
+/*
+ * The next frame of a run of frames, and its length with the 4 bytes in front; `frames` and `left`
+ * move behind it. NULL, length 0 and nothing moved where the rest is no whole frame, as at the end.
+ */
+static inline const uint8_t *whitherhaul_next_frame(const uint8_t **frames, size_t *left,
+                                                    size_t *length)
+{
+    const uint8_t *frame = *frames;
+    *length = 0;
+    if (*left < 4 || whitherhaul_u32_at(frame) > *left - 4)
+        return NULL;
+    *length = 4 + (size_t)whitherhaul_u32_at(frame);
+    *frames += *length;
+    *left -= *length;
+    return frame;
+}
+
+/*
+ * The replica that a frame is for. Every frame that a call wrote has this byte; of bytes from
+ * elsewhere the caller sees first that there are 7. In a Reply it means nothing.
+ */
+static inline uint8_t whitherhaul_addressee(const uint8_t *frame)
+{
+    return frame[WHITHERHAUL_FRAME_ADDRESSEE_AT];
+}
+
+/* Bytes of a block. */
+struct whitherhaul_run {
+    uint8_t *bytes;
+    size_t length;
+};
+
+/*
+ * A replica: its setup, and where in its block the runs and the two areas stand. What the last call
+ * sent is counts.messages bytes of `out` and counts.replies bytes of `reps`, until the next call.
+ */
+struct whitherhaul_replica {
+    uint32_t n;
+    uint32_t id;
+    uint32_t timeout;
+    uint32_t room;
+    uint32_t members;
+    struct whitherhaul_run state;
+    struct whitherhaul_run log;
+    struct whitherhaul_run results;
+    struct whitherhaul_run totals;
+    struct whitherhaul_run acks;
+    struct whitherhaul_run stored;
+    struct whitherhaul_run table;
+    struct whitherhaul_run old;
+    struct whitherhaul_run out;
+    struct whitherhaul_run reps;
+    struct whitherhaul_counts counts;
+};
+
+/* How long a replica's block is, for numbers inside the sizes: for blocks in static memory. */
+#define WHITHERHAUL_REPLICA_BYTES(n, L, M)                                                      \
+    (WHITHERHAUL_STATE_BYTES + WHITHERHAUL_LOG_BYTES(L) + WHITHERHAUL_RESULTS_BYTES(L) +        \
+     WHITHERHAUL_TOTALS_BYTES(M) + WHITHERHAUL_ACKS_BYTES(L) + WHITHERHAUL_STORED_BYTES(L, n) + \
+     WHITHERHAUL_TABLE_BYTES(L) + WHITHERHAUL_OLD_BYTES(L) + WHITHERHAUL_OUT_BYTES(L, n) +      \
+     WHITHERHAUL_REPS_BYTES(L))
+
+/* How long a replica's block is, runs and both areas at their longest; 0 outside the sizes. */
+static inline size_t whitherhaul_replica_bytes(uint32_t n, uint32_t room, uint32_t members)
+{
+    if (n < WHITHERHAUL_LEAST_REPLICAS || n > WHITHERHAUL_MOST_REPLICAS)
+        return 0;
+    if (room < 1 || room > WHITHERHAUL_MOST_ROOM)
+        return 0;
+    if (members < 1 || members > WHITHERHAUL_MOST_MEMBERS)
+        return 0;
+    return WHITHERHAUL_REPLICA_BYTES(n, room, members);
+}
+
+/* So many bytes of the rest of a block, which then begins behind them. */
+static inline struct whitherhaul_run whitherhaul_take(uint8_t **rest, size_t length)
+{
+    struct whitherhaul_run run;
+    run.bytes = *rest;
+    run.length = length;
+    *rest += length;
+    return run;
+}
+
+/* The runs and areas of a replica in a block that is long enough; no byte of it is touched. */
+static inline struct whitherhaul_replica whitherhaul_lay_out(uint32_t n, uint32_t id,
+                                                             uint32_t timeout, uint32_t room,
+                                                             uint32_t members, void *memory)
+{
+    struct whitherhaul_replica r;
+    uint8_t *rest = (uint8_t *)memory;
+    r.n = n;
+    r.id = id;
+    r.timeout = timeout;
+    r.room = room;
+    r.members = members;
+    r.state = whitherhaul_take(&rest, WHITHERHAUL_STATE_BYTES);
+    r.log = whitherhaul_take(&rest, WHITHERHAUL_LOG_BYTES(room));
+    r.results = whitherhaul_take(&rest, WHITHERHAUL_RESULTS_BYTES(room));
+    r.totals = whitherhaul_take(&rest, WHITHERHAUL_TOTALS_BYTES(members));
+    r.acks = whitherhaul_take(&rest, WHITHERHAUL_ACKS_BYTES(room));
+    r.stored = whitherhaul_take(&rest, WHITHERHAUL_STORED_BYTES(room, n));
+    r.table = whitherhaul_take(&rest, WHITHERHAUL_TABLE_BYTES(room));
+    r.old = whitherhaul_take(&rest, WHITHERHAUL_OLD_BYTES(room));
+    r.out = whitherhaul_take(&rest, WHITHERHAUL_OUT_BYTES(room, n));
+    r.reps = whitherhaul_take(&rest, WHITHERHAUL_REPS_BYTES(room));
+    r.counts.messages = 0;
+    r.counts.replies = 0;
+    return r;
+}
+
+/*
+ * A replica for the first time, in a block that the owner lends as long as he uses it, at any
+ * address; bytes past whitherhaul_replica_bytes stay as they were. 0, or 1 also where the block is
+ * too short.
+ */
+static inline uint8_t whitherhaul_replica_new(struct whitherhaul_replica *r, uint32_t n,
+                                              uint32_t id, uint32_t timeout, uint32_t room,
+                                              uint32_t members, void *memory, size_t length)
+{
+    size_t bytes = whitherhaul_replica_bytes(n, room, members);
+    struct whitherhaul_replica made;
+    uint8_t number;
+    if (bytes == 0 || length < bytes)
+        return WHITHERHAUL_REFUSED_SIZES;
+    made = whitherhaul_lay_out(n, id, timeout, room, members, memory);
+    number = whitherhaul_create(n, id, timeout, room, members,
+                                made.state.bytes, made.state.length,
+                                made.log.bytes, made.log.length,
+                                made.results.bytes, made.results.length,
+                                made.totals.bytes, made.totals.length,
+                                made.acks.bytes, made.acks.length,
+                                made.stored.bytes, made.stored.length,
+                                made.table.bytes, made.table.length,
+                                made.old.bytes, made.old.length);
+    if (number == WHITHERHAUL_DONE)
+        *r = made;
+    return number;
+}
+
+/*
+ * A replica that lost its memory in a crash, with the view that its owner kept and a nonce that it
+ * never used before. Its Recovery frames stand in `out`. 0 or 1, as whitherhaul_replica_new.
+ */
+static inline uint8_t whitherhaul_replica_recover(struct whitherhaul_replica *r, uint32_t n,
+                                                  uint32_t id, uint32_t timeout, uint32_t room,
+                                                  uint32_t members, uint32_t view, uint64_t nonce,
+                                                  void *memory, size_t length)
+{
+    size_t bytes = whitherhaul_replica_bytes(n, room, members);
+    struct whitherhaul_replica made;
+    uint8_t number;
+    if (bytes == 0 || length < bytes)
+        return WHITHERHAUL_REFUSED_SIZES;
+    made = whitherhaul_lay_out(n, id, timeout, room, members, memory);
+    number = whitherhaul_recover(n, id, timeout, room, members, view, nonce,
+                                 made.state.bytes, made.state.length,
+                                 made.log.bytes, made.log.length,
+                                 made.results.bytes, made.results.length,
+                                 made.totals.bytes, made.totals.length,
+                                 made.acks.bytes, made.acks.length,
+                                 made.stored.bytes, made.stored.length,
+                                 made.table.bytes, made.table.length,
+                                 made.old.bytes, made.old.length,
+                                 made.out.bytes, made.out.length, &made.counts);
+    if (number == WHITHERHAUL_DONE)
+        *r = made;
+    return number;
+}
+
+/*
+ * A frame has arrived, with its 4-byte length; it mustn't stand in this replica's own block. 0 to
+ * 8: the areas are long enough for any call.
+ */
+static inline uint8_t whitherhaul_replica_on_message(struct whitherhaul_replica *r,
+                                                     const uint8_t *frame, size_t length)
+{
+    return whitherhaul_on_message(r->state.bytes, r->state.length, frame, length,
+                                  r->log.bytes, r->log.length,
+                                  r->results.bytes, r->results.length,
+                                  r->totals.bytes, r->totals.length,
+                                  r->acks.bytes, r->acks.length,
+                                  r->stored.bytes, r->stored.length,
+                                  r->table.bytes, r->table.length,
+                                  r->old.bytes, r->old.length,
+                                  r->out.bytes, r->out.length,
+                                  r->reps.bytes, r->reps.length, &r->counts);
+}
+
+/* Time has passed: a tick, to be called at a regular interval. 0 to 8. */
+static inline uint8_t whitherhaul_replica_on_idle(struct whitherhaul_replica *r)
+{
+    return whitherhaul_on_idle(r->state.bytes, r->state.length,
+                               r->log.bytes, r->log.length,
+                               r->results.bytes, r->results.length,
+                               r->totals.bytes, r->totals.length,
+                               r->acks.bytes, r->acks.length,
+                               r->stored.bytes, r->stored.length,
+                               r->table.bytes, r->table.length,
+                               r->old.bytes, r->old.length,
+                               r->out.bytes, r->out.length,
+                               r->reps.bytes, r->reps.length, &r->counts);
+}
+
+/* What a replica is doing: WHITHERHAUL_NORMAL .. */
+static inline uint8_t whitherhaul_replica_status(const struct whitherhaul_replica *r)
+{
+    return r->state.bytes[WHITHERHAUL_STATE_STATUS_AT];
+}
+
+/* The view: an owner keeps it out of a crash's reach before it delivers what a call sent. */
+static inline uint32_t whitherhaul_replica_view(const struct whitherhaul_replica *r)
+{
+    return whitherhaul_u32_at(r->state.bytes + WHITHERHAUL_STATE_VIEW_AT);
+}
+
+/* How many entries the log has. */
+static inline uint32_t whitherhaul_replica_op_number(const struct whitherhaul_replica *r)
+{
+    return whitherhaul_u32_at(r->state.bytes + WHITHERHAUL_STATE_OP_AT);
+}
+
+/* How many of them are committed, and so applied to the totals. */
+static inline uint32_t whitherhaul_replica_commit_number(const struct whitherhaul_replica *r)
+{
+    return whitherhaul_u32_at(r->state.bytes + WHITHERHAUL_STATE_COMMIT_AT);
+}
+
+/* Whether it leads its view, 1 or 0, in any status. */
+static inline int whitherhaul_replica_is_primary(const struct whitherhaul_replica *r)
+{
+    return whitherhaul_replica_view(r) % r->n == r->id;
+}
+
+/* A member's total, in cents; 0 where the member isn't below M. */
+static inline uint64_t whitherhaul_replica_total(const struct whitherhaul_replica *r,
+                                                 uint32_t member)
+{
+    return member < r->members ? whitherhaul_u64_at(r->totals.bytes + 8 * (size_t)member) : 0;
+}
+
+/*
+ * A client: its record, which is all that an owner keeps of it, and an area for n Requests. The
+ * area holds what the last on_request (requested.written bytes) or on_idle (idled.written) gave.
+ */
+struct whitherhaul_client {
+    uint8_t record[WHITHERHAUL_CLIENT_BYTES];
+    uint8_t area[WHITHERHAUL_MOST_REPLICAS * WHITHERHAUL_REQUEST_BYTES];
+    struct whitherhaul_requested requested;
+    struct whitherhaul_idled idled;
+};
+
+/* A new client of n replicas. Its id must be its own for ever. 0, or 1 and *c as it was. */
+static inline uint8_t whitherhaul_client_new(struct whitherhaul_client *c, uint32_t n, uint64_t id)
+{
+    uint8_t number = whitherhaul_client_create(n, id, c->record, sizeof c->record);
+    if (number == WHITHERHAUL_DONE) {
+        c->requested.number = 0;
+        c->requested.written = 0;
+        c->idled.written = 0;
+    }
+    return number;
+}
+
+/* A request, in place of one that waits: its number, and its frame in the area. 0, 1, 2 or 11. */
+static inline uint8_t whitherhaul_client_on_request(struct whitherhaul_client *c, uint8_t operation,
+                                                    uint32_t member, uint64_t cents)
+{
+    return whitherhaul_client_request(c->record, sizeof c->record, operation, member, cents,
+                                      c->area, sizeof c->area, &c->requested);
+}
+
+/* No reply came for a while: the request that waits, for every replica, in the area. 0 or 1. */
+static inline uint8_t whitherhaul_client_on_idle(struct whitherhaul_client *c)
+{
+    return whitherhaul_client_idle(c->record, sizeof c->record, c->area, sizeof c->area, &c->idled);
+}
+
+/*
+ * A Reply has arrived: what it says, and whether it answers the request that waits (1 or 0). One
+ * for another client leaves the record as it was: its number and view are none of this client's,
+ * and whitherhaul_client_reply, which sees no client id, would take a charge for answered that
+ * isn't. 0, 1, or 2 where the bytes are no well-formed Reply; where refused, all it says is 0.
+ */
+static inline uint8_t whitherhaul_client_on_reply_frame(struct whitherhaul_client *c,
+                                                        const uint8_t *frame, size_t length,
+                                                        struct whitherhaul_said *said, int *done)
+{
+    static const struct whitherhaul_said nothing = {0, 0, 0, 0, 0};
+    struct whitherhaul_replied replied;
+    struct whitherhaul_idled idled;
+    /* Refusal 1 goes before 2. A call that lends no area changes nothing, and judges the record. */
+    uint8_t number = whitherhaul_client_idle(c->record, sizeof c->record, c->area, 0, &idled);
+    *said = nothing;
+    *done = 0;
+    if (number == WHITHERHAUL_REFUSED_SIZES)
+        return number;
+    number = whitherhaul_read_reply(frame, length, said);
+    if (number != WHITHERHAUL_DONE ||
+        said->client != whitherhaul_u64_at(c->record + WHITHERHAUL_CLIENT_ID_AT))
+        return number;
+    number = whitherhaul_client_reply(c->record, sizeof c->record, said->request,
+                                      (uint32_t)said->view, &replied);
+    *done = replied.done == 1;
+    return number;
+}
 
 #ifdef __cplusplus
 }
