@@ -7,7 +7,82 @@
  * client (a desk that charges fees) likewise.
  *
  * The nine calls of the library take every piece of memory as a pointer and a length. Behind them
- * stand helpers that keep the memory of a replica or a client together; most owners use only these.
+ * stand helpers that keep the memory of a replica or a client together; most owners use only these:
+ *
+ * Example (example.c):
+ * #include "whitherhaul.h"
+ *
+ * #include <stdio.h>
+ * #include <string.h>
+ *
+ * enum { N = 3, ROOM = 8, MEMBERS = 8, DESK = 7, MEMBER = 3 };
+ *
+ * static uint8_t memory[N][WHITHERHAUL_REPLICA_BYTES(N, ROOM, MEMBERS)];
+ * static struct whitherhaul_replica replicas[N];
+ * static struct whitherhaul_client desk;
+ *
+ * static uint8_t network[1024];
+ * static size_t posted, left; // bytes that were ever posted, and those that aren't delivered yet
+ *
+ * // Frames that don't fit are lost. That does no harm: what isn't answered is sent again on idle.
+ * static void post(const uint8_t *frames, uint64_t length)
+ * {
+ *     if (length > sizeof network - posted)
+ *         return;
+ *     memcpy(network + posted, frames, (size_t)length);
+ *     posted += (size_t)length;
+ *     left += (size_t)length;
+ * }
+ *
+ * // Whether a reply of the replica's last call answers the request of the desk.
+ * static int answered(const struct whitherhaul_replica *r, struct whitherhaul_said *said)
+ * {
+ *     const uint8_t *frame, *replies = r->reps.bytes;
+ *     size_t length, rest = (size_t)r->counts.replies;
+ *     int done = 0;
+ *     while (!done && (frame = whitherhaul_next_frame(&replies, &rest, &length)) != NULL)
+ *         whitherhaul_client_on_reply_frame(&desk, frame, length, said, &done);
+ *     return done;
+ * }
+ *
+ * static int start(void)
+ * {
+ *     uint32_t id;
+ *     for (id = 0; id < N; id++)
+ *         if (whitherhaul_replica_new(&replicas[id], N, id, WHITHERHAUL_DEFAULT_TIMEOUT, ROOM,
+ *                                     MEMBERS, memory[id], sizeof memory[id]) != WHITHERHAUL_DONE)
+ *             return 0;
+ *     return whitherhaul_client_new(&desk, N, DESK) == WHITHERHAUL_DONE;
+ * }
+ *
+ * int main(void)
+ * {
+ *     const uint8_t *frame, *next = network;
+ *     struct whitherhaul_said said;
+ *     size_t length;
+ *     if (!start() ||
+ *         whitherhaul_client_on_request(&desk, WHITHERHAUL_FEE, MEMBER, 4500) != WHITHERHAUL_DONE)
+ *         return 1;
+ *     post(desk.area, desk.requested.written);
+ *     while ((frame = whitherhaul_next_frame(&next, &left, &length)) != NULL) {
+ *         struct whitherhaul_replica *r = &replicas[whitherhaul_addressee(frame)];
+ *         uint8_t number = whitherhaul_replica_on_message(r, frame, length);
+ *         if (number != WHITHERHAUL_DONE)
+ *             fprintf(stderr, "refused: %s\n", whitherhaul_words(number));
+ *         // Who wants to recover after a crash keeps whitherhaul_replica_view(r) before this.
+ *         post(r->out.bytes, r->counts.messages);
+ *         if (answered(r, &said)) {
+ *             printf("total of member %d: %u.%02u\n", MEMBER, (unsigned)(said.total / 100),
+ *                    (unsigned)(said.total % 100));
+ *             return 0;
+ *         }
+ *     }
+ *     return 1;
+ * }
+ * End of the example.
+ *
+ * From the repository's root: cc example.c -I include target/staticlib/native/libwhitherhaul.a
+ * It prints: total of member 3: 45.00
  *
  * Every call returns document 01's number: 0 where it is done, else a refusal
  * (WHITHERHAUL_REFUSED_..). What it answers besides goes to one struct of numbers, to which the
