@@ -1,17 +1,53 @@
-//! Links the proved library. Its archive is `target/staticlib/native/libwhitherhaul.a` of the repository.
+//! Links the proved library, `libwhitherhaul.a`: that of the repository, or of the folder that
+//! `WHITHERHAUL_ARCHIVE_DIR` names.
+//!
+//! Without it `cargo check` and `cargo doc` still work. Whatever has to be linked fails, and the
+//! warning says why.
 
 use std::env;
-use std::path::PathBuf;
+use std::path::{Path, PathBuf};
+
+const OVERRIDE: &str = "WHITHERHAUL_ARCHIVE_DIR";
 
 fn main() {
-    let here = PathBuf::from(env::var_os("CARGO_MANIFEST_DIR").expect("cargo says where"));
-    let folder = here.join("../../target/staticlib/native");
+    println!("cargo::rerun-if-env-changed={OVERRIDE}");
+    let folder = match env::var_os(OVERRIDE).filter(|folder| !folder.is_empty()) {
+        Some(folder) => PathBuf::from(folder),
+        None => repository().join("target/staticlib/native"),
+    };
+    // Cargo, rustc and this program each run in a folder of their own.
+    if folder.is_relative() {
+        println!(
+            "cargo::error={OVERRIDE} is {}, which isn't an absolute path.",
+            folder.display()
+        );
+        return;
+    }
     let archive = folder.join("libwhitherhaul.a");
     println!("cargo::rerun-if-changed={}", archive.display());
     if !archive.exists() {
-        println!("cargo::error=target/staticlib/native/libwhitherhaul.a isn't there: run `tools/native-archive whitherhaul` in the repository's root.");
-        return;
+        missing(&archive);
     }
     println!("cargo::rustc-link-search=native={}", folder.display());
     println!("cargo::rustc-link-lib=static=whitherhaul");
+}
+
+/// Says what to do. Cargo runs this program again as long as a path that it watches isn't there, and
+/// one that never is sees to it that an archive is noticed also where its time is an old one.
+fn missing(archive: &Path) {
+    let out = env::var_os("OUT_DIR").expect("cargo says where");
+    let never = Path::new(&out).join("never");
+    println!("cargo::rerun-if-changed={}", never.display());
+    println!(
+        "cargo::warning={} isn't there, so nothing can be linked.",
+        archive.display()
+    );
+    println!("cargo::warning=Run `tools/native-archive whitherhaul` in Whitherhaul's repository, or name the archive's folder by {OVERRIDE}.");
+}
+
+/// The repository's root, where this crate lies in it.
+fn repository() -> PathBuf {
+    let here = env::var_os("CARGO_MANIFEST_DIR").expect("cargo says where");
+    let root = Path::new(&here).ancestors().nth(2);
+    root.expect("a folder two above").to_path_buf()
 }

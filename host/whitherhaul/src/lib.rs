@@ -59,6 +59,15 @@
 //! assert_eq!(replica.sent().messages().count(), 2);
 //! ```
 //!
+//! # What is linked
+//!
+//! The proved library is the archive `libwhitherhaul.a`, which `tools/native-archive whitherhaul`
+//! writes to `target/staticlib/native` of the repository. The build takes it from there, or from
+//! the folder that the environment variable `WHITHERHAUL_ARCHIVE_DIR` names by an absolute path.
+//! `cargo check` and `cargo doc` work without it, with a warning; a build fails.
+//!
+//! # Where the rules are
+//!
 //! Wire bytes, fee rules, sizes and refusals are those of document 01; the layouts of lent memory are in `docs/PROMISES.md`.
 //! Who keeps the memory himself uses [`raw`].
 
