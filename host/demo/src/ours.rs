@@ -2,13 +2,12 @@
 
 use crate::clubs::Charge;
 use crate::library::{Answer, Library, Standing};
-use whitherhaul::{addressee, Client, Entry, Refusal, Replica, Reply, Sent, Setup};
+use whitherhaul::{Client, Entry, Refusal, Replica, Reply, Sent, Setup};
 
 pub struct Whitherhaul;
 
 /// A frame of its own, with its addressee.
-fn letter(frame: &[u8]) -> (u8, Vec<u8>) {
-    let to = addressee(frame).expect("a frame that was written has an addressee");
+fn letter((to, frame): (u8, &[u8])) -> (u8, Vec<u8>) {
     (to, frame.to_vec())
 }
 
@@ -16,10 +15,7 @@ fn answer(sent: Result<Sent<'_>, Refusal>) -> Answer<Vec<u8>> {
     match sent {
         Ok(sent) => Answer {
             messages: sent.messages().map(letter).collect(),
-            replies: sent
-                .replies()
-                .map(|frame| Reply::read(frame).expect("a reply that was written is well formed"))
-                .collect(),
+            replies: sent.replies().collect(),
             refused: None,
         },
         Err(refusal) => Answer {
@@ -77,10 +73,10 @@ impl Library for Whitherhaul {
     }
 
     fn request(desk: &mut Client, charge: &Charge) -> (u64, (u8, Vec<u8>)) {
-        let (number, frame) = desk
+        let asked = desk
             .on_request(charge.operation, charge.member, charge.cents)
             .expect("a charge inside the entry rules");
-        (number, letter(frame))
+        (asked.number, letter((asked.to, asked.frame)))
     }
 
     fn on_reply(desk: &mut Client, reply: &Reply) -> bool {

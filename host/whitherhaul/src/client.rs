@@ -1,17 +1,32 @@
 //! A client: a desk that charges fees.
 
-use crate::frames::{u32_at, u64_at, Frames, Operation};
+use crate::entries::{u32_at, u64_at, Operation};
+use crate::frames::{Frames, Messages, ADDRESSEE};
 use crate::{raw, Refusal};
 
 /// How long a Request frame is.
 const REQUEST: usize = 39;
 
-/// A client, with its record and an area in which every call fits. Its id must be its own, for ever: one that starts anew takes
-/// another.
+/// A client, with its record and an area in which every call fits. Its id must be its own, for
+/// ever: one that starts anew takes another.
+///
+/// Only making a client can be refused by 1: its record, once taken, has a meaning and keeps it. 9
+/// doesn't come, since the area is long enough.
 #[derive(Clone, Debug)]
 pub struct Client {
     record: [u8; raw::CLIENT],
     area: [u8; 7 * REQUEST],
+}
+
+/// A request that a client has just made. The frame lies in the client's area until its next call.
+#[derive(Clone, Copy, Debug)]
+pub struct Requested<'a> {
+    /// The request's number, which its Reply repeats.
+    pub number: u64,
+    /// The replica that the frame is for: the primary of the latest view that the client heard of.
+    pub to: u8,
+    /// The Request frame, with its 4-byte length.
+    pub frame: &'a [u8],
 }
 
 impl Client {
@@ -25,44 +40,50 @@ impl Client {
         })
     }
 
-    /// A client from a record that was kept ([`Client::record`]). Refusal 1 where a byte of it has no meaning.
+    /// A client from a record that was kept ([`Client::record`]). Refusal 1 where a byte of it has
+    /// no meaning.
     pub fn from_record(record: [u8; raw::CLIENT]) -> Result<Client, Refusal> {
         let mut area = [0; 7 * REQUEST];
         Refusal::check(raw::client_idle(&record, &mut area).0)?;
         Ok(Client { record, area })
     }
 
-    /// A new request, in place of one that waits: its number, and the frame for the primary. Refusal 2 where operation or cents
-    /// are outside the entry rules, 11 where the numbers are used up.
+    /// A new request, in place of one that waits. Refusal 2 where operation or cents are outside
+    /// the entry rules, 11 where the numbers are used up.
     pub fn on_request(
         &mut self,
         operation: Operation,
         member: u32,
         cents: u64,
-    ) -> Result<(u64, &[u8]), Refusal> {
-        let (number, request, written) = raw::client_request(
+    ) -> Result<Requested<'_>, Refusal> {
+        let (refusal, number, written) = raw::client_request(
             &mut self.record,
             operation as u8,
             member,
             cents,
             &mut self.area,
         );
-        Refusal::check(number)?;
-        Ok((request, &self.area[..written]))
+        Refusal::check(refusal)?;
+        Ok(Requested {
+            number,
+            to: self.area[ADDRESSEE],
+            frame: &self.area[..written],
+        })
     }
 
-    /// A reply came for this request number, of this view: whether it answers the request that waits. The client follows the
-    /// view also where it doesn't.
+    /// A Reply came for this request number, of this view: whether it answers the request that
+    /// waits. The client follows a later view also where it doesn't.
     pub fn on_reply(&mut self, number: u64, view: u32) -> Result<bool, Refusal> {
-        let (refusal, done) = raw::client_reply(&mut self.record, number, view);
-        Refusal::check(refusal).map(|()| done)
+        let (refusal, answers) = raw::client_reply(&mut self.record, number, view);
+        Refusal::check(refusal).map(|()| answers)
     }
 
-    /// No reply came for a while: the request that waits, for every replica; nothing where none waits.
-    pub fn on_idle(&mut self) -> Result<Frames<'_>, Refusal> {
-        let (number, written) = raw::client_idle(&self.record, &mut self.area);
-        Refusal::check(number)?;
-        Ok(Frames::new(&self.area[..written]))
+    /// No Reply came for a while: the request that waits, to every replica; nothing where none
+    /// waits.
+    pub fn on_idle(&mut self) -> Result<Messages<'_>, Refusal> {
+        let (refusal, written) = raw::client_idle(&self.record, &mut self.area);
+        Refusal::check(refusal)?;
+        Ok(Messages(Frames::new(&self.area[..written])))
     }
 
     /// Its id.

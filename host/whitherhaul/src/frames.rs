@@ -1,11 +1,32 @@
-//! Frames and what they carry: document 01's bytes, read.
+//! Frames as they stand in a run of bytes, and what a call sent.
 
-/// Frames that stand straight one after another, each with its 4-byte length.
+use crate::entries::Reply;
+use std::iter::FusedIterator;
+
+/// Where a frame's kind stands, behind its length and its version.
+const KIND: usize = 5;
+
+/// Where a frame's addressee stands.
+pub(crate) const ADDRESSEE: usize = 6;
+
+/// The replica that a frame is for; none where the bytes end before it. In a Reply it means
+/// nothing.
+pub fn addressee(frame: &[u8]) -> Option<u8> {
+    frame.get(ADDRESSEE).copied()
+}
+
+/// A frame's kind, 1 to 12 in a frame that this library wrote; none where the bytes end before it.
+pub fn kind(frame: &[u8]) -> Option<u8> {
+    frame.get(KIND).copied()
+}
+
+/// Whole frames that stand straight one after another in a run of bytes, each handed out with its
+/// 4-byte length.
 #[derive(Clone, Debug)]
 pub struct Frames<'a>(&'a [u8]);
 
 impl<'a> Frames<'a> {
-    /// The frames of these bytes, which are whole frames; a part of one at the end isn't handed out.
+    /// The frames of these bytes; a part of one at the end isn't handed out.
     pub fn new(bytes: &'a [u8]) -> Frames<'a> {
         Frames(bytes)
     }
@@ -22,7 +43,46 @@ impl<'a> Iterator for Frames<'a> {
     }
 }
 
-/// What a call sent: frames to replicas, and Replies to clients.
+/// Messages for replicas, in the order in which they were written: the replica that each is for,
+/// and its frame with the 4-byte length, to be delivered as it is.
+///
+/// The frames lie in the area of whoever sent them; what is to outlast its next call has to be
+/// copied.
+#[derive(Clone, Debug)]
+pub struct Messages<'a>(pub(crate) Frames<'a>);
+
+impl<'a> Iterator for Messages<'a> {
+    type Item = (u8, &'a [u8]);
+
+    fn next(&mut self) -> Option<(u8, &'a [u8])> {
+        self.0
+            .find_map(|frame| addressee(frame).map(|to| (to, frame)))
+    }
+}
+
+/// Replies for clients, in the order in which they were written, each read: [`Reply::client`] says
+/// for whom it is.
+#[derive(Clone, Debug)]
+pub struct Replies<'a>(Frames<'a>);
+
+impl Iterator for Replies<'_> {
+    type Item = Reply;
+
+    fn next(&mut self) -> Option<Reply> {
+        self.0.find_map(Reply::read)
+    }
+}
+
+impl FusedIterator for Frames<'_> {}
+impl FusedIterator for Messages<'_> {}
+impl FusedIterator for Replies<'_> {}
+
+/// What a call sent: messages to replicas, and Replies to clients. It lends what stands in the
+/// replica's areas until the next call, and copies nothing.
+///
+/// An owner whose desks are in the same process takes [`Sent::replies`], which are read already.
+/// One whose network carries bytes takes the Reply frames, `Frames::new(sent.reply_bytes())`, which
+/// [`Reply::read`] reads.
 #[derive(Clone, Copy, Debug)]
 pub struct Sent<'a> {
     pub(crate) messages: &'a [u8],
@@ -30,149 +90,23 @@ pub struct Sent<'a> {
 }
 
 impl<'a> Sent<'a> {
-    /// The frames for replicas, in the order in which they were written; [`addressee`] says for whom each is.
-    pub fn messages(&self) -> Frames<'a> {
-        Frames(self.messages)
+    /// The messages, each with the replica that it is for.
+    pub fn messages(&self) -> Messages<'a> {
+        Messages(Frames(self.messages))
     }
 
-    /// The Replies for clients; [`Reply::read`] says for whom each is.
-    pub fn replies(&self) -> Frames<'a> {
-        Frames(self.replies)
+    /// The Replies by value. Their frames are [`Sent::reply_bytes`].
+    pub fn replies(&self) -> Replies<'a> {
+        Replies(Frames(self.replies))
     }
 
-    /// All messages as one run of bytes.
+    /// The frames of all messages as one run of bytes, which [`Frames::new`] takes apart.
     pub fn message_bytes(&self) -> &'a [u8] {
         self.messages
     }
 
-    /// All replies as one run of bytes.
+    /// The frames of all Replies as one run of bytes, which [`Frames::new`] takes apart.
     pub fn reply_bytes(&self) -> &'a [u8] {
         self.replies
     }
-}
-
-/// The replica that a frame is for; none where the bytes end before it. In a Reply it means nothing.
-pub fn addressee(frame: &[u8]) -> Option<u8> {
-    frame.get(6).copied()
-}
-
-/// A frame's kind, 1 to 12 in a frame that this library wrote; none where the bytes end before it.
-pub fn kind(frame: &[u8]) -> Option<u8> {
-    frame.get(5).copied()
-}
-
-/// What an entry asks for.
-#[derive(Clone, Copy, Debug, PartialEq, Eq, Hash)]
-pub enum Operation {
-    /// A fee is charged: 1 to 1,000,000 cents.
-    Fee = 1,
-    /// A fee is paid back: 1 to 1,000,000 cents.
-    Refund,
-    /// The total is asked for: 0 cents.
-    Ask,
-}
-
-/// What an entry gave when it was applied.
-#[derive(Clone, Copy, Debug, PartialEq, Eq, Hash)]
-pub enum Outcome {
-    /// The fee was added.
-    Fee = 1,
-    /// The refund was subtracted.
-    Refund,
-    /// The total was told.
-    Ask,
-    /// There is no such member.
-    NoMember,
-    /// The fee would take the total past 1,000,000,000.
-    PastLimit,
-    /// The refund exceeds the total.
-    PastTotal,
-}
-
-impl Outcome {
-    /// The outcome with this number, 1 to 6.
-    pub fn from_number(number: u8) -> Option<Outcome> {
-        Some(match number {
-            1 => Outcome::Fee,
-            2 => Outcome::Refund,
-            3 => Outcome::Ask,
-            4 => Outcome::NoMember,
-            5 => Outcome::PastLimit,
-            6 => Outcome::PastTotal,
-            _ => return None,
-        })
-    }
-}
-
-/// An entry of the log: a client's request.
-#[derive(Clone, Copy, Debug, PartialEq, Eq, Hash)]
-pub struct Entry {
-    /// Whose request it is.
-    pub client: u64,
-    /// Its number among the client's.
-    pub request: u64,
-    /// What it asks for.
-    pub operation: Operation,
-    /// Whose total it is about.
-    pub member: u32,
-    /// How much.
-    pub cents: u64,
-}
-
-impl Entry {
-    /// The entry of these 32 bytes. Its operation is Ask for any number but 1 and 2.
-    pub(crate) fn of(bytes: &[u8]) -> Entry {
-        Entry {
-            client: u64_at(bytes, 0),
-            request: u64_at(bytes, 8),
-            operation: match bytes[16] {
-                1 => Operation::Fee,
-                2 => Operation::Refund,
-                _ => Operation::Ask,
-            },
-            member: u32_at(bytes, 20),
-            cents: u64_at(bytes, 24),
-        }
-    }
-}
-
-/// What a Reply says.
-#[derive(Clone, Copy, Debug, PartialEq, Eq, Hash)]
-pub struct Reply {
-    /// The view in which it was sent; a client takes it to [`crate::Client::on_reply`].
-    pub view: u32,
-    /// The client that it is for.
-    pub client: u64,
-    /// The request that it answers.
-    pub request: u64,
-    /// What the request gave.
-    pub outcome: Outcome,
-    /// The member's total after it; 0 where there is no such member.
-    pub total: u64,
-}
-
-impl Reply {
-    /// Reads a Reply; none where the bytes are no well-formed one.
-    pub fn read(frame: &[u8]) -> Option<Reply> {
-        let (view, client, request, outcome, total) = crate::raw::read_reply(frame)?;
-        Some(Reply {
-            view,
-            client,
-            request,
-            outcome: Outcome::from_number(outcome)?,
-            total,
-        })
-    }
-}
-
-/// The big-endian number of 4 bytes at a place.
-pub(crate) fn u32_at(bytes: &[u8], at: usize) -> u32 {
-    let number = bytes[at..].first_chunk().expect("four bytes");
-    u32::from_be_bytes(*number)
-}
-
-/// The big-endian number of 8 bytes at a place.
-pub(crate) fn u64_at(bytes: &[u8], at: usize) -> u64 {
-    let number = bytes[at..].first_chunk().expect("eight bytes");
-    u64::from_be_bytes(*number)
 }

@@ -1,46 +1,52 @@
-//! A replicated ledger of club fees, for its owner: the safe side of a library whose every function is proved to do what its
-//! contract says. Three to seven replicas agree on each charge (Viewstamped Replication), and a charge that is sent again isn't
-//! taken again.
+//! A replicated ledger of club fees, for its owner: the safe side of a library whose every function
+//! is proved to do what its contract says. Three to seven replicas agree on each charge
+//! (Viewstamped Replication), and a charge that is sent again isn't taken again.
 //!
-//! The library does no input or output, keeps no clock and starts no thread. The owner hands a [`Replica`] the frames that
-//! arrive and tells it when time has passed, and delivers what it sends; a [`Client`] likewise. A call that can't be done is
-//! refused by a [`Refusal`] and changes nothing.
+//! The library does no input or output, keeps no clock and starts no thread. The owner hands a
+//! [`Replica`] the frames that arrive and tells it when time has passed, and delivers what it
+//! sends; a [`Client`] likewise. A call that can't be done is refused by a [`Refusal`] and changes
+//! nothing.
 //!
-//! Three replicas and a desk that charges 45.00 to member 3:
+//! # A charge
+//!
+//! Three replicas and a desk that charges 45.00 to member 3. The network here is a list of frames:
 //!
 //! ```
-//! use whitherhaul::{addressee, Client, Operation, Outcome, Replica, Reply, Setup};
+//! use whitherhaul::{Client, Frames, Operation, Outcome, Replica, Reply, Setup, DEFAULT_TIMEOUT};
 //!
 //! # fn main() -> Result<(), whitherhaul::Refusal> {
-//! let setup = |id| Setup { replicas: 3, id, timeout: 3, room: 8, members: 8 };
+//! let setup = |id| Setup { replicas: 3, id, timeout: DEFAULT_TIMEOUT, room: 8, members: 8 };
 //! let mut replicas = [Replica::new(&setup(0))?, Replica::new(&setup(1))?, Replica::new(&setup(2))?];
 //! let mut desk = Client::new(3, 7)?;
 //!
-//! let (number, request) = desk.on_request(Operation::Fee, 3, 4_500)?;
-//! let mut network = vec![request.to_vec()];
-//! let mut answered = None;
-//! while let Some(frame) = network.pop() {
-//!     let to = addressee(&frame).expect("a whole frame");
+//! let charge = desk.on_request(Operation::Fee, 3, 4_500)?;
+//! let mut network = vec![(charge.to, charge.frame.to_vec())];
+//! let mut for_desks = Vec::new();
+//! while let Some((to, frame)) = network.pop() {
 //!     let sent = replicas[usize::from(to)].on_message(&frame)?;
-//!     network.extend(sent.messages().map(<[u8]>::to_vec));
-//!     answered = answered.or(sent.replies().find_map(Reply::read));
+//!     network.extend(sent.messages().map(|(to, frame)| (to, frame.to_vec())));
+//!     for_desks.extend(Frames::new(sent.reply_bytes()).map(<[u8]>::to_vec));
 //! }
 //!
-//! let reply = answered.expect("two of three hold the charge");
-//! assert_eq!((reply.client, reply.request), (7, number));
-//! assert_eq!((reply.outcome, reply.total), (Outcome::Fee, 4_500));
+//! let reply = Reply::read(&for_desks[0]).expect("two of three hold the charge");
 //! assert!(desk.on_reply(reply.request, reply.view)?);
+//! assert_eq!((reply.outcome, reply.total), (Outcome::Fee, 4_500));
+//! assert_eq!(desk.pending(), None);
 //! assert_eq!(replicas[0].total(3), 4_500);
 //! # Ok(())
 //! # }
 //! ```
 //!
+//! Where the desk is in the same process, [`Sent::replies`] hands it each [`Reply`] by value.
+//!
+//! # A refusal
+//!
 //! A refused call says why, and leaves everything as it was:
 //!
 //! ```
-//! use whitherhaul::{Refusal, Replica, Setup};
+//! use whitherhaul::{Refusal, Replica, Setup, DEFAULT_TIMEOUT};
 //!
-//! let setup = Setup { replicas: 3, id: 0, timeout: 3, room: 8, members: 8 };
+//! let setup = Setup { replicas: 3, id: 0, timeout: DEFAULT_TIMEOUT, room: 8, members: 8 };
 //! let mut replica = Replica::new(&setup).expect("inside the sizes");
 //! let before = replica.parts().clone();
 //! assert_eq!(replica.on_message(&[]).unwrap_err(), Refusal::Malformed);
@@ -48,15 +54,18 @@
 //! assert_eq!(Replica::new(&Setup { replicas: 2, ..setup }).unwrap_err().number(), 1);
 //! ```
 //!
-//! After a crash the owner has the view that it kept, and a nonce that was never used:
+//! # A crash
+//!
+//! After a crash the owner has the view that it kept, and a nonce that was never used. What the
+//! replica asks the others is there at once:
 //!
 //! ```
-//! use whitherhaul::{Replica, Setup, Status};
+//! use whitherhaul::{Replica, Setup, Status, DEFAULT_TIMEOUT};
 //!
-//! let setup = Setup { replicas: 3, id: 1, timeout: 3, room: 8, members: 8 };
+//! let setup = Setup { replicas: 3, id: 1, timeout: DEFAULT_TIMEOUT, room: 8, members: 8 };
 //! let replica = Replica::recover(&setup, 4, 99).expect("inside the sizes");
 //! assert_eq!((replica.status(), replica.view()), (Status::Recovering, 4));
-//! assert_eq!(replica.sent().messages().count(), 2);
+//! assert_eq!(replica.sent().messages().map(|(to, _)| to).collect::<Vec<_>>(), [0, 2]);
 //! ```
 //!
 //! # What is linked
@@ -68,21 +77,24 @@
 //!
 //! # Where the rules are
 //!
-//! Wire bytes, fee rules, sizes and refusals are those of document 01; the layouts of lent memory are in `docs/PROMISES.md`.
-//! Who keeps the memory himself uses [`raw`].
+//! Wire bytes, fee rules, sizes and refusals are those of document 01; the layouts of lent memory
+//! are in `docs/PROMISES.md`. Who keeps the memory himself uses [`raw`].
 
 #![deny(missing_docs)]
 #![deny(unsafe_code)]
 
 mod client;
+mod entries;
 mod frames;
 #[allow(unsafe_code)]
 pub mod raw;
 mod refusal;
 mod replica;
 
-pub use client::Client;
-pub use frames::{addressee, kind, Entry, Frames, Operation, Outcome, Reply, Sent};
+pub use client::{Client, Requested};
+pub use entries::{Entry, Operation, Outcome, Reply};
+pub use frames::{addressee, kind, Frames, Messages, Replies, Sent};
+#[doc(inline)]
 pub use raw::Counts;
 pub use refusal::Refusal;
-pub use replica::{Replica, Setup, Status};
+pub use replica::{Replica, Setup, Status, DEFAULT_TIMEOUT};

@@ -1,13 +1,17 @@
-//! The C calls as they are: numbers and byte runs in, document 01's number out, 0 where it is done. All of this crate's
-//! `unsafe` is here.
+//! The C calls as they are: numbers and byte runs in, document 01's number out, 0 where it is done.
+//! All of this crate's `unsafe` is here.
 //!
-//! A call asks nothing of its caller but that what it is lent is there: wrong lengths and bytes without meaning are refusal 1.
-//! So every function here is safe. Owners use [`crate::Replica`] and [`crate::Client`]; this is for those who keep the memory
-//! themselves, and for tests.
+//! A call asks nothing of its caller but that what it is lent is there: wrong lengths and bytes
+//! without meaning are refusal 1. So every function here is safe. Owners use [`Replica`] and
+//! [`Client`]; this is for those who keep the memory themselves, and for tests.
+//!
+//! [`Replica`]: crate::Replica
+//! [`Client`]: crate::Client
 
 use crate::Setup;
 
-/// A replica's lent runs. Their lengths follow from n, L (`room`) and M (`members`) alone: see [`Memory::of`].
+/// A replica's lent runs. Their lengths follow from n, L (`room`) and M (`members`) alone: see
+/// [`Memory::of`].
 #[derive(Debug, Default, PartialEq, Eq)]
 pub struct Memory {
     /// The state, 146 bytes: see [`state`].
@@ -29,7 +33,8 @@ pub struct Memory {
 }
 
 impl Memory {
-    /// All zero, of the lengths that the setup asks for. For a setup outside the sizes, those of the nearest inside.
+    /// All zero, of the lengths that the setup asks for. For a setup outside the sizes, those of
+    /// the nearest inside.
     pub fn of(setup: &Setup) -> Memory {
         let room = setup.room.clamp(1, 4096) as usize;
         let members = setup.members.clamp(1, 4096) as usize;
@@ -291,8 +296,8 @@ pub fn create(setup: &Setup, memory: &mut Memory) -> u8 {
     }
 }
 
-/// `recover`: a replica's memory after a crash, with the view that was kept and a nonce that was never used. The number (0, 1
-/// or 9), and how many bytes of Recovery frames stand in `out`.
+/// `recover`: a replica's memory after a crash, with the view that was kept and a nonce that was
+/// never used. The number (0, 1 or 9), and how many bytes of Recovery frames stand in `out`.
 pub fn recover(
     setup: &Setup,
     view: u32,
@@ -415,7 +420,8 @@ pub fn client_create(replicas: u32, id: u64, record: &mut [u8]) -> u8 {
     unsafe { whitherhaul_client_create(replicas, id, record.as_mut_ptr(), record.len()) }
 }
 
-/// A client's request. The number of document 01 (0, 1, 2, 9 or 11), the request's number, and how many bytes stand in the area.
+/// A client's request. The number of document 01 (0, 1, 2, 9 or 11), the request's number, and how
+/// many bytes stand in the area.
 pub fn client_request(
     record: &mut [u8],
     operation: u8,
@@ -441,7 +447,8 @@ pub fn client_request(
     (number, request, written as usize)
 }
 
-/// A reply came for this request number, of this view. 0 or 1, and whether it answers the pending request.
+/// A reply came for this request number, of this view. 0 or 1, and whether it answers the pending
+/// request.
 pub fn client_reply(record: &mut [u8], request: u64, view: u32) -> (u8, bool) {
     let mut answers = [UNWRITTEN];
     // Safety: as in `client_request`.

@@ -1,17 +1,23 @@
 //! A replica with its memory.
 
-use crate::frames::{u32_at, u64_at, Entry, Outcome, Sent};
+use crate::entries::{u32_at, u64_at, Entry, Outcome};
+use crate::frames::Sent;
 use crate::raw::{self, state, Counts, Memory};
 use crate::Refusal;
 
-/// What a replica is made with. All replicas of a ledger have the same but for `id`. Any other number is refusal 1.
+/// Document 01's default for [`Setup::timeout`], in ticks.
+pub const DEFAULT_TIMEOUT: u32 = 3;
+
+/// What a replica is made with. All replicas of a ledger have the same but for `id`. A number
+/// outside the sizes that are named here is refusal 1.
 #[derive(Clone, Copy, Debug, PartialEq, Eq, Hash)]
 pub struct Setup {
     /// How many replicas there are, n: 3 to 7.
     pub replicas: u32,
     /// Which of them this is: 0 to n-1.
     pub id: u32,
-    /// How many ticks it waits for the primary, T: 1 to 65,535; 3 is a good number.
+    /// How many ticks it waits for the primary, T: 1 to 65,535. Document 01's default is
+    /// [`DEFAULT_TIMEOUT`].
     pub timeout: u32,
     /// How many entries the log can hold, L: 1 to 4,096.
     pub room: u32,
@@ -20,8 +26,8 @@ pub struct Setup {
 }
 
 impl Setup {
-    /// The longest that the messages of one call can be: those of the primary's tick, a Commit and up to L Prepares to each other
-    /// replica. No other call sends more.
+    /// The longest that the messages of one call can be: those of the primary's tick, a Commit and
+    /// up to L Prepares to each other replica. No other call sends more.
     pub fn longest_messages(&self) -> usize {
         let others = self.replicas.clamp(3, 7) as usize - 1;
         others * (15 + 51 * self.room.min(4096) as usize)
@@ -46,10 +52,12 @@ pub enum Status {
     Recovering,
 }
 
-/// A replica. It does no input or output: its owner hands it frames and ticks, and delivers what it sends. Between a call and
-/// the delivery of what it sent the owner keeps [`Replica::view`] where a crash doesn't reach it.
+/// A replica. It does no input or output: its owner hands it frames and ticks, and delivers what it
+/// sends. Between a call and the delivery of what it sent the owner keeps [`Replica::view`] where a
+/// crash doesn't reach it.
 ///
-/// Every call either is done or is refused, and a refused one changes nothing. None panics, whatever the bytes.
+/// Every call either is done or is refused, and a refused one changes nothing. None panics,
+/// whatever the bytes.
 #[derive(Clone, Debug)]
 pub struct Replica {
     setup: Setup,
@@ -60,15 +68,17 @@ pub struct Replica {
 }
 
 impl Replica {
-    /// A replica for the first time: in Normal, in view 0, with an empty log.
+    /// A replica for the first time: in Normal, in view 0, with an empty log. Refusal 1 where the
+    /// setup is outside the sizes.
     pub fn new(setup: &Setup) -> Result<Replica, Refusal> {
         let mut replica = Replica::empty(setup);
         Refusal::check(raw::create(setup, &mut replica.memory))?;
         Ok(replica)
     }
 
-    /// A replica that lost its memory in a crash, with the view that its owner kept and a nonce that it never used before. Its
-    /// first frames, to all others, are [`Replica::sent`].
+    /// A replica that lost its memory in a crash, with the view that its owner kept and a nonce
+    /// that it never used before. Its first frames, to all others, are [`Replica::sent`]. Refusal 1
+    /// where the setup is outside the sizes.
     pub fn recover(setup: &Setup, view: u32, nonce: u64) -> Result<Replica, Refusal> {
         let mut replica = Replica::empty(setup);
         let (number, messages) =
@@ -89,7 +99,8 @@ impl Replica {
         }
     }
 
-    /// A frame has arrived, with its 4-byte length.
+    /// A frame has arrived, with its 4-byte length. The replica's areas are long enough for what
+    /// any call sends, so refusals 9 and 10 don't come.
     pub fn on_message(&mut self, frame: &[u8]) -> Result<Sent<'_>, Refusal> {
         let (number, counts) =
             raw::on_message(&mut self.memory, frame, &mut self.out, &mut self.reps);
@@ -98,7 +109,8 @@ impl Replica {
         Ok(self.sent())
     }
 
-    /// Time has passed: a tick, to be called at a regular interval.
+    /// Time has passed: a tick, which the owner gives at a regular interval. Refusals 9 and 10
+    /// don't come.
     pub fn on_idle(&mut self) -> Result<Sent<'_>, Refusal> {
         let (number, counts) = raw::on_idle(&mut self.memory, &mut self.out, &mut self.reps);
         self.counts = counts;
@@ -106,8 +118,9 @@ impl Replica {
         Ok(self.sent())
     }
 
-    /// As [`Replica::on_message`], with areas for messages and replies that the caller lends; how many bytes stand in them. Bytes
-    /// behind these stay as they were. [`Replica::sent`] is empty after it.
+    /// As [`Replica::on_message`], with areas for messages and replies that the caller lends; how
+    /// many bytes stand in them. Bytes behind these stay as they were. Refusals 9 and 10 where an
+    /// area is too short. [`Replica::sent`] is empty after it.
     pub fn on_message_into(
         &mut self,
         frame: &[u8],
@@ -191,7 +204,8 @@ impl Replica {
         entries.take(self.op_number() as usize).map(Entry::of)
     }
 
-    /// What the entry with this op number gave, and the member's total after it; none where it isn't committed.
+    /// What the entry with this op number gave, and the member's total after it; none where it
+    /// isn't committed.
     pub fn outcome(&self, op: u32) -> Option<(Outcome, u64)> {
         if op == 0 || op > self.commit_number() {
             return None;
@@ -211,8 +225,8 @@ impl Replica {
         &self.memory
     }
 
-    /// The same to be changed. A run that no call produced may be refused by 1; where it isn't, only safety and ending are
-    /// promised. The methods that read panic where a run was shortened.
+    /// The same to be changed. A run that no call produced may be refused by 1; where it isn't,
+    /// only safety and ending are promised. The methods that read panic where a run was shortened.
     pub fn parts_mut(&mut self) -> &mut Memory {
         &mut self.memory
     }

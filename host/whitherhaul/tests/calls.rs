@@ -2,12 +2,13 @@
 
 use whitherhaul::{
     addressee, kind, Client, Frames, Operation, Outcome, Refusal, Replica, Reply, Setup, Status,
+    DEFAULT_TIMEOUT,
 };
 
 const SETUP: Setup = Setup {
     replicas: 3,
     id: 0,
-    timeout: 3,
+    timeout: DEFAULT_TIMEOUT,
     room: 8,
     members: 8,
 };
@@ -20,11 +21,8 @@ fn prepare_ok(op: u8, sender: u8) -> [u8; 16] {
 /// The first request of client 7: Fee, member 3, 4,500 cents.
 fn request() -> Vec<u8> {
     let mut client = Client::new(3, 7).unwrap();
-    client
-        .on_request(Operation::Fee, 3, 4500)
-        .unwrap()
-        .1
-        .to_vec()
+    let asked = client.on_request(Operation::Fee, 3, 4500).unwrap();
+    asked.frame.to_vec()
 }
 
 #[test]
@@ -36,9 +34,9 @@ fn first_tick() {
     due[21] = 2;
     let sent = replica.on_idle().unwrap();
     assert_eq!(sent.message_bytes(), due);
-    assert_eq!(sent.replies().count(), 0);
-    let to: Vec<_> = sent.messages().map(|f| (kind(f), addressee(f))).collect();
-    assert_eq!(to, [(Some(4), Some(1)), (Some(4), Some(2))]);
+    assert_eq!(sent.reply_bytes(), []);
+    let messages: Vec<_> = sent.messages().collect();
+    assert_eq!(messages, [(1, &due[..15]), (2, &due[15..])]);
 
     let mut out = [0xa5; 31];
     let before = replica.parts().clone();
@@ -71,19 +69,10 @@ fn a_fee_is_charged_once() {
     };
     assert_eq!(reply, due);
     let before = replica.parts().clone();
-    assert_eq!(
-        replica
-            .on_message(&prepare_ok(1, 2))
-            .unwrap()
-            .replies()
-            .count(),
-        0
-    );
+    let sent = replica.on_message(&prepare_ok(1, 2)).unwrap();
+    assert_eq!(sent.reply_bytes(), []);
     let sent = replica.on_message(&request()).unwrap();
-    assert_eq!(
-        sent.replies().filter_map(Reply::read).collect::<Vec<_>>(),
-        [due]
-    );
+    assert_eq!(sent.replies().collect::<Vec<_>>(), [due]);
     assert_eq!(*replica.parts(), before);
     assert_eq!((replica.total(3), replica.log().count()), (4500, 1));
     assert_eq!(replica.outcome(1), Some((Outcome::Fee, 4500)));
@@ -182,7 +171,8 @@ fn a_run_of_another_length() {
     assert!(replica.on_idle().is_ok());
 }
 
-/// Each place of the state run with a byte that has no meaning there: what a fresh replica holds is refused, and left as it is.
+/// Each place of the state run with a byte that has no meaning there: what a fresh replica holds is
+/// refused, and left as it is.
 #[test]
 fn a_byte_without_meaning() {
     for (place, byte) in [
@@ -226,48 +216,8 @@ fn a_mark_that_is_no_outcome() {
     assert_eq!(again.replies().count(), 1);
     replica.parts_mut().table[16] = 9;
     let again = replica.on_message(&request()).unwrap();
-    assert_eq!(again.replies().count(), 0);
+    assert_eq!(again.reply_bytes(), []);
     assert_eq!(replica.op_number(), 1);
-}
-
-#[test]
-fn a_client_and_its_numbers() {
-    let mut client = Client::new(5, 9).unwrap();
-    assert_eq!(client.on_idle().unwrap().count(), 0);
-    assert_eq!(
-        client.on_request(Operation::Fee, 1, 0).unwrap_err(),
-        Refusal::Malformed
-    );
-    let (number, frame) = client.on_request(Operation::Ask, 1, 0).unwrap();
-    assert_eq!((number, frame.len(), addressee(frame)), (0, 39, Some(0)));
-    let to: Vec<_> = client.on_idle().unwrap().filter_map(addressee).collect();
-    assert_eq!(to, [0, 1, 2, 3, 4]);
-    assert!(!client.on_reply(1, 7).unwrap());
-    assert_eq!((client.view(), client.pending()), (7, Some(0)));
-    assert!(client.on_reply(0, 6).unwrap());
-    assert_eq!(
-        (client.view(), client.pending(), client.next_number()),
-        (7, None, 1)
-    );
-    let (_, frame) = client.on_request(Operation::Refund, 1, 5).unwrap();
-    assert_eq!(addressee(frame), Some(2));
-
-    let mut record = *client.record();
-    record[13..21].fill(255);
-    let mut last = Client::from_record(record).unwrap();
-    assert_eq!(
-        last.on_request(Operation::Ask, 1, 0).unwrap_err(),
-        Refusal::NumbersUsedUp
-    );
-    assert_eq!(last.id(), 9);
-    record[21] = 2;
-    assert_eq!(
-        Client::from_record(record).unwrap_err(),
-        Refusal::OutsideSizes
-    );
-    for replicas in [2, 8, 259, 65_539] {
-        assert_eq!(Client::new(replicas, 9).unwrap_err(), Refusal::OutsideSizes);
-    }
 }
 
 #[test]
@@ -278,4 +228,32 @@ fn a_part_of_a_frame_is_not_handed_out() {
     assert_eq!(Frames::new(&bytes[..3]).count(), 0);
     assert_eq!((kind(&bytes[..5]), addressee(&bytes[..6])), (None, None));
     assert_eq!(Reply::read(&request()), None);
+}
+
+/// Every call is lent the same areas, and what it sent is handed out where it stands.
+#[test]
+fn nothing_is_copied() {
+    let mut replica = Replica::new(&SETUP).unwrap();
+    let area = replica.on_idle().unwrap().message_bytes().as_ptr();
+    let sent = replica.on_message(&request()).unwrap();
+    let bytes = sent.message_bytes();
+    assert_eq!(bytes.as_ptr(), area);
+    let places: Vec<_> = sent.messages().map(|(_, f)| f.as_ptr_range()).collect();
+    let second = bytes[51..].as_ptr();
+    assert_eq!(places, [area..second, second..bytes.as_ptr_range().end]);
+}
+
+#[test]
+fn replies_are_read_and_their_frames_are_there() {
+    let mut replica = Replica::new(&SETUP).unwrap();
+    replica.on_message(&request()).unwrap();
+    let sent = replica.on_message(&prepare_ok(1, 1)).unwrap();
+    let frames: Vec<_> = Frames::new(sent.reply_bytes()).collect();
+    let read: Vec<_> = frames.iter().map(|frame| Reply::read(frame)).collect();
+    assert_eq!(read, sent.replies().map(Some).collect::<Vec<_>>());
+    assert_eq!(
+        (frames.len(), frames[0].len(), kind(frames[0])),
+        (1, 36, Some(12))
+    );
+    assert_eq!(sent.messages().count(), 0);
 }
