@@ -1,6 +1,6 @@
 //! A client: a desk that charges fees.
 
-use crate::entries::{u32_at, u64_at, Operation};
+use crate::entries::{u32_at, u64_at, Operation, Reply};
 use crate::frames::{Frames, Messages, ADDRESSEE};
 use crate::{raw, Refusal};
 
@@ -71,8 +71,51 @@ impl Client {
         })
     }
 
+    /// A Reply came as a frame: what it says, where it answers the request that waits.
+    ///
+    /// None where it is another client's, which leaves this one exactly as it was; and none where
+    /// it is for another request of this client, an older one, whose view is followed as by
+    /// [`Client::on_reply`]. Refusal 2 where the frame is no well-formed Reply: then nothing
+    /// changes.
+    ///
+    /// A desk that takes frames should use this: a Reply that went to the wrong desk does no harm.
+    ///
+    /// ```
+    /// use whitherhaul::{Client, Operation, Refusal};
+    ///
+    /// # fn main() -> Result<(), Refusal> {
+    /// let mut desk = Client::new(3, 7)?;
+    /// desk.on_request(Operation::Fee, 3, 4_500)?;
+    ///
+    /// let mut frame = [0; 36];
+    /// frame[3..6].copy_from_slice(&[32, 1, 12]); // length, version, kind
+    /// frame[18] = 8; // the client; its request is 0, as ours
+    /// frame[27..].copy_from_slice(&[1, 0, 0, 0, 0, 0, 0, 0x11, 0x94]); // outcome, total
+    /// assert_eq!(desk.on_reply_frame(&frame)?, None);
+    /// assert_eq!(desk.pending(), Some(0));
+    ///
+    /// frame[18] = 7;
+    /// assert_eq!(desk.on_reply_frame(&frame)?.map(|reply| reply.total), Some(4_500));
+    /// assert_eq!(desk.pending(), None);
+    /// assert_eq!(desk.on_reply_frame(&frame[..35]), Err(Refusal::Malformed));
+    /// # Ok(())
+    /// # }
+    /// ```
+    pub fn on_reply_frame(&mut self, frame: &[u8]) -> Result<Option<Reply>, Refusal> {
+        let reply = Reply::read(frame).ok_or(Refusal::Malformed)?;
+        if reply.client != self.id() {
+            return Ok(None);
+        }
+        let answers = self.on_reply(reply.request, reply.view)?;
+        Ok(answers.then_some(reply))
+    }
+
     /// A Reply came for this request number, of this view: whether it answers the request that
     /// waits. The client follows a later view also where it doesn't.
+    ///
+    /// As in vsr-rs no client id is handed over, so the caller must know that the Reply is this
+    /// client's: one of another desk with the same number, handed over by mistake, clears a charge
+    /// that still waits. [`Client::on_reply_frame`] looks at the id.
     pub fn on_reply(&mut self, number: u64, view: u32) -> Result<bool, Refusal> {
         let (refusal, answers) = raw::client_reply(&mut self.record, number, view);
         Refusal::check(refusal).map(|()| answers)

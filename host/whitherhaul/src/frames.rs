@@ -82,7 +82,7 @@ impl FusedIterator for Replies<'_> {}
 ///
 /// An owner whose desks are in the same process takes [`Sent::replies`], which are read already.
 /// One whose network carries bytes takes the Reply frames, `Frames::new(sent.reply_bytes())`, which
-/// [`Reply::read`] reads.
+/// a desk hands to [`Client::on_reply_frame`](crate::Client::on_reply_frame).
 #[derive(Clone, Copy, Debug)]
 pub struct Sent<'a> {
     pub(crate) messages: &'a [u8],

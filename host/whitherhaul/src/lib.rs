@@ -12,7 +12,7 @@
 //! Three replicas and a desk that charges 45.00 to member 3. The network here is a list of frames:
 //!
 //! ```
-//! use whitherhaul::{Client, Frames, Operation, Outcome, Replica, Reply, Setup, DEFAULT_TIMEOUT};
+//! use whitherhaul::{Client, Frames, Operation, Outcome, Replica, Setup, DEFAULT_TIMEOUT};
 //!
 //! # fn main() -> Result<(), whitherhaul::Refusal> {
 //! let setup = |id| Setup { replicas: 3, id, timeout: DEFAULT_TIMEOUT, room: 8, members: 8 };
@@ -28,8 +28,7 @@
 //!     for_desks.extend(Frames::new(sent.reply_bytes()).map(<[u8]>::to_vec));
 //! }
 //!
-//! let reply = Reply::read(&for_desks[0]).expect("two of three hold the charge");
-//! assert!(desk.on_reply(reply.request, reply.view)?);
+//! let reply = desk.on_reply_frame(&for_desks[0])?.expect("two of three hold the charge");
 //! assert_eq!((reply.outcome, reply.total), (Outcome::Fee, 4_500));
 //! assert_eq!(desk.pending(), None);
 //! assert_eq!(replicas[0].total(3), 4_500);
