@@ -2,11 +2,30 @@
 
 use std::fmt;
 
-/// Document 01's refusals, by number. A refused call left the replica, or the client, and every lent byte as they were.
+/// Document 01's refusals, by number. A refused call left the replica, or the client, and every
+/// lent byte as they were.
+///
+/// A later release may add numbers, so a `match` outside this crate needs an arm for those that it
+/// doesn't name:
+///
+/// ```
+/// use whitherhaul::Refusal;
+///
+/// fn advice(refusal: Refusal) -> &'static str {
+///     match refusal {
+///         Refusal::PastRoom => "the log is full",
+///         Refusal::Malformed => "drop the frame",
+///         _ => "write it down",
+///     }
+/// }
+/// assert_eq!(advice(Refusal::PastLastView), "write it down");
+/// assert_eq!(Refusal::PastLastView.to_string(), "refusal 8: past the last view, 4294967295");
+/// ```
 #[derive(Clone, Copy, Debug, PartialEq, Eq, PartialOrd, Ord, Hash)]
+#[non_exhaustive]
 pub enum Refusal {
-    /// 1: the setup is outside the sizes, the own id isn't below n, a number of the state is out of range, or a lent run has
-    /// another length than the setup gives it.
+    /// 1: the setup is outside the sizes, the own id isn't below n, a number of the state is out of
+    /// range, or a lent run has another length than the setup gives it.
     OutsideSizes,
     /// 2: the frame is malformed. Of a client: operation or cents outside the entry rules.
     Malformed,
@@ -18,7 +37,8 @@ pub enum Refusal {
     CommitPastLog,
     /// 6: the request numbers of a client wouldn't strictly rise along the log.
     NotRising,
-    /// 7: committed entries would be shortened or altered, or a commit number passes the chosen log.
+    /// 7: committed entries would be shortened or altered, or a commit number passes the chosen
+    /// log.
     CommittedAltered,
     /// 8: a tick would move past the last view, 4,294,967,295.
     PastLastView,
@@ -31,8 +51,8 @@ pub enum Refusal {
 }
 
 impl Refusal {
-    /// All of them, in the order of their numbers.
-    pub const ALL: [Refusal; 11] = [
+    /// All that this release has, in the order of their numbers, from 1 on without a gap.
+    pub const ALL: &'static [Refusal] = &[
         Refusal::OutsideSizes,
         Refusal::Malformed,
         Refusal::WrongReplica,
@@ -46,12 +66,12 @@ impl Refusal {
         Refusal::NumbersUsedUp,
     ];
 
-    /// Document 01's number, 1 to 11.
+    /// Document 01's number: 1 to 11 in this release.
     pub fn number(self) -> u8 {
         self as u8 + 1
     }
 
-    /// The refusal with this number.
+    /// The refusal with this number; none where this release has no such number.
     pub fn from_number(number: u8) -> Option<Refusal> {
         let place = usize::from(number).checked_sub(1)?;
         Refusal::ALL.get(place).copied()

@@ -128,18 +128,6 @@ fn every_call_fits_the_areas() {
 }
 
 #[test]
-fn refusals_have_numbers_and_words() {
-    for (place, refusal) in Refusal::ALL.into_iter().enumerate() {
-        assert_eq!(usize::from(refusal.number()), place + 1);
-        assert_eq!(Refusal::from_number(refusal.number()), Some(refusal));
-        let words = refusal.to_string();
-        assert!(words.starts_with(&format!("refusal {}: ", place + 1)));
-    }
-    assert_eq!(Refusal::from_number(0), None);
-    assert_eq!(Refusal::from_number(12), None);
-}
-
-#[test]
 fn setups_outside_the_sizes() {
     let of = |replicas| Setup { replicas, ..SETUP };
     let named = |id| Setup { id, ..SETUP };
