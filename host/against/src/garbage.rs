@@ -36,12 +36,32 @@ pub fn play(random: &mut Random, counts: &mut Counts) -> Result<(), Fault> {
         let before = memory.clone();
         let given = called(random, &mut memory, &before, bytes.as_deref());
         given.map_err(|text| Fault {
-            text: format!("{text}: {:?} of {before:?}", bytes.map(|bytes| hex(&bytes))),
+            text: format!(
+                "{text}: {:?} of {}",
+                bytes.map(|bytes| hex(&bytes)),
+                told(&before)
+            ),
             found: Found::Creation,
         })?;
         counts.garbage += 1;
     }
     Ok(())
+}
+
+/// All bytes of the memory, run by run.
+fn told(memory: &Memory) -> String {
+    let runs = [
+        ("state", &memory.state),
+        ("log", &memory.log),
+        ("results", &memory.results),
+        ("totals", &memory.totals),
+        ("acks", &memory.acks),
+        ("stored", &memory.stored),
+        ("table", &memory.table),
+        ("old", &memory.old),
+    ];
+    runs.map(|(name, run)| format!("{name} {}", hex(run)))
+        .join(", ")
 }
 
 /// Any bytes in all runs, and a state whose numbers are in range.

@@ -3,6 +3,7 @@
 use crate::entries::{u32_at, u64_at, Operation, Reply};
 use crate::frames::{Frames, Messages, ADDRESSEE};
 use crate::{raw, Refusal};
+use std::fmt;
 
 /// How long a Request frame is.
 const REQUEST: usize = 39;
@@ -12,14 +13,14 @@ const REQUEST: usize = 39;
 ///
 /// Only making a client can be refused by 1: its record, once taken, has a meaning and keeps it. 9
 /// doesn't come, since the area is long enough.
-#[derive(Clone, Debug)]
+#[derive(Clone)]
 pub struct Client {
     record: [u8; raw::CLIENT],
     area: [u8; 7 * REQUEST],
 }
 
 /// A request that a client has just made. The frame lies in the client's area until its next call.
-#[derive(Clone, Copy, Debug)]
+#[derive(Clone, Copy)]
 pub struct Requested<'a> {
     /// The request's number, which its Reply repeats.
     pub number: u64,
@@ -152,5 +153,27 @@ impl Client {
     /// Its record: what an owner keeps of it.
     pub fn record(&self) -> &[u8; raw::CLIENT] {
         &self.record
+    }
+}
+
+/// Its numbers, not its bytes.
+impl fmt::Debug for Client {
+    fn fmt(&self, f: &mut fmt::Formatter<'_>) -> fmt::Result {
+        f.debug_struct("Client")
+            .field("id", &self.id())
+            .field("view", &self.view())
+            .field("next_number", &self.next_number())
+            .field("pending", &self.pending())
+            .finish_non_exhaustive()
+    }
+}
+
+/// Number and addressee, not the frame's bytes.
+impl fmt::Debug for Requested<'_> {
+    fn fmt(&self, f: &mut fmt::Formatter<'_>) -> fmt::Result {
+        f.debug_struct("Requested")
+            .field("number", &self.number)
+            .field("to", &self.to)
+            .finish_non_exhaustive()
     }
 }

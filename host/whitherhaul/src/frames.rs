@@ -1,6 +1,7 @@
 //! Frames as they stand in a run of bytes, and what a call sent.
 
 use crate::entries::Reply;
+use std::fmt;
 use std::iter::FusedIterator;
 
 /// Where a frame's kind stands, behind its length and its version.
@@ -22,7 +23,7 @@ pub fn kind(frame: &[u8]) -> Option<u8> {
 
 /// Whole frames that stand straight one after another in a run of bytes, each handed out with its
 /// 4-byte length.
-#[derive(Clone, Debug)]
+#[derive(Clone)]
 pub struct Frames<'a>(&'a [u8]);
 
 impl<'a> Frames<'a> {
@@ -48,7 +49,7 @@ impl<'a> Iterator for Frames<'a> {
 ///
 /// The frames lie in the area of whoever sent them; what is to outlast its next call has to be
 /// copied.
-#[derive(Clone, Debug)]
+#[derive(Clone)]
 pub struct Messages<'a>(pub(crate) Frames<'a>);
 
 impl<'a> Iterator for Messages<'a> {
@@ -62,7 +63,7 @@ impl<'a> Iterator for Messages<'a> {
 
 /// Replies for clients, in the order in which they were written, each read: [`Reply::client`] says
 /// for whom it is.
-#[derive(Clone, Debug)]
+#[derive(Clone)]
 pub struct Replies<'a>(Frames<'a>);
 
 impl Iterator for Replies<'_> {
@@ -83,7 +84,7 @@ impl FusedIterator for Replies<'_> {}
 /// An owner whose desks are in the same process takes [`Sent::replies`], which are read already.
 /// One whose network carries bytes takes the Reply frames, `Frames::new(sent.reply_bytes())`, which
 /// a desk hands to [`Client::on_reply_frame`](crate::Client::on_reply_frame).
-#[derive(Clone, Copy, Debug)]
+#[derive(Clone, Copy)]
 pub struct Sent<'a> {
     pub(crate) messages: &'a [u8],
     pub(crate) replies: &'a [u8],
@@ -108,5 +109,43 @@ impl<'a> Sent<'a> {
     /// The frames of all Replies as one run of bytes, which [`Frames::new`] takes apart.
     pub fn reply_bytes(&self) -> &'a [u8] {
         self.replies
+    }
+}
+
+/// How many frames there are, not their bytes.
+impl fmt::Debug for Sent<'_> {
+    fn fmt(&self, f: &mut fmt::Formatter<'_>) -> fmt::Result {
+        f.debug_struct("Sent")
+            .field("messages", &self.messages().count())
+            .field("replies", &self.replies().count())
+            .finish_non_exhaustive()
+    }
+}
+
+/// How many are left.
+fn left(f: &mut fmt::Formatter<'_>, name: &str, count: usize) -> fmt::Result {
+    f.debug_struct(name)
+        .field("left", &count)
+        .finish_non_exhaustive()
+}
+
+/// How many frames are left, not their bytes.
+impl fmt::Debug for Frames<'_> {
+    fn fmt(&self, f: &mut fmt::Formatter<'_>) -> fmt::Result {
+        left(f, "Frames", self.clone().count())
+    }
+}
+
+/// How many messages are left, not their bytes.
+impl fmt::Debug for Messages<'_> {
+    fn fmt(&self, f: &mut fmt::Formatter<'_>) -> fmt::Result {
+        left(f, "Messages", self.clone().count())
+    }
+}
+
+/// How many Replies are left.
+impl fmt::Debug for Replies<'_> {
+    fn fmt(&self, f: &mut fmt::Formatter<'_>) -> fmt::Result {
+        left(f, "Replies", self.clone().count())
     }
 }

@@ -80,6 +80,7 @@
 //! are in `docs/PROMISES.md`. Who keeps the memory himself uses [`raw`].
 
 #![deny(missing_docs)]
+#![deny(missing_debug_implementations)]
 #![deny(unsafe_code)]
 
 mod client;

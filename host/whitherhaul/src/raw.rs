@@ -9,10 +9,11 @@
 //! [`Client`]: crate::Client
 
 use crate::Setup;
+use std::fmt;
 
 /// A replica's lent runs. Their lengths follow from n, L (`room`) and M (`members`) alone: see
 /// [`Memory::of`].
-#[derive(Debug, Default, PartialEq, Eq)]
+#[derive(Default, PartialEq, Eq)]
 pub struct Memory {
     /// The state, 146 bytes: see [`state`].
     pub state: Vec<u8>,
@@ -76,6 +77,31 @@ impl Clone for Memory {
         self.stored.clone_from(&other.stored);
         self.table.clone_from(&other.table);
         self.old.clone_from(&other.old);
+    }
+}
+
+/// The lengths of the runs, not their bytes.
+impl fmt::Debug for Memory {
+    fn fmt(&self, f: &mut fmt::Formatter<'_>) -> fmt::Result {
+        f.debug_struct("Memory")
+            .field("state", &Bytes(self.state.len()))
+            .field("log", &Bytes(self.log.len()))
+            .field("results", &Bytes(self.results.len()))
+            .field("totals", &Bytes(self.totals.len()))
+            .field("acks", &Bytes(self.acks.len()))
+            .field("stored", &Bytes(self.stored.len()))
+            .field("table", &Bytes(self.table.len()))
+            .field("old", &Bytes(self.old.len()))
+            .finish()
+    }
+}
+
+/// A length, to be shown.
+pub(crate) struct Bytes(pub(crate) usize);
+
+impl fmt::Debug for Bytes {
+    fn fmt(&self, f: &mut fmt::Formatter<'_>) -> fmt::Result {
+        write!(f, "{} bytes", self.0)
     }
 }
 

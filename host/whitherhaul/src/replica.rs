@@ -2,8 +2,9 @@
 
 use crate::entries::{u32_at, u64_at, Entry, Outcome};
 use crate::frames::Sent;
-use crate::raw::{self, state, Counts, Memory};
+use crate::raw::{self, state, Bytes, Counts, Memory};
 use crate::Refusal;
+use std::fmt;
 
 /// Document 01's default for [`Setup::timeout`], in ticks.
 pub const DEFAULT_TIMEOUT: u32 = 3;
@@ -58,7 +59,7 @@ pub enum Status {
 ///
 /// Every call either is done or is refused, and a refused one changes nothing. None panics,
 /// whatever the bytes.
-#[derive(Clone, Debug)]
+#[derive(Clone)]
 pub struct Replica {
     setup: Setup,
     memory: Memory,
@@ -233,5 +234,25 @@ impl Replica {
 
     fn number(&self, at: usize) -> u32 {
         u32_at(&self.memory.state, at)
+    }
+}
+
+/// Its numbers, not its bytes; of a state run that was shortened only the length.
+impl fmt::Debug for Replica {
+    fn fmt(&self, f: &mut fmt::Formatter<'_>) -> fmt::Result {
+        let mut shown = f.debug_struct("Replica");
+        shown
+            .field("id", &self.setup.id)
+            .field("replicas", &self.setup.replicas);
+        if self.memory.state.len() < state::LENGTH {
+            shown.field("state", &Bytes(self.memory.state.len()));
+        } else {
+            shown
+                .field("status", &self.status())
+                .field("view", &self.view())
+                .field("op_number", &self.op_number())
+                .field("commit_number", &self.commit_number());
+        }
+        shown.finish_non_exhaustive()
     }
 }

@@ -1,6 +1,32 @@
-//! Refusals as they are shown to people.
+//! What is shown to people: refusals in words, and all else in a line, however long the log is.
 
-use whitherhaul::Refusal;
+use std::fmt::Debug;
+use whitherhaul::{Client, Frames, Operation, Refusal, Replica, Setup, DEFAULT_TIMEOUT};
+
+/// The longest runs that there are.
+const SETUP: Setup = Setup {
+    replicas: 7,
+    id: 0,
+    timeout: DEFAULT_TIMEOUT,
+    room: 4096,
+    members: 4096,
+};
+
+/// What `{:?}` gives, which is short.
+fn shown(of: impl Debug) -> String {
+    let line = format!("{of:?}");
+    assert!(line.len() < 200, "{} characters", line.len());
+    line
+}
+
+/// A replica with one charge that waits for the others.
+fn charged() -> Replica {
+    let mut client = Client::new(7, 7).unwrap();
+    let asked = client.on_request(Operation::Fee, 3, 4500).unwrap();
+    let mut replica = Replica::new(&SETUP).unwrap();
+    replica.on_message(asked.frame).unwrap();
+    replica
+}
 
 #[test]
 fn refusals_have_numbers_and_words() {
@@ -37,4 +63,60 @@ fn a_later_refusal_breaks_no_caller() {
     let all: &'static [Refusal] = Refusal::ALL;
     let numbers: Vec<_> = all.iter().filter_map(|&refusal| number(refusal)).collect();
     assert_eq!(numbers, (1..=11).collect::<Vec<_>>());
+}
+
+#[test]
+fn a_replica_in_a_line() {
+    let replica = charged();
+    assert_eq!(
+        shown(&replica),
+        "Replica { id: 0, replicas: 7, status: Normal, view: 0, op_number: 1, commit_number: 0, .. }"
+    );
+    let lengths = "Memory { state: 146 bytes, log: 131072 bytes, results: 36864 bytes, \
+        totals: 32768 bytes, acks: 4096 bytes, stored: 917504 bytes, table: 102400 bytes, \
+        old: 102400 bytes }";
+    assert_eq!(shown(replica.parts()), lengths);
+}
+
+#[test]
+fn a_replica_whose_runs_were_shortened() {
+    let mut replica = charged();
+    for length in [145, 12, 0] {
+        replica.parts_mut().state.truncate(length);
+        assert_eq!(
+            shown(&replica),
+            format!("Replica {{ id: 0, replicas: 7, state: {length} bytes, .. }}")
+        );
+    }
+    *replica.parts_mut() = Default::default();
+    assert!(shown(replica.parts()).starts_with("Memory { state: 0 bytes, log: 0 bytes, "));
+    assert_eq!(
+        shown(replica.sent()),
+        "Sent { messages: 6, replies: 0, .. }"
+    );
+}
+
+#[test]
+fn what_was_sent_in_a_line() {
+    let replica = charged();
+    let sent = replica.sent();
+    assert_eq!(shown(sent), "Sent { messages: 6, replies: 0, .. }");
+    let mut messages = sent.messages();
+    messages.next();
+    assert_eq!(shown(messages), "Messages { left: 5, .. }");
+    let frames = Frames::new(sent.message_bytes());
+    assert_eq!(shown(frames), "Frames { left: 6, .. }");
+    assert_eq!(shown(sent.replies()), "Replies { left: 0, .. }");
+}
+
+#[test]
+fn a_client_in_a_line() {
+    let mut client = Client::new(7, u64::MAX).unwrap();
+    let asked = client.on_request(Operation::Fee, 3, 4500).unwrap();
+    assert_eq!(shown(asked), "Requested { number: 0, to: 0, .. }");
+    client.on_reply(1, u32::MAX).unwrap();
+    assert_eq!(
+        shown(client),
+        "Client { id: 18446744073709551615, view: 4294967295, next_number: 1, pending: Some(0), .. }"
+    );
 }
