@@ -64,7 +64,7 @@ fn told(memory: &Memory) -> String {
         .join(", ")
 }
 
-/// Any bytes in all runs, and a state whose numbers are in range.
+/// Any bytes in all runs, and a state whose numbers are in range, with votes and reports of its own replicas alone.
 fn filled(random: &mut Random, setup: Setup) -> Memory {
     let lent = lent_setup(setup).expect("sizes that fit");
     let mut memory = Memory::of(&lent);
@@ -85,17 +85,20 @@ fn filled(random: &mut Random, setup: Setup) -> Memory {
     state[state::LAST_NORMAL_VIEW + 3] = random.number() as u8;
     state[state::CATCHING_UP] = random.below(2) as u8;
     state[state::SENT] = random.below(2) as u8;
-    state[state::STARTS] = random.number() as u8;
+    state[state::STARTS] = random.below(1 << setup.n) as u8;
     state[state::NONCE + 7] = 1;
     for byte in &mut state[state::CLOCK + 1..state::CLOCK + 8] {
         *byte = random.pick(&[0, 1, 255]);
     }
     numbers(random, setup, &mut state[state::OP_NUMBER..]);
-    for report in state[state::REPORTS..].chunks_exact_mut(state::REPORT) {
-        report[0] = random.below(2) as u8;
-        report[1] = random.below(2) as u8;
-        report[5] = random.below(4) as u8;
-        numbers(random, setup, &mut report[6..]);
+    let reports = state[state::REPORTS..].chunks_exact_mut(state::REPORT);
+    for report in reports.take(setup.n) {
+        if random.chance(50) {
+            report[0] = 1;
+            report[1] = random.below(2) as u8;
+            report[5] = random.below(4) as u8;
+            numbers(random, setup, &mut report[6..]);
+        }
     }
     memory
 }
@@ -121,6 +124,9 @@ fn called(
         Some(frame) => raw::on_message(memory, frame, &mut out, &mut reps),
         None => raw::on_idle(memory, &mut out, &mut reps),
     };
+    if number == 1 {
+        return Err("is refused by 1, so nothing was tried".into());
+    }
     if number > 10 || counts.messages > out.len() || counts.replies > reps.len() {
         return Err(format!("gives {number} and {counts:?}"));
     }
