@@ -76,8 +76,10 @@
 //!
 //! # Where the rules are
 //!
-//! Wire bytes, fee rules, sizes and refusals are those of document 01; the layouts of lent memory
-//! are in `docs/PROMISES.md`. Who keeps the memory himself uses [`raw`].
+//! Wire bytes, fee rules, sizes and refusals are in `docs/RULES.md` of the repository, the layouts of
+//! lent memory in `docs/PROMISES.md`. Other pages call the rules' source "document 01". For who comes
+//! from vsr-rs, `docs/FROM-VSR-RS.md` says what is called what. Who keeps the memory himself uses
+//! [`raw`].
 
 #![deny(missing_docs)]
 #![deny(missing_debug_implementations)]
