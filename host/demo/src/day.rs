@@ -8,6 +8,7 @@ use crate::machines::Machine;
 use crate::network::{Network, Traffic};
 use crate::options::Options;
 use crate::teller::Teller;
+use crate::words::{charges, count};
 use std::collections::BTreeMap;
 use whitherhaul::{Operation, Outcome, Reply};
 use wire::random::Random;
@@ -208,8 +209,10 @@ impl<'a, L: Library> Day<'a, L> {
     /// Says what is missing at the end of the steps.
     fn missing(&mut self) {
         self.wrong.push(format!(
-            "after {} steps {} of {} charges are answered",
-            self.counts.steps, self.answered, self.options.requests
+            "after {} {} of {} answered",
+            count(self.counts.steps, "step", "steps"),
+            self.answered,
+            charges(self.options.requests)
         ));
         self.wrong.extend(self.machines.iter().map(Machine::told));
     }

@@ -3,6 +3,7 @@
 use crate::clubs::{club_of, List, CLUBS};
 use crate::day::{Evening, REPLICAS};
 use crate::library::Library;
+use crate::words::count;
 use std::collections::BTreeMap;
 use whitherhaul::Entry;
 
@@ -21,7 +22,9 @@ pub struct Ledgers {
 pub fn look<L: Library>(list: &List, evening: &Evening<L>) -> Ledgers {
     let mut wrong = evening.wrong.clone();
     if evening.replicas.len() != usize::from(REPLICAS) {
-        wrong.push(format!("only {} replicas run", evening.replicas.len()));
+        let run = evening.replicas.len() as u64;
+        let run = count(run, "replica runs", "replicas run");
+        wrong.push(format!("only {run}"));
     }
     let ledgers: Vec<_> = evening
         .replicas
@@ -83,7 +86,8 @@ fn added(list: &List, id: usize, totals: &[u64], wrong: &mut Vec<String>) {
     for (member, (has, due)) in totals.iter().zip(&list.totals).enumerate() {
         if has != due {
             wrong.push(format!(
-                "replica {id} has {has} cents for member {member}, the list comes to {due}"
+                "replica {id} has {} for member {member}, the list comes to {due}",
+                count(*has, "cent", "cents")
             ));
         }
     }

@@ -3,6 +3,7 @@
 use crate::clubs::List;
 use crate::day::{Day, Parcel, REPLICAS};
 use crate::library::{Answer, Library, Standing};
+use crate::words::charges;
 use whitherhaul::Setup;
 
 /// Idle periods without the leader before a backup asks for the next view.
@@ -43,8 +44,11 @@ impl<L: Library> Machine<L> {
         match self.standing() {
             None => format!("replica {id} is down"),
             Some(standing) => format!(
-                "replica {id} is {:?} in view {} with {} charges, {} committed",
-                standing.status, standing.view, standing.op_number, standing.commit_number
+                "replica {id} is {:?} in view {} with {}, {} committed",
+                standing.status,
+                standing.view,
+                charges(standing.op_number),
+                standing.commit_number
             ),
         }
     }
@@ -97,8 +101,9 @@ impl<L: Library> Day<'_, L> {
         if before.recovering() && after.normal() {
             self.counts.recoveries += 1;
             self.say(format!(
-                "replica {id} has recovered in view {view}: {} charges, {} committed",
-                after.op_number, after.commit_number
+                "replica {id} has recovered in view {view}: {}, {} committed",
+                charges(after.op_number),
+                after.commit_number
             ));
         }
         if after.commit_number > self.committed {
@@ -137,8 +142,9 @@ impl<L: Library> Day<'_, L> {
             ""
         };
         self.say(format!(
-            "replica {id} crashes{leads}: {} charges, {} committed, all forgotten",
-            standings[id].op_number, standings[id].commit_number
+            "replica {id} crashes{leads}: {}, {} committed, all forgotten",
+            charges(standings[id].op_number),
+            standings[id].commit_number
         ));
     }
 

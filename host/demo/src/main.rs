@@ -11,6 +11,7 @@ mod ours;
 mod teller;
 #[cfg(feature = "vsr-rs")]
 mod theirs;
+mod words;
 
 use clubs::{money, List, CLUBS};
 use day::{Counts, Evening};
@@ -22,6 +23,7 @@ use std::process::ExitCode;
 use teller::Teller;
 use whitherhaul::Operation;
 use wire::random::Random;
+use words::{charges, count};
 
 /// The most lines that are printed of what isn't as it has to be.
 const MOST_WRONG: usize = 12;
@@ -85,12 +87,17 @@ fn beside(_: &Options, _: &List) -> Option<(Ledgers, Counts)> {
 fn opening(options: &Options, list: &List) {
     let refunds = list.charges.iter();
     let refunds = refunds.filter(|c| c.operation == Operation::Refund).count();
+    let of_them = match (options.requests, refunds) {
+        (1, _) => String::new(),
+        (_, 1) => String::from(" (1 of them a refund)"),
+        _ => format!(" ({refunds} of them refunds)"),
+    };
     println!(
-        "A renewal day: {} charges ({refunds} of them refunds) of {} members in {} clubs, {} desks, 3 replicas.",
-        options.requests,
+        "A renewal day: {}{of_them} of {} members in {} clubs, {}, 3 replicas.",
+        charges(options.requests),
         list.members,
         CLUBS.len(),
-        options.desks
+        count(options.desks, "desk", "desks")
     );
     println!(
         "The network loses {} %, repeats {REPEATED} % and reorders; machines crash and come back. Seed {}.\n",
@@ -130,26 +137,28 @@ fn table(list: &List, ours: &Ledgers, theirs: Option<&Ledgers>) {
 
 fn counted(counts: &Counts) {
     println!(
-        "{} steps: {} sent, of these {} lost and {} repeated; {} charges sent again by desks, {} new views, {} crashes, {} recoveries, {} calls refused.",
-        counts.steps,
+        "{}: {} sent, of these {} lost and {} repeated; {} sent again by desks, {}, {}, {}, {} refused.",
+        count(counts.steps, "step", "steps"),
         counts.traffic.sent,
         counts.traffic.lost,
         counts.traffic.repeated,
-        counts.resent,
-        counts.views,
-        counts.crashes,
-        counts.recoveries,
-        counts.refused
+        charges(counts.resent),
+        count(counts.views, "new view", "new views"),
+        count(counts.crashes, "crash", "crashes"),
+        count(counts.recoveries, "recovery", "recoveries"),
+        count(counts.refused, "call", "calls")
     );
 }
 
 /// Says whether a library's three ledgers are as they have to be.
 fn verdict(options: &Options, name: &str, ledgers: &Ledgers) -> bool {
     if ledgers.wrong.is_empty() {
-        println!(
-            "{name}: {} charges, each applied exactly once on all three ledgers, in one order; totals as the list adds up.",
-            options.requests
-        );
+        let applied = match options.requests {
+            1 => "applied exactly once on all three ledgers",
+            _ => "each applied exactly once on all three ledgers, in one order",
+        };
+        let charges = charges(options.requests);
+        println!("{name}: {charges}, {applied}; totals as the list adds up.");
         return true;
     }
     println!("{name}: NOT as it has to be:");

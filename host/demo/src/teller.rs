@@ -2,6 +2,7 @@
 
 use crate::clubs::{club_of, money, name_of, Charge, CLUBS};
 use crate::day::Counts;
+use crate::words::charges;
 use whitherhaul::Operation;
 
 /// How many lines of views, crashes and recoveries are shown, and how many of charges that are sent again.
@@ -62,7 +63,8 @@ impl Teller {
     /// How far the day is.
     pub fn progress(&self, counts: &Counts, committed: u64, requests: u64) {
         let line = format!(
-            "{committed} of {requests} charges committed; {} sent again so far",
+            "{committed} of {} committed; {} sent again so far",
+            charges(requests),
             counts.resent
         );
         self.line(counts, &line);
