@@ -144,13 +144,15 @@ impl<'a, L: Library> Day<'a, L> {
         if self.counts.steps % LONG == LONG - 1 {
             self.progress();
         }
+        self.teller
+            .alive(&self.counts, self.committed, self.options.requests);
     }
 
     pub fn send(&mut self, parcel: Parcel<L::Message>) {
         self.network.send(self.counts.steps, parcel);
     }
 
-    pub fn progress(&self) {
+    pub fn progress(&mut self) {
         self.teller
             .progress(&self.counts, self.committed, self.options.requests);
     }

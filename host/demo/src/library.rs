@@ -32,6 +32,7 @@ impl Standing {
 
 /// A library: replicas, and the desks' side of it.
 pub trait Library {
+    const NAME: &'static str;
     type Message: Clone;
     type Replica;
     type Desk;

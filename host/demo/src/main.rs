@@ -70,7 +70,7 @@ fn day(options: &Options) -> ExitCode {
 
 /// Plays the day through a library and looks at its ledgers.
 fn played<L: Library>(options: &Options, list: &List, speaks: bool) -> (Ledgers, Counts) {
-    let evening: Evening<L> = day::play(options, list, Teller::new(speaks));
+    let evening: Evening<L> = day::play(options, list, Teller::new(L::NAME, speaks));
     (ledgers::look(list, &evening), evening.counts)
 }
 

@@ -27,6 +27,7 @@ fn answer(sent: Result<Sent<'_>, Refusal>) -> Answer<Vec<u8>> {
 }
 
 impl Library for Whitherhaul {
+    const NAME: &'static str = "Whitherhaul";
     type Message = Vec<u8>;
     type Replica = Replica;
     type Desk = Client;

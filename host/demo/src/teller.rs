@@ -3,25 +3,32 @@
 use crate::clubs::{club_of, money, name_of, Charge, CLUBS};
 use crate::day::Counts;
 use crate::words::charges;
+use std::time::{Duration, Instant};
 use whitherhaul::Operation;
 
 /// How many lines of views, crashes and recoveries are shown, and how many of charges that are sent again.
 const LINES: u64 = 60;
 const RESENT: u64 = 6;
+/// After so long without a line there is a sign of life.
+const SILENCE: Duration = Duration::from_secs(2);
 
-/// A teller, or one that says nothing.
+/// A teller, or one that gives only signs of life.
 pub struct Teller {
+    library: &'static str,
     lines: u64,
     resent: u64,
     speaks: bool,
+    spoke: Instant,
 }
 
 impl Teller {
-    pub fn new(speaks: bool) -> Teller {
+    pub fn new(library: &'static str, speaks: bool) -> Teller {
         Teller {
+            library,
             lines: LINES,
             resent: RESENT,
             speaks,
+            spoke: Instant::now(),
         }
     }
 
@@ -61,7 +68,7 @@ impl Teller {
     }
 
     /// How far the day is.
-    pub fn progress(&self, counts: &Counts, committed: u64, requests: u64) {
+    pub fn progress(&mut self, counts: &Counts, committed: u64, requests: u64) {
         let line = format!(
             "{committed} of {} committed; {} sent again so far",
             charges(requests),
@@ -70,9 +77,23 @@ impl Teller {
         self.line(counts, &line);
     }
 
-    fn line(&self, counts: &Counts, line: &str) {
+    /// A sign of life in a long silence. It goes to stderr, since what is printed must not depend on the machine's speed.
+    pub fn alive(&mut self, counts: &Counts, committed: u64, requests: u64) {
+        if self.spoke.elapsed() >= SILENCE {
+            self.spoke = Instant::now();
+            eprintln!(
+                "demo: {} is at step {}, {committed} of {} committed",
+                self.library,
+                counts.steps,
+                charges(requests)
+            );
+        }
+    }
+
+    fn line(&mut self, counts: &Counts, line: &str) {
         if self.speaks {
             println!("step {:>6}  {line}", counts.steps);
+            self.spoke = Instant::now();
         }
     }
 }

@@ -46,6 +46,7 @@ fn answer(replica: &mut Replica<Ledger>) -> Answer<Fees> {
 }
 
 impl Library for VsrRs {
+    const NAME: &'static str = "vsr-rs";
     type Message = Fees;
     type Replica = Replica<Ledger>;
     type Desk = Desk;
