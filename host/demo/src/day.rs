@@ -3,10 +3,12 @@
 //! Time goes in steps. Every choice comes from one generator, so a library that sends the same gets the same day.
 
 use crate::clubs::{Charge, List};
+use crate::damage::Damage;
 use crate::library::{Library, Standing};
 use crate::machines::Machine;
 use crate::network::{Network, Traffic};
 use crate::options::Options;
+use crate::tally::Tally;
 use crate::teller::Teller;
 use crate::words::{charges, count};
 use std::collections::BTreeMap;
@@ -20,6 +22,8 @@ const IDLE: u64 = 4;
 const PATIENCE: u64 = 24;
 /// How often a machine crashes, on a list that is long enough.
 const CRASHES: u64 = 4;
+/// Steps without a majority after which the day is given up.
+const FORLORN: u64 = 2_000;
 /// Steps after which it is said how far the day is, also where nothing happens.
 const LONG: u64 = 20_000;
 
@@ -27,6 +31,8 @@ const LONG: u64 = 20_000;
 #[derive(Clone)]
 pub enum Parcel<M> {
     Message(u8, M),
+    /// A damaged copy of a message: for whom, what is wrong with it, what kind it was, and its bytes.
+    Damaged(u8, Damage, &'static str, Vec<u8>),
     Reply(Reply),
 }
 
@@ -59,31 +65,38 @@ pub struct Day<'a, L: Library> {
     desks: Vec<Desk<L>>,
     pub network: Network<Parcel<L::Message>>,
     pub counts: Counts,
+    pub tally: Tally,
+    /// What damage takes from chance, so that the rest of a day is the same without it.
+    pub ill_luck: Random,
     answered: usize,
     wrong: Vec<String>,
     /// At how many committed charges machines crash, the next one last.
     pub crashes: Vec<u64>,
     /// The most that any replica has committed.
     pub committed: u64,
+    /// The last step at which a majority was there.
+    majority: u64,
     pub asked_view: u32,
     pub begun_view: u32,
 }
 
 /// What is left of the day.
 pub struct Evening<L: Library> {
-    pub replicas: Vec<L::Replica>,
+    /// The replicas that run, with their ids.
+    pub replicas: Vec<(usize, L::Replica)>,
     pub counts: Counts,
+    pub tally: Tally,
     /// Which line of the list each charge is, by client and number.
     pub lines: BTreeMap<(u64, u64), usize>,
     /// What wasn't as it has to be, in words.
     pub wrong: Vec<String>,
 }
 
-/// Plays the day to its end, or until a large number of steps is over.
+/// Plays the day to its end, or until a large number of steps is over, or many without a majority.
 pub fn play<L: Library>(options: &Options, list: &List, teller: Teller) -> Evening<L> {
     let mut day = Day::<L>::new(options, list, teller);
     let most = 100_000 + 2_000 * options.requests;
-    while !day.over() && day.counts.steps < most {
+    while !day.over() && !day.forlorn() && day.counts.steps < most {
         day.step();
     }
     if !day.over() {
@@ -105,10 +118,13 @@ impl<'a, L: Library> Day<'a, L> {
             desks: (0..options.desks).map(desk).collect(),
             network: Network::new(random, options.loss as usize),
             counts: Counts::default(),
+            tally: Tally::default(),
+            ill_luck: Random::new(!options.seed),
             answered: 0,
             wrong: Vec::new(),
             crashes,
             committed: 0,
+            majority: 0,
             asked_view: 0,
             begun_view: 0,
         }
@@ -123,11 +139,25 @@ impl<'a, L: Library> Day<'a, L> {
         self.answered == self.list.charges.len() && standings.all(|s| s.is_some_and(settled))
     }
 
+    /// Whether too few replicas have been there for too long. Those that recover need a majority that doesn't.
+    fn forlorn(&self) -> bool {
+        self.counts.steps - self.majority > FORLORN
+    }
+
+    /// Notes whether a majority is there.
+    fn count_heads(&mut self) {
+        let there = |machine: &&Machine<L>| machine.standing().is_some_and(|s| !s.recovering());
+        if 2 * self.machines.iter().filter(there).count() > usize::from(REPLICAS) {
+            self.majority = self.counts.steps;
+        }
+    }
+
     fn step(&mut self) {
         self.counts.steps += 1;
         while let Some(parcel) = self.network.arrived(self.counts.steps) {
             match parcel {
                 Parcel::Message(to, message) => self.call(to, |r| L::on_message(r, &message)),
+                Parcel::Damaged(to, damage, name, frame) => self.arrives(to, damage, name, &frame),
                 Parcel::Reply(reply) => self.answer(&reply),
             }
         }
@@ -141,6 +171,7 @@ impl<'a, L: Library> Day<'a, L> {
         }
         self.come_back();
         self.crash();
+        self.count_heads();
         if self.counts.steps % LONG == LONG - 1 {
             self.progress();
         }
@@ -149,7 +180,12 @@ impl<'a, L: Library> Day<'a, L> {
     }
 
     pub fn send(&mut self, parcel: Parcel<L::Message>) {
-        self.network.send(self.counts.steps, parcel);
+        let now = self.counts.steps;
+        let copy = self.copy_of(&parcel);
+        self.network.send(now, parcel);
+        if let Some(copy) = copy {
+            self.network.send_beside(now, copy, &mut self.ill_luck);
+        }
     }
 
     pub fn progress(&mut self) {
@@ -210,8 +246,14 @@ impl<'a, L: Library> Day<'a, L> {
 
     /// Says what is missing at the end of the steps.
     fn missing(&mut self) {
+        if self.forlorn() {
+            let steps = count(FORLORN, "step", "steps");
+            self.wrong.push(format!(
+                "no majority is left: for {steps} most replicas were down or recovering"
+            ));
+        }
         self.wrong.push(format!(
-            "after {} {} of {} answered",
+            "the day was given up after {}: {} of {} answered",
             count(self.counts.steps, "step", "steps"),
             self.answered,
             charges(self.options.requests)
@@ -226,9 +268,12 @@ impl<'a, L: Library> Day<'a, L> {
                 lines.insert((place as u64 + 1, number as u64), *line);
             }
         }
-        let machines = self.machines.into_iter();
+        let machines = self.machines.into_iter().enumerate();
         Evening {
-            replicas: machines.filter_map(|machine| machine.runs.ok()).collect(),
+            replicas: machines
+                .filter_map(|(id, machine)| Some((id, machine.runs.ok()?)))
+                .collect(),
+            tally: self.tally,
             counts: Counts {
                 traffic: self.network.traffic,
                 ..self.counts

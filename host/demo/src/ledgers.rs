@@ -9,9 +9,9 @@ use whitherhaul::Entry;
 
 /// What the three ledgers come to.
 pub struct Ledgers {
-    /// Takings of each club of `CLUBS`, by replica 0's ledger.
+    /// Takings of each club of `CLUBS`, by the first replica's ledger.
     pub takings: [u64; CLUBS.len()],
-    /// The members' totals, and the applied entries, by replica 0's ledger.
+    /// The members' totals, and the applied entries, by the first replica's ledger.
     pub totals: Vec<u64>,
     pub applied: Vec<Entry>,
     /// What isn't as it has to be.
@@ -29,22 +29,23 @@ pub fn look<L: Library>(list: &List, evening: &Evening<L>) -> Ledgers {
     let ledgers: Vec<_> = evening
         .replicas
         .iter()
-        .map(|replica| {
+        .map(|(id, replica)| {
             let members = 0..list.members;
             let totals: Vec<u64> = members.map(|member| L::total(replica, member)).collect();
-            (L::applied(replica), totals)
+            (*id, L::applied(replica), totals)
         })
         .collect();
-    for (id, (applied, totals)) in ledgers.iter().enumerate() {
-        once(list, &evening.lines, id, applied, &mut wrong);
-        added(list, id, totals, &mut wrong);
-        if *applied != ledgers[0].0 {
+    for (id, applied, totals) in &ledgers {
+        once(list, &evening.lines, *id, applied, &mut wrong);
+        added(list, *id, totals, &mut wrong);
+        let (first, of_first, _) = &ledgers[0];
+        if applied != of_first {
             wrong.push(format!(
-                "replica {id} applied in another order than replica 0"
+                "replica {id} applied in another order than replica {first}"
             ));
         }
     }
-    let (applied, totals) = ledgers.into_iter().next().unwrap_or_default();
+    let (_, applied, totals) = ledgers.into_iter().next().unwrap_or_default();
     Ledgers {
         takings: takings(&totals),
         totals,

@@ -1,6 +1,7 @@
 //! What the day asks of a library that replicates, so that the same day can be played through two of them.
 
 use crate::clubs::Charge;
+use crate::damage::Taken;
 use whitherhaul::{Entry, Reply, Setup, Status};
 
 /// What a call wants sent, each message with its addressee; or why it was refused.
@@ -11,7 +12,7 @@ pub struct Answer<M> {
 }
 
 /// How a replica stands.
-#[derive(Clone, Copy)]
+#[derive(Clone, Copy, PartialEq, Eq)]
 pub struct Standing {
     pub status: Status,
     pub view: u32,
@@ -44,6 +45,10 @@ pub trait Library {
         -> (Self::Replica, Vec<(u8, Self::Message)>);
     fn on_message(replica: &mut Self::Replica, message: &Self::Message) -> Answer<Self::Message>;
     fn on_idle(replica: &mut Self::Replica) -> Answer<Self::Message>;
+    /// A message as document 01's frame.
+    fn frame(to: u8, message: &Self::Message) -> Vec<u8>;
+    /// A frame that may be damaged.
+    fn on_frame(replica: &mut Self::Replica, frame: &[u8]) -> Taken<Self::Message>;
     fn standing(replica: &Self::Replica) -> Standing;
     /// The entries that were applied, in order.
     fn applied(replica: &Self::Replica) -> Vec<Entry>;

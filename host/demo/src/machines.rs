@@ -1,8 +1,10 @@
 //! The machines of the ledger: calls of their replicas, crashes, and coming back.
 
 use crate::clubs::List;
+use crate::damage::Damage;
 use crate::day::{Day, Parcel, REPLICAS};
 use crate::library::{Answer, Library, Standing};
+use crate::stops;
 use crate::words::charges;
 use whitherhaul::Setup;
 
@@ -55,17 +57,28 @@ impl<L: Library> Machine<L> {
 }
 
 impl<L: Library> Day<'_, L> {
-    /// A call of a replica, if it runs. Its view is kept before anything of the answer goes out.
+    /// A replica, if there is one with this id and it runs.
+    pub fn running(&mut self, id: u8) -> Option<&mut L::Replica> {
+        let machine = self.machines.get_mut(usize::from(id))?;
+        machine.runs.as_mut().ok()
+    }
+
+    /// A call of a replica, if it runs.
     pub fn call(&mut self, id: u8, call: impl FnOnce(&mut L::Replica) -> Answer<L::Message>) {
-        let Some(machine) = self.machines.get_mut(usize::from(id)) else {
-            return;
-        };
-        let Ok(replica) = &mut machine.runs else {
+        let Some(replica) = self.running(id) else {
             return;
         };
         let before = L::standing(replica);
-        let answer = call(replica);
-        let after = L::standing(replica);
+        match stops::caught(|| call(replica)) {
+            Ok(answer) => self.give(id, before, answer),
+            Err(why) => self.stop(id, None, &why),
+        }
+    }
+
+    /// What a call of a running replica gave goes out, and before that its view is kept.
+    pub fn give(&mut self, id: u8, before: Standing, answer: Answer<L::Message>) {
+        let machine = &mut self.machines[usize::from(id)];
+        let after = machine.standing().expect("a replica that runs");
         machine.view = after.view;
         self.tell(id, before, after);
         if let Some(refused) = answer.refused {
@@ -133,8 +146,7 @@ impl<L: Library> Day<'_, L> {
             Some(leader) if self.counts.crashes % 2 != 1 => leader,
             _ => some,
         };
-        let back = self.counts.steps + 30 + self.network.random.below(60) as u64;
-        self.machines[id].runs = Err(back);
+        self.down(id);
         self.counts.crashes += 1;
         let leads = if standings[id].leads {
             ", the leader"
@@ -148,6 +160,22 @@ impl<L: Library> Day<'_, L> {
         ));
     }
 
+    /// A replica's library panicked, at a damaged frame or later, so that its machine stops.
+    pub fn stop(&mut self, id: u8, damage: Option<Damage>, why: &str) {
+        self.tally.stopped(damage, why);
+        if damage.is_none() && self.tally.later == 1 {
+            let line = format!("replica {id} stops at what isn't damaged: {why}");
+            self.teller.damage(&self.counts, &line);
+        }
+        self.down(usize::from(id));
+    }
+
+    /// A machine forgets all, and is back some steps later.
+    fn down(&mut self, id: usize) {
+        let back = self.counts.steps + 30 + self.network.random.below(60) as u64;
+        self.machines[id].runs = Err(back);
+    }
+
     /// A machine whose time has come is back with its view and a nonce that was never used, and recovers.
     pub fn come_back(&mut self) {
         for id in 0..self.machines.len() {
@@ -156,7 +184,8 @@ impl<L: Library> Day<'_, L> {
                 continue;
             }
             let view = machine.view;
-            let (replica, letters) = L::recovered(&machine.setup, view, self.counts.crashes);
+            let nonce = self.counts.crashes + self.tally.stops();
+            let (replica, letters) = L::recovered(&machine.setup, view, nonce);
             machine.runs = Ok(replica);
             self.say(format!(
                 "replica {id} is back with nothing but view {view} and asks the others"

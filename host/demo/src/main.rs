@@ -1,6 +1,8 @@
 //! A renewal day, for people: three replicas, some desks, a bad network, crashes, and every charge taken exactly once.
 
+mod arrivals;
 mod clubs;
+mod damage;
 mod day;
 mod ledgers;
 mod library;
@@ -8,7 +10,12 @@ mod machines;
 mod network;
 mod options;
 mod ours;
+mod picture;
+mod stops;
+mod tally;
 mod teller;
+#[cfg(test)]
+mod tests;
 #[cfg(feature = "vsr-rs")]
 mod theirs;
 mod words;
@@ -20,6 +27,7 @@ use library::Library;
 use network::REPEATED;
 use options::{Asked, Options};
 use std::process::ExitCode;
+use tally::Tally;
 use teller::Teller;
 use whitherhaul::Operation;
 use wire::random::Random;
@@ -42,21 +50,35 @@ fn main() -> ExitCode {
     }
 }
 
+/// A library's day: its ledgers, what was counted, and what damage did.
+struct Played {
+    name: &'static str,
+    ledgers: Ledgers,
+    counts: Counts,
+    tally: Tally,
+}
+
 /// One day through both libraries.
 fn day(options: &Options) -> ExitCode {
+    stops::silence();
     let list = List::new(options.requests, &mut Random::new(options.seed));
     opening(options, &list);
-    let (ours, counts) = played::<ours::Whitherhaul>(options, &list, true);
+    let mut ours = played::<ours::Whitherhaul>(options, &list, true);
+    ours.ledgers.wrong.extend(ours.tally.wrong());
     println!();
     let theirs = beside(options, &list);
-    table(&list, &ours, theirs.as_ref().map(|(ledgers, _)| ledgers));
+    table(&list, &ours.ledgers, theirs.as_ref().map(|t| &t.ledgers));
     println!();
-    counted(&counts);
-    let mut good = verdict(options, "Whitherhaul", &ours);
+    if options.damage > 0 {
+        let lines = picture::lines(&ours.tally, theirs.as_ref().map(|t| &t.tally));
+        println!("{}\n", lines.join("\n"));
+    }
+    counted(&ours.counts);
+    let mut good = verdict(options, &ours);
     match &theirs {
-        Some((theirs, their_counts)) => {
-            good &= verdict(options, "vsr-rs", theirs);
-            good &= compared(&ours, theirs, counts == *their_counts);
+        Some(theirs) => {
+            let theirs_good = verdict(options, theirs) & compared(&ours, theirs);
+            good &= theirs_good || options.damage > 0;
         }
         None => {
             println!("vsr-rs: not played beside it, since this demo was built without ../shared")
@@ -69,18 +91,32 @@ fn day(options: &Options) -> ExitCode {
 }
 
 /// Plays the day through a library and looks at its ledgers.
-fn played<L: Library>(options: &Options, list: &List, speaks: bool) -> (Ledgers, Counts) {
+fn played<L: Library>(options: &Options, list: &List, speaks: bool) -> Played {
     let evening: Evening<L> = day::play(options, list, Teller::new(L::NAME, speaks));
-    (ledgers::look(list, &evening), evening.counts)
+    Played {
+        name: L::NAME,
+        ledgers: ledgers::look(list, &evening),
+        counts: evening.counts,
+        tally: evening.tally,
+    }
 }
 
 #[cfg(feature = "vsr-rs")]
-fn beside(options: &Options, list: &List) -> Option<(Ledgers, Counts)> {
-    Some(played::<theirs::VsrRs>(options, list, false))
+fn beside(options: &Options, list: &List) -> Option<Played> {
+    if options.damage > 0 {
+        println!("The same list through vsr-rs, of which only the damage is told:\n");
+    }
+    let mut theirs = played::<theirs::VsrRs>(options, list, false);
+    if options.damage > 0 {
+        println!();
+    } else {
+        theirs.ledgers.wrong.extend(theirs.tally.wrong());
+    }
+    Some(theirs)
 }
 
 #[cfg(not(feature = "vsr-rs"))]
-fn beside(_: &Options, _: &List) -> Option<(Ledgers, Counts)> {
+fn beside(_: &Options, _: &List) -> Option<Played> {
     None
 }
 
@@ -100,9 +136,16 @@ fn opening(options: &Options, list: &List) {
         count(options.desks, "desk", "desks")
     );
     println!(
-        "The network loses {} %, repeats {REPEATED} % and reorders; machines crash and come back. Seed {}.\n",
+        "The network loses {} %, repeats {REPEATED} % and reorders; machines crash and come back. Seed {}.",
         options.loss, options.seed
     );
+    if options.damage > 0 {
+        println!(
+            "Of each hundred frames {} also arrive as a damaged copy.",
+            options.damage
+        );
+    }
+    println!();
 }
 
 /// Each club's takings: by the list, by our ledgers and by those of vsr-rs.
@@ -151,7 +194,19 @@ fn counted(counts: &Counts) {
 }
 
 /// Says whether a library's three ledgers are as they have to be.
-fn verdict(options: &Options, name: &str, ledgers: &Ledgers) -> bool {
+fn verdict(options: &Options, played: &Played) -> bool {
+    let Played { name, ledgers, .. } = played;
+    if options.damage > 0 {
+        println!(
+            "{name}: {} arrived{}; machines stopped {}.",
+            count(played.tally.arrived(), "damaged frame", "damaged frames"),
+            match played.tally.wrong().is_empty() {
+                true => ", all refused without a change",
+                false => "",
+            },
+            count(played.tally.stops(), "time", "times")
+        );
+    }
     if ledgers.wrong.is_empty() {
         let applied = match options.requests {
             1 => "applied exactly once on all three ledgers",
@@ -171,15 +226,20 @@ fn verdict(options: &Options, name: &str, ledgers: &Ledgers) -> bool {
     false
 }
 
-/// Says whether the two libraries have the same ledger.
-fn compared(ours: &Ledgers, theirs: &Ledgers, same_day: bool) -> bool {
-    let agree = ours.totals == theirs.totals && ours.applied == theirs.applied;
-    match (agree, same_day) {
-        (true, true) => {
-            println!("Both ledgers agree, entry by entry, and both days had the same steps.")
+/// Says whether the two libraries have the same ledger. Where damage made the days differ, the order may be another.
+fn compared(ours: &Played, theirs: &Played) -> bool {
+    let same_day = ours.counts == theirs.counts;
+    let same_totals = ours.ledgers.totals == theirs.ledgers.totals;
+    let agree = same_totals && ours.ledgers.applied == theirs.ledgers.applied;
+    println!(
+        "{}",
+        match (agree, same_day) {
+            (true, true) => "Both ledgers agree, entry by entry, and both days had the same steps.",
+            (true, false) => "Both ledgers agree, entry by entry.",
+            (false, false) if same_totals && theirs.ledgers.wrong.is_empty() =>
+                "Both ledgers agree in every total; the days differed, and so does the order of entries.",
+            (false, _) => "The ledgers of Whitherhaul and vsr-rs DIFFER.",
         }
-        (true, false) => println!("Both ledgers agree, entry by entry."),
-        (false, _) => println!("The ledgers of Whitherhaul and vsr-rs DIFFER."),
-    }
+    );
     agree
 }

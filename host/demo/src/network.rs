@@ -44,15 +44,27 @@ impl<P: Clone> Network<P> {
         }
         if self.random.chance(REPEATED) {
             self.traffic.repeated += 1;
-            self.put(now, 0, parcel.clone());
+            let due = self.due(now);
+            self.put(due, 0, parcel.clone());
         }
-        self.put(now, 1, parcel);
+        let due = self.due(now);
+        self.put(due, 1, parcel);
     }
 
-    /// `copy` parts the two of a parcel that arrives twice.
-    fn put(&mut self, now: u64, copy: u64, parcel: P) {
-        let due = now + 1 + self.random.below(SLOWEST) as u64;
-        let place = 2 * self.traffic.sent + copy;
+    /// Sends one more parcel beside the last one. Its chance is the caller's, so that all others arrive as they would without it.
+    pub fn send_beside(&mut self, now: u64, parcel: P, chance: &mut Random) {
+        let due = now + 1 + chance.below(SLOWEST) as u64;
+        self.put(due, 2, parcel);
+    }
+
+    /// A step at which something that is sent now arrives.
+    fn due(&mut self, now: u64) -> u64 {
+        now + 1 + self.random.below(SLOWEST) as u64
+    }
+
+    /// `copy` parts what goes out at one sending.
+    fn put(&mut self, due: u64, copy: u64, parcel: P) {
+        let place = 3 * self.traffic.sent + copy;
         self.under_way.insert((due, place), parcel);
     }
 

@@ -4,17 +4,19 @@
 pub const MOST_REQUESTS: u64 = 4_096;
 
 pub const HELP: &str = "\
-usage: demo [--seed N] [--loss PERCENT] [--desks N] [--requests N]
+usage: demo [--seed N] [--loss PERCENT] [--desks N] [--requests N] [--damage PERCENT]
 
 Three replicas keep one ledger of club fees, while the network between them and the desks loses, repeats and
 reorders what is sent and machines crash and come back. At the end every charge has to be in all three ledgers
 exactly once; if one isn't, the exit code is 1.
 
-  --seed N         another day of the network (default 1); the same seed gives the same day
-  --loss PERCENT   how much of what is sent is lost, 0 to 99 (default 10)
-  --desks N        desks that send charges, 1 to 4,096 (default 6)
-  --requests N     charges on the renewal list, 1 to 4,096 (default 300)
-  --help           this text";
+  --seed N           another day of the network (default 1); the same seed gives the same day
+  --loss PERCENT     how much of what is sent is lost, 0 to 99 (default 10)
+  --desks N          desks that send charges, 1 to 4,096 (default 6)
+  --requests N       charges on the renewal list, 1 to 4,096 (default 300)
+  --damage PERCENT   how many of each hundred frames also arrive as a damaged copy, 0 to 99 (default 0); what each
+                     library does with them is shown, and the exit code is about Whitherhaul alone
+  --help             this text";
 
 /// A day's choices.
 #[derive(Clone, Debug)]
@@ -23,6 +25,7 @@ pub struct Options {
     pub loss: u64,
     pub desks: u64,
     pub requests: u64,
+    pub damage: u64,
 }
 
 /// What to do.
@@ -38,6 +41,7 @@ pub fn read(mut words: impl Iterator<Item = String>) -> Result<Asked, String> {
         loss: 10,
         desks: 6,
         requests: 300,
+        damage: 0,
     };
     while let Some(word) = words.next() {
         let (place, least, most) = match word.as_str() {
@@ -46,6 +50,7 @@ pub fn read(mut words: impl Iterator<Item = String>) -> Result<Asked, String> {
             "--loss" => (&mut options.loss, 0, 99),
             "--desks" => (&mut options.desks, 1, 4_096),
             "--requests" => (&mut options.requests, 1, MOST_REQUESTS),
+            "--damage" => (&mut options.damage, 0, 99),
             _ => return Err(format!("{word} is no option; --help lists them")),
         };
         *place = number(&word, words.next(), least, most)?;
@@ -72,4 +77,53 @@ fn number(option: &str, word: Option<String>, least: u64, most: u64) -> Result<u
         ));
     }
     Ok(number)
+}
+
+#[cfg(test)]
+mod tests {
+    use super::*;
+
+    fn asked(line: &str) -> Result<Options, String> {
+        match read(line.split_whitespace().map(String::from))? {
+            Asked::Day(options) => Ok(options),
+            Asked::Help => Err(String::from("help")),
+        }
+    }
+
+    #[test]
+    fn every_option_has_its_place() {
+        let line = "--seed 2 --loss 3 --desks 4 --requests 5 --damage 6";
+        let Options {
+            seed,
+            loss,
+            desks,
+            requests,
+            damage,
+        } = asked(line).expect("a day");
+        assert_eq!((seed, loss, desks, requests, damage), (2, 3, 4, 5, 6));
+        assert_eq!(asked("").expect("a day").damage, 0);
+        assert_eq!(asked("--damage 99").expect("a day").damage, 99);
+    }
+
+    #[test]
+    fn what_is_wrong_is_said() {
+        let said = [
+            ("--damage", "--damage needs a number behind it"),
+            ("--damage x", "--damage needs a number, and x is none"),
+            ("--damage 100", "--damage 100 is too many: 99 at most"),
+            ("--desks 0", "--desks 0 is too few: 1 at least"),
+            ("--harm 1", "--harm is no option; --help lists them"),
+            ("--help --harm", "help"),
+        ];
+        for (line, why) in said {
+            assert_eq!(asked(line).err().as_deref(), Some(why));
+        }
+    }
+
+    #[test]
+    fn help_names_every_option() {
+        for option in ["seed", "loss", "desks", "requests", "damage", "help"] {
+            assert!(HELP.contains(&format!("\n  --{option} ")), "{option}");
+        }
+    }
 }

@@ -1,6 +1,7 @@
 //! Whitherhaul: messages are frames.
 
 use crate::clubs::Charge;
+use crate::damage::Taken;
 use crate::library::{Answer, Library, Standing};
 use whitherhaul::{Client, Entry, Refusal, Replica, Reply, Sent, Setup};
 
@@ -48,6 +49,20 @@ impl Library for Whitherhaul {
 
     fn on_idle(replica: &mut Replica) -> Answer<Vec<u8>> {
         answer(replica.on_idle())
+    }
+
+    fn frame(_: u8, message: &Vec<u8>) -> Vec<u8> {
+        message.clone()
+    }
+
+    fn on_frame(replica: &mut Replica, frame: &[u8]) -> Taken<Vec<u8>> {
+        let before = replica.parts().clone();
+        let why = match replica.on_message(frame) {
+            Ok(sent) => return Taken::Done(answer(Ok(sent))),
+            Err(why) => why,
+        };
+        let unchanged = *replica.parts() == before;
+        Taken::Refused { why, unchanged }
     }
 
     fn standing(replica: &Replica) -> Standing {

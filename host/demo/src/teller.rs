@@ -12,7 +12,7 @@ const RESENT: u64 = 6;
 /// After so long without a line there is a sign of life.
 const SILENCE: Duration = Duration::from_secs(2);
 
-/// A teller, or one that gives only signs of life.
+/// A teller, or one that tells only of damage.
 pub struct Teller {
     library: &'static str,
     lines: u64,
@@ -67,6 +67,11 @@ impl Teller {
         self.line(counts, &line);
     }
 
+    /// What a damaged frame did. There are few such lines, and they are also told of a day of which else nothing is.
+    pub fn damage(&mut self, counts: &Counts, line: &str) {
+        self.print(counts, line);
+    }
+
     /// How far the day is.
     pub fn progress(&mut self, counts: &Counts, committed: u64, requests: u64) {
         let line = format!(
@@ -92,8 +97,12 @@ impl Teller {
 
     fn line(&mut self, counts: &Counts, line: &str) {
         if self.speaks {
-            println!("step {:>6}  {line}", counts.steps);
-            self.spoke = Instant::now();
+            self.print(counts, line);
         }
+    }
+
+    fn print(&mut self, counts: &Counts, line: &str) {
+        println!("step {:>6}  {line}", counts.steps);
+        self.spoke = Instant::now();
     }
 }

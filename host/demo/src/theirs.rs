@@ -1,11 +1,12 @@
 //! vsr-rs, unchanged, with document 01's fee rules: messages are structs.
 
 use crate::clubs::Charge;
+use crate::damage::Taken;
 use crate::library::{Answer, Library, Standing};
 use vsr_rs::{Client, Config, Replica};
 use whitherhaul::{Entry, Operation, Outcome, Reply, Setup, Status};
 use wire::fees::{self, Ledger};
-use wire::frames::Fees;
+use wire::frames::{self, Fees};
 
 pub struct VsrRs;
 
@@ -73,6 +74,18 @@ impl Library for VsrRs {
     fn on_idle(replica: &mut Replica<Ledger>) -> Answer<Fees> {
         replica.on_idle();
         answer(replica)
+    }
+
+    fn frame(to: u8, message: &Fees) -> Vec<u8> {
+        frames::frame(to.into(), message)
+    }
+
+    /// vsr-rs knows no frames, so its owner has a reader; what that can read is the library's to judge.
+    fn on_frame(replica: &mut Replica<Ledger>, frame: &[u8]) -> Taken<Fees> {
+        match frames::read(frame) {
+            Some(message) => Taken::Done(Self::on_message(replica, &message)),
+            None => Taken::Dropped,
+        }
     }
 
     fn standing(replica: &Replica<Ledger>) -> Standing {
