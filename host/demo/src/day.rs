@@ -7,10 +7,10 @@ use crate::damage::Damage;
 use crate::library::{Library, Standing};
 use crate::machines::Machine;
 use crate::network::{Network, Traffic};
-use crate::options::Options;
 use crate::tally::Tally;
 use crate::teller::Teller;
 use crate::words::{charges, count};
+use demo_options::Options;
 use std::collections::BTreeMap;
 use whitherhaul::{Operation, Outcome, Reply};
 use wire::random::Random;
@@ -284,9 +284,14 @@ impl<'a, L: Library> Day<'a, L> {
     }
 }
 
+/// How often a machine crashes on a list of so many charges.
+pub fn crashes_of(requests: u64) -> u64 {
+    CRASHES.min(requests / 10)
+}
+
 /// At how many committed charges machines crash, the first one last.
 fn crashes(requests: u64, random: &mut Random) -> Vec<u64> {
-    let crashes = CRASHES.min(requests / 10);
+    let crashes = crashes_of(requests);
     let apart = requests / (crashes + 1);
     let within = (apart.max(2) / 2) as usize;
     let at = (1..=crashes).map(|k| k * apart + random.below(within) as u64);

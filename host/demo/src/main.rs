@@ -8,7 +8,6 @@ mod ledgers;
 mod library;
 mod machines;
 mod network;
-mod options;
 mod ours;
 mod picture;
 mod stops;
@@ -22,10 +21,10 @@ mod words;
 
 use clubs::{money, List, CLUBS};
 use day::{Counts, Evening};
+use demo_options::{Asked, Options};
 use ledgers::Ledgers;
 use library::Library;
 use network::REPEATED;
-use options::{Asked, Options};
 use std::process::ExitCode;
 use tally::Tally;
 use teller::Teller;
@@ -37,9 +36,9 @@ use words::{charges, count};
 const MOST_WRONG: usize = 12;
 
 fn main() -> ExitCode {
-    match options::read(std::env::args().skip(1)) {
+    match demo_options::read(std::env::args().skip(1)) {
         Ok(Asked::Help) => {
-            println!("{}", options::HELP);
+            println!("{}", demo_options::HELP);
             ExitCode::SUCCESS
         }
         Ok(Asked::Day(options)) => day(&options),
@@ -136,8 +135,13 @@ fn opening(options: &Options, list: &List) {
         count(options.desks, "desk", "desks")
     );
     println!(
-        "The network loses {} %, repeats {REPEATED} % and reorders; machines crash and come back. Seed {}.",
-        options.loss, options.seed
+        "The network loses {} %, repeats {REPEATED} % and reorders; {}. Seed {}.",
+        options.loss,
+        match day::crashes_of(options.requests) {
+            0 => "no machine crashes on so short a list",
+            _ => "machines crash and come back",
+        },
+        options.seed
     );
     if options.damage > 0 {
         println!(

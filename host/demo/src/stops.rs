@@ -9,10 +9,17 @@ thread_local! {
     static CAUGHT: Cell<bool> = const { Cell::new(false) };
 }
 
-/// From here on a panic that is caught by `caught` prints nothing; any other one prints what it would have printed.
+/// The status of a program whose reader went away, as a shell counts it.
+const READER_GONE: i32 = 141;
+
+/// From here on a panic that is caught by `caught` prints nothing, and where nobody reads what is printed any more (`./demo |
+/// head`) the program ends without a word; any other panic prints what it would have printed.
 pub fn silence() {
     let print = panic::take_hook();
     panic::set_hook(Box::new(move |panic| {
+        if first_line(panic.payload()).starts_with("failed printing to stdout") {
+            std::process::exit(READER_GONE);
+        }
         if !CAUGHT.get() {
             print(panic);
         }

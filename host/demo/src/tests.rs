@@ -4,9 +4,9 @@ use crate::clubs::List;
 use crate::day::{play, Evening};
 use crate::ledgers::look;
 use crate::library::Library;
-use crate::options::Options;
 use crate::ours::Whitherhaul;
 use crate::teller::Teller;
+use demo_options::Options;
 use wire::random::Random;
 
 fn evening<L: Library>(seed: u64, damage: u64) -> (Evening<L>, Vec<String>) {

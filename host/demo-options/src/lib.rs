@@ -1,8 +1,9 @@
-//! What the command line asks for.
+//! What the demo's command line asks for.
 
 /// The room of a log, and so the most charges of a day.
 pub const MOST_REQUESTS: u64 = 4_096;
 
+/// What --help prints.
 pub const HELP: &str = "\
 usage: demo [--seed N] [--loss PERCENT] [--desks N] [--requests N] [--damage PERCENT]
 
