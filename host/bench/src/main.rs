@@ -4,10 +4,12 @@
 //! counts. After each round the sides must stand alike, or the figures would compare unlike things.
 
 mod cases;
+mod cluster;
 mod sides;
 mod stopwatch;
 
-use cases::{Case, Cluster, Round, CASES};
+use cases::{Case, CASES};
+use cluster::{Cluster, Round};
 use sides::{AsItIs, Framed, Ours};
 use std::process::ExitCode;
 use std::time::Duration;
@@ -92,9 +94,9 @@ fn read(mut words: impl Iterator<Item = String>) -> Result<Option<Options>, Stri
 
 /// All rounds of a case, the sides in turn, and a line with the medians and ratios.
 fn compared(name: &str, case: Case, rounds: usize) {
-    let mut ours = Cluster::<Ours>::new();
-    let mut as_it_is = Cluster::<AsItIs>::new();
-    let mut framed = Cluster::<Framed>::new();
+    let mut ours = Cluster::<Ours>::new(3);
+    let mut as_it_is = Cluster::<AsItIs>::new(3);
+    let mut framed = Cluster::<Framed>::new(3);
     let mut played: [Vec<Round>; 3] = Default::default();
     for _ in 0..rounds {
         let round = [ours.round(case), as_it_is.round(case), framed.round(case)];
@@ -122,7 +124,7 @@ fn line([name, ours, as_it_is, ratio, framed, framed_ratio]: [&str; 6]) {
 
 /// All rounds of a case through one side.
 fn alone<S: sides::Side>(name: &str, case: Case, rounds: usize) {
-    let mut cluster = Cluster::<S>::new();
+    let mut cluster = Cluster::<S>::new(3);
     let rounds: Vec<Round> = (0..rounds).map(|_| cluster.round(case)).collect();
     println!("{name:<36}{:>12}", shown(each(&rounds)));
 }

@@ -6,14 +6,14 @@ use whitherhaul::{addressee, raw, Frames, Setup};
 use wire::fees::{Charge, Outcome, Totals};
 use wire::frames::{read, write_frame, write_reply};
 
-/// How all replicas are made: 3 of them, with the most room and the most members that there are.
+/// How all replicas are made: with the most room and the most members that there are.
 pub const ROOM: u32 = 4_096;
 pub const MEMBERS: u32 = 4_096;
 
-/// The setup of a replica.
-fn setup(id: u8) -> Setup {
+/// The setup of a replica, one of so many.
+pub fn setup(replicas: u8, id: u8) -> Setup {
     Setup {
-        replicas: 3,
+        replicas: replicas.into(),
         id: id.into(),
         timeout: 3,
         room: ROOM,
@@ -30,11 +30,11 @@ pub trait Side {
     type Wire: Default;
 
     /// A new replica.
-    fn new(id: u8) -> Self::Replica;
+    fn new(setup: &Setup) -> Self::Replica;
     /// The same replica, started anew in the memory that it has.
-    fn renew(replica: &mut Self::Replica, id: u8);
+    fn renew(replica: &mut Self::Replica, setup: &Setup);
     /// The same, back from a crash in view 0; what it asks goes to the wire.
-    fn recover(replica: &mut Self::Replica, id: u8, nonce: u64, wire: &mut Self::Wire);
+    fn recover(replica: &mut Self::Replica, setup: &Setup, nonce: u64, wire: &mut Self::Wire);
     /// These frames, as this side's messages.
     fn load(wire: &mut Self::Wire, frames: &[u8]);
     /// Delivers all that is on the wire; what comes of it is on `next`, which is cleared first.
@@ -60,20 +60,21 @@ impl Side for Ours {
     type Replica = whitherhaul::Replica;
     type Wire = Bytes;
 
-    fn new(id: u8) -> Self::Replica {
-        whitherhaul::Replica::new(&setup(id)).expect("a setup inside the sizes")
+    fn new(setup: &Setup) -> Self::Replica {
+        whitherhaul::Replica::new(setup).expect("a setup inside the sizes")
     }
 
-    fn renew(replica: &mut Self::Replica, id: u8) {
-        assert_eq!(raw::create(&setup(id), replica.parts_mut()), 0);
+    fn renew(replica: &mut Self::Replica, setup: &Setup) {
+        assert_eq!(raw::create(setup, replica.parts_mut()), 0);
     }
 
-    fn recover(replica: &mut Self::Replica, id: u8, nonce: u64, wire: &mut Bytes) {
+    fn recover(replica: &mut Self::Replica, setup: &Setup, nonce: u64, wire: &mut Bytes) {
         wire.clear();
-        wire.messages.resize(2 * 20, 0);
+        let length = 20 * (setup.replicas as usize - 1);
+        wire.messages.resize(length, 0);
         let memory = replica.parts_mut();
-        let (number, written) = raw::recover(&setup(id), 0, nonce, memory, &mut wire.messages);
-        assert_eq!((number, written), (0, 2 * 20));
+        let (number, written) = raw::recover(setup, 0, nonce, memory, &mut wire.messages);
+        assert_eq!((number, written), (0, length));
     }
 
     fn load(wire: &mut Bytes, frames: &[u8]) {
@@ -139,18 +140,20 @@ impl<P: Parcels> Side for Theirs<P> {
     type Replica = Vsr;
     type Wire = P;
 
-    fn new(id: u8) -> Vsr {
-        let totals = Totals::new(MEMBERS as usize);
-        Vsr::new(usize::from(id), wire::config(3), totals)
+    fn new(setup: &Setup) -> Vsr {
+        let totals = Totals::new(setup.members as usize);
+        let config = wire::config(setup.replicas as usize);
+        Vsr::new(setup.id as usize, config, totals)
     }
 
-    fn renew(replica: &mut Vsr, id: u8) {
-        *replica = Self::new(id);
+    fn renew(replica: &mut Vsr, setup: &Setup) {
+        *replica = Self::new(setup);
     }
 
-    fn recover(replica: &mut Vsr, id: u8, nonce: u64, wire: &mut P) {
-        let totals = Totals::new(MEMBERS as usize);
-        *replica = Vsr::recover(usize::from(id), wire::config(3), totals, 0, nonce);
+    fn recover(replica: &mut Vsr, setup: &Setup, nonce: u64, wire: &mut P) {
+        let totals = Totals::new(setup.members as usize);
+        let config = wire::config(setup.replicas as usize);
+        *replica = Vsr::recover(setup.id as usize, config, totals, 0, nonce);
         wire.clear();
         wire.drain(replica);
     }
