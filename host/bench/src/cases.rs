@@ -14,6 +14,8 @@ pub enum Case {
     Heartbeat,
     /// A StartView of so many entries of so many clients, installed by a fresh backup, all committed.
     StartView { entries: usize, clients: usize },
+    /// The same with a log whose last entry breaks the rising rule, refused by 6: what the frame's check alone takes.
+    Refused { entries: usize, clients: usize },
     /// Two DoViewChanges of so many entries: the new primary's view begins.
     Quorum { entries: usize },
     /// A recovery: both others answer, one with a log of so many entries, which is installed.
@@ -21,7 +23,7 @@ pub enum Case {
 }
 
 /// All cases, each with its name.
-pub const CASES: [(&str, Case); 15] = [
+pub const CASES: [(&str, Case); 18] = [
     ("request, 1 client", requests(1, false)),
     ("request, 16 clients", requests(16, false)),
     ("request, 256 clients", requests(256, false)),
@@ -38,6 +40,18 @@ pub const CASES: [(&str, Case); 15] = [
     (
         "StartView, 4,096 of 4,096 clients",
         start_view(4_096, 4_096),
+    ),
+    (
+        "StartView refused, 64 entries of 16 clients",
+        refused(64, 16),
+    ),
+    (
+        "StartView refused, 4,096 entries of 16 clients",
+        refused(4_096, 16),
+    ),
+    (
+        "StartView refused, 4,096 entries of 4,096 clients",
+        refused(4_096, 4_096),
     ),
     (
         "DoViewChange quorum, 64 entries",
@@ -59,6 +73,10 @@ const fn start_view(entries: usize, clients: usize) -> Case {
     Case::StartView { entries, clients }
 }
 
+const fn refused(entries: usize, clients: usize) -> Case {
+    Case::Refused { entries, clients }
+}
+
 /// So many entries of so many clients, in turn. Ids are spread, as names of desks are.
 pub fn log(entries: usize, clients: usize) -> Vec<LogEntry<Charge>> {
     (0..entries)
@@ -72,4 +90,37 @@ pub fn log(entries: usize, clients: usize) -> Vec<LogEntry<Charge>> {
             },
         })
         .collect()
+}
+
+/// The same but for the last entry, which repeats client and number of the one before it. Of all pairs only the last one
+/// breaks the rising rule, so no look over pairs finds it sooner.
+pub fn broken_log(entries: usize, clients: usize) -> Vec<LogEntry<Charge>> {
+    let mut log = log(entries, clients);
+    if let [.., before, last] = log.as_mut_slice() {
+        last.client_id = before.client_id;
+        last.request_number = before.request_number;
+    }
+    log
+}
+
+#[cfg(test)]
+mod tests {
+    use super::*;
+
+    /// The pairs of places whose entries break the rising rule.
+    fn breaking(log: &[LogEntry<Charge>]) -> Vec<(usize, usize)> {
+        let pairs = (0..log.len()).flat_map(|i| (i + 1..log.len()).map(move |j| (i, j)));
+        let breaks = |&(i, j): &(usize, usize)| {
+            log[i].client_id == log[j].client_id && log[i].request_number >= log[j].request_number
+        };
+        pairs.filter(breaks).collect()
+    }
+
+    #[test]
+    fn a_log_rises_and_a_broken_one_breaks_in_its_last_pair_only() {
+        for clients in [1, 16, 64] {
+            assert_eq!(breaking(&log(64, clients)), []);
+            assert_eq!(breaking(&broken_log(64, clients)), [(62, 63)]);
+        }
+    }
 }

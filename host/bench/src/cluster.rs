@@ -1,6 +1,6 @@
 //! So many replicas of a side, and how they play a round of a case.
 
-use crate::cases::{log, Case};
+use crate::cases::{broken_log, log, Case};
 use crate::sides::{setup, Side, Standing};
 use crate::stopwatch::took;
 use std::time::Duration;
@@ -34,22 +34,23 @@ impl<S: Side> Cluster<S> {
         }
     }
 
-    /// One round of a case.
-    pub fn round(&mut self, case: Case) -> Round {
+    /// One round of a case; none where this side doesn't have it.
+    pub fn round(&mut self, case: Case) -> Option<Round> {
         let (calls, pieces) = match case {
             Case::Request { clients, later } => (20, self.requests(clients, later)),
             Case::Tick { uncommitted } => self.ticks(uncommitted),
             Case::Heartbeat => (100, self.heartbeats()),
             Case::StartView { entries, clients } => (1, self.start_views(entries, clients)),
+            Case::Refused { entries, clients } => (1, self.refusals(entries, clients)?),
             Case::Quorum { entries } => (1, self.quorums(entries)),
             Case::Recovery { entries } => (1, self.recoveries(entries)),
         };
         let standings = self.replicas.iter().map(S::standing).collect();
-        Round {
+        Some(Round {
             pieces,
             calls,
             standings,
-        }
+        })
     }
 
     fn renew(&mut self) {
@@ -157,15 +158,29 @@ impl<S: Side> Cluster<S> {
     }
 
     fn start_views(&mut self, entries: usize, clients: usize) -> Vec<Duration> {
-        let message = Message::StartView {
-            view_number: 1,
-            log: log(entries, clients),
-            op_number: entries,
-            commit_number: entries,
-        };
-        let pieces = self.deliveries(&frame(2, &message), times(entries));
+        let frame = start_view_frame(log(entries, clients));
+        let pieces = self.deliveries(&frame, times(entries));
         assert_eq!(S::count(&self.next), (1, 0));
         pieces
+    }
+
+    /// A StartView that is refused, again and again; none where this side knows no refusals.
+    fn refusals(&mut self, entries: usize, clients: usize) -> Option<Vec<Duration>> {
+        let times = times(entries);
+        self.renew();
+        S::load(
+            &mut self.wire,
+            &start_view_frame(broken_log(entries, clients)),
+        );
+        let deliver = |_| {
+            let mut number = None;
+            let piece = took(times == 1, || {
+                number = S::refused(&mut self.replicas, &self.wire);
+            });
+            assert_eq!(number?, 6);
+            Some(piece)
+        };
+        (0..times).map(deliver).collect()
     }
 
     fn quorums(&mut self, entries: usize) -> Vec<Duration> {
@@ -213,6 +228,18 @@ fn times(entries: usize) -> usize {
 /// What each of so many pieces takes.
 fn timed(pieces: usize, mut piece: impl FnMut()) -> Vec<Duration> {
     (0..pieces).map(|_| took(false, &mut piece)).collect()
+}
+
+/// A StartView of view 1 for replica 2, all of its log committed.
+fn start_view_frame(log: Vec<LogEntry<Charge>>) -> Vec<u8> {
+    let entries = log.len();
+    let message = Message::StartView {
+        view_number: 1,
+        log,
+        op_number: entries,
+        commit_number: entries,
+    };
+    frame(2, &message)
 }
 
 fn request_frame(entry: &LogEntry<Charge>) -> Vec<u8> {

@@ -39,6 +39,9 @@ pub trait Side {
     fn load(wire: &mut Self::Wire, frames: &[u8]);
     /// Delivers all that is on the wire; what comes of it is on `next`, which is cleared first.
     fn pass(replicas: &mut [Self::Replica], wire: &mut Self::Wire, next: &mut Self::Wire);
+    /// Delivers the one frame on the wire: the number by which it is refused, 0 where it isn't; none on a side that knows no
+    /// refusals, which leaves it.
+    fn refused(replicas: &mut [Self::Replica], wire: &Self::Wire) -> Option<u8>;
     /// A tick of a replica; what it sends is on `next`, which is cleared first.
     fn tick(replica: &mut Self::Replica, next: &mut Self::Wire);
     /// How many messages and replies are on the wire.
@@ -90,6 +93,12 @@ impl Side for Ours {
             next.messages.extend_from_slice(sent.message_bytes());
             next.replies.extend_from_slice(sent.reply_bytes());
         }
+    }
+
+    fn refused(replicas: &mut [Self::Replica], wire: &Bytes) -> Option<u8> {
+        let to = usize::from(addressee(&wire.messages).expect("a whole frame"));
+        let refusal = replicas[to].on_message(&wire.messages).err();
+        Some(refusal.map_or(0, |refusal| refusal.number()))
     }
 
     fn tick(replica: &mut Self::Replica, next: &mut Bytes) {
@@ -166,6 +175,10 @@ impl<P: Parcels> Side for Theirs<P> {
     fn pass(replicas: &mut [Vsr], wire: &mut P, next: &mut P) {
         next.clear();
         wire.pass(replicas, next);
+    }
+
+    fn refused(_: &mut [Vsr], _: &P) -> Option<u8> {
+        None
     }
 
     fn tick(replica: &mut Vsr, next: &mut P) {
