@@ -220,7 +220,7 @@ impl<S: Side> Cluster<S> {
 /// How often a round repeats a case with a log.
 fn times(entries: usize) -> usize {
     match entries {
-        0..=64 => 20,
+        0..=256 => 20,
         _ => 1,
     }
 }
