@@ -12,11 +12,14 @@
 //! Three replicas and a desk that charges 45.00 to member 3. The network here is a list of frames:
 //!
 //! ```
-//! use whitherhaul::{Client, Frames, Operation, Outcome, Replica, Setup, DEFAULT_TIMEOUT};
+//! use whitherhaul::{Client, Frames, Operation, Outcome, Replica, Setup};
 //!
 //! # fn main() -> Result<(), whitherhaul::Refusal> {
-//! let setup = |id| Setup { replicas: 3, id, timeout: DEFAULT_TIMEOUT, room: 8, members: 8 };
-//! let mut replicas = [Replica::new(&setup(0))?, Replica::new(&setup(1))?, Replica::new(&setup(2))?];
+//! let replica = |id| {
+//!     let timeout = whitherhaul::DEFAULT_TIMEOUT;
+//!     Replica::new(&Setup { replicas: 3, id, timeout, room: 8, members: 8 })
+//! };
+//! let mut replicas = [replica(0)?, replica(1)?, replica(2)?];
 //! let mut desk = Client::new(3, 7)?;
 //!
 //! let charge = desk.on_request(Operation::Fee, 3, 4_500)?;
@@ -28,7 +31,8 @@
 //!     for_desks.extend(Frames::new(sent.reply_bytes()).map(<[u8]>::to_vec));
 //! }
 //!
-//! let reply = desk.on_reply_frame(&for_desks[0])?.expect("two of three hold the charge");
+//! let answer = desk.on_reply_frame(&for_desks[0])?;
+//! let reply = answer.expect("two of three hold the charge");
 //! assert_eq!((reply.outcome, reply.total), (Outcome::Fee, 4_500));
 //! assert_eq!(desk.pending(), None);
 //! assert_eq!(replicas[0].total(3), 4_500);
@@ -43,14 +47,16 @@
 //! A refused call says why, and leaves everything as it was:
 //!
 //! ```
-//! use whitherhaul::{Refusal, Replica, Setup, DEFAULT_TIMEOUT};
+//! use whitherhaul::{Refusal, Replica, Setup};
 //!
-//! let setup = Setup { replicas: 3, id: 0, timeout: DEFAULT_TIMEOUT, room: 8, members: 8 };
+//! let setup = Setup { replicas: 3, id: 0, timeout: 3, room: 8, members: 8 };
 //! let mut replica = Replica::new(&setup).expect("inside the sizes");
 //! let before = replica.parts().clone();
 //! assert_eq!(replica.on_message(&[]).unwrap_err(), Refusal::Malformed);
 //! assert_eq!(*replica.parts(), before);
-//! assert_eq!(Replica::new(&Setup { replicas: 2, ..setup }).unwrap_err().number(), 1);
+//!
+//! let two = Setup { replicas: 2, ..setup };
+//! assert_eq!(Replica::new(&two).unwrap_err().number(), 1);
 //! ```
 //!
 //! # A crash
@@ -59,12 +65,14 @@
 //! replica asks the others is there at once:
 //!
 //! ```
-//! use whitherhaul::{Replica, Setup, Status, DEFAULT_TIMEOUT};
+//! use whitherhaul::{Replica, Setup, Status};
 //!
-//! let setup = Setup { replicas: 3, id: 1, timeout: DEFAULT_TIMEOUT, room: 8, members: 8 };
+//! let setup = Setup { replicas: 3, id: 1, timeout: 3, room: 8, members: 8 };
 //! let replica = Replica::recover(&setup, 4, 99).expect("inside the sizes");
 //! assert_eq!((replica.status(), replica.view()), (Status::Recovering, 4));
-//! assert_eq!(replica.sent().messages().map(|(to, _)| to).collect::<Vec<_>>(), [0, 2]);
+//!
+//! let asked: Vec<u8> = replica.sent().messages().map(|(to, _)| to).collect();
+//! assert_eq!(asked, [0, 2]);
 //! ```
 //!
 //! # What is linked
@@ -76,10 +84,10 @@
 //!
 //! # Where the rules are
 //!
-//! Wire bytes, fee rules, sizes and refusals are in `docs/RULES.md` of the repository, the layouts of
-//! lent memory in `docs/PROMISES.md`. Other pages call the rules' source "document 01". For who comes
-//! from vsr-rs, `docs/FROM-VSR-RS.md` says what is called what. Who keeps the memory himself uses
-//! [`raw`].
+//! Wire bytes, fee rules, sizes and refusals are in `docs/RULES.md` of the repository, the layouts
+//! of lent memory in `docs/PROMISES.md`. Other pages call the rules' source "document 01". For who
+//! comes from vsr-rs, `docs/FROM-VSR-RS.md` says what is called what. Who keeps the memory himself
+//! uses [`raw`].
 
 #![deny(missing_docs)]
 #![deny(missing_debug_implementations)]
