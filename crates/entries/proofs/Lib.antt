@@ -1,3 +1,5 @@
 pub mod EntryLaws
 pub mod RisingLaws
+pub mod ChainLaws
+pub mod PairLaws
 pub mod PlaceLaws

@@ -161,7 +161,22 @@ pub fn breaks(e: Entry, s: &[u8], at: usize) -> bool
 }
 
 // Whether the first k entries of the run are rising. The look over pairs stops at the first pair that breaks this.
+// Up to 16 entries every pair is looked at sooner than the chains are cleared. The chains have places for 4,096 entries, the most that a log has.
 pub fn is_rising(s: &[u8], k: usize) -> bool
+    requires { ⌜ 32 * k ≤ length (now s) ⌝ }
+    ensures { λ r. ⌜ r ≡ rising (entries k (was s)) ⌝ }
+{
+    if k <= 16 {
+        return rises_by_pairs(s, k);
+    }
+    if 4096 < k {
+        return rises_by_pairs(s, k);
+    }
+    rises_by_chain(s, k)
+}
+
+// Each entry is compared with every later one.
+fn rises_by_pairs(s: &[u8], k: usize) -> bool
     requires { ⌜ 32 * k ≤ length (now s) ⌝ }
     ensures { λ r. ⌜ r ≡ rising (entries k (was s)) ⌝ }
 {
@@ -177,6 +192,40 @@ pub fn is_rising(s: &[u8], k: usize) -> bool
             }
             j += 1;
         }
+        i += 1;
+    }
+    ok
+}
+
+// Each entry is compared with the nearest earlier one of its client: the entries up to there rise, so none before that has to be looked at.
+// It is found along the chain of the places whose client ids have one remainder by 1,021. `latest` has for each remainder one more than the latest place, 0 where there is none;
+// `earlier` has for each place what `latest` held before it. 1,021 is a prime, so that ids that rise by a power of two get different remainders.
+fn rises_by_chain(s: &[u8], k: usize) -> bool
+    requires { ⌜ (k ≤ 4096) × (32 * k ≤ length (now s)) ⌝ }
+    ensures { λ r. ⌜ r ≡ rising (entries k (was s)) ⌝ }
+{
+    let mut latest: [u16; 1021] = [0; 1021];
+    let mut earlier: [u16; 4096] = [0; 4096];
+    let mut ok = true;
+    let mut i = 0;
+    'pairs: while i < k {
+        let c = numbers::read_u64(s, 32 * i);
+        let r = numbers::read_u64(s, 32 * i + 8);
+        let h = (c % 1021) as usize;
+        let mut j = latest[h] as usize;
+        while 0 < j {
+            j -= 1;
+            if numbers::read_u64(s, 32 * j) == c {
+                if r <= numbers::read_u64(s, 32 * j + 8) {
+                    ok = false;
+                    break 'pairs;
+                }
+                break;
+            }
+            j = earlier[j] as usize;
+        }
+        earlier[i] = latest[h];
+        latest[h] = (i + 1) as u16;
         i += 1;
     }
     ok

@@ -1,4 +1,4 @@
--- `entries::is_rising` meets its contract. Assumes nothing.
+-- `entries::rises_by_pairs` meets its contract. Assumes nothing.
 use mathlib.Core.Path.{_≡_, refl, sym, _∙_}
 use mathlib.Core.Bool.{true, false}
 use Prim.Native.Nat.{_+_, _-_, _*_, _≤_}
@@ -9,8 +9,8 @@ use Rattle.numbers.specs.Words.{_and_}
 use Rattle.entries.specs.Entries.{entryOf, entries}
 use Rattle.entries.specs.Rising.{rising, follows, breaksAt}
 use Rattle.entries.proofs.RisingLaws.{fromAt, rising-next, follows-next, follows-stop, from-end}
-use Rattle.entries.proofs.is_rising.Statement.{statement}
-use Rattle.entries.proofs.is_rising.Tie as tie
+use Rattle.entries.proofs.rises_by_pairs.Statement.{statement}
+use Rattle.entries.proofs.rises_by_pairs.Tie as tie
 
 -- the whole answer is that of what is left
 abbrev Inv-loop : tie.InvT-loop
@@ -69,8 +69,8 @@ returns-2 c =
     sym (c .before .breaks .ensures) ∙ c .if1 .taken in
     sym (l .inv .2 ∙ rw (follows-stop e (a .k) (a .s .now) (l .j) (c .before .before .loop-test .taken) f))
 
-pub is-rising-spec : {M : Type 1} → statement M
-is-rising-spec =
+pub rises-by-pairs-spec : {M : Type 1} → statement M
+rises-by-pairs-spec =
     tie.close
     (tie.spec
     Inv-loop
