@@ -1,3 +1,4 @@
 pub mod LogLaws
+pub mod FirstLaws
 pub mod RunLaws
 pub mod EntryRules

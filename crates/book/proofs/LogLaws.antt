@@ -3,24 +3,24 @@
 --     entry-get, append-entries, part-entries       the run as a list of entries
 --     none-next                                     one entry of the log further, by places
 --     rises-after                                   what the look over pairs says of the two logs joined
+--     after-not, after-rising                       what is left of it where the second log is looked at first
 --     same-refl, same-eq, same-next, same-stop, same-end         two runs compared, and by places
 --     keeps-short, keeps-long, keeps-prefix, prefix-keeps        our first n entries kept; keeps-entries: as lists
 -- Assumes nothing.
 use mathlib.Core.Path.{_≡_, refl, sym, ap, _∙_}
-use mathlib.Core.List.{List, [], _∷_, _++_, append-assoc}
+use mathlib.Core.List.{List, [], _∷_, _++_}
 use mathlib.Core.Bool.{Bool, true, false, not, false≢true}
-use Prim.Native.Nat.{ℕ, zero, suc, _+_, _-_, _*_, _≤_, _<_}
+use Prim.Native.Nat.{ℕ, suc, _+_, _-_, _*_, _≤_, _<_}
 use native.Mathlib.Numerals.{add-one}
 use native.Mathlib.Omega.{arith}
 use lib.Dec.{leb, eqb}
-use lib.ListN.{length, getD, take, drop, length-take, length-drop, drop-of-length-le, take-append-drop}
-use lib.Seq.{drop-cons, drop-at, getD-take, take-add, length-take-le}
+use lib.ListN.{length, getD, take, drop, length-take, drop-of-length-le}
+use lib.Seq.{drop-cons, getD-take, length-take-le}
 use borrow.Author.Tests.{eq-eqb, ne-eqb, eqb-true, le-leb, lt-leb, leb-true}
 use Rattle.numbers.specs.Words.{_and_}
 use Rattle.numbers.specs.Numbers.{over, putAt}
-use Rattle.numbers.specs.Cells.{cells}
-use Rattle.numbers.proofs.WordLaws.{and-both}
-use Rattle.numbers.proofs.RunLaws.{put-part, put-length, put-split}
+use Rattle.numbers.proofs.WordLaws.{and-both, and-false}
+use Rattle.numbers.proofs.RunLaws.{put-part, put-length}
 use Rattle.numbers.proofs.CellLaws.{cells-get, cells-more, cells-join, cells-front, cells-taken}
 use Rattle.entries.specs.Entries.{entryOf, encodeEntry, entries, EntryFits}
 use Rattle.entries.specs.Places.{entryPlace, entryIn}
@@ -89,6 +89,19 @@ rises-after [] fs h = refl
 rises-after (e ∷ es) fs h =
     let p = and-both (follows e es) (rising es) h in
     rw (follows-join e es fs, p .0, rises-after es fs (p .1), and-assoc (follows e fs) (noneBreaks es fs) (rising fs))
+
+-- where fs is not rising, and where it is
+pub after-not : (es fs : List Entry) → rising fs ≡ false → risesAfter es fs ≡ false
+unfolding risesAfter
+after-not es fs h = and-false (noneBreaks es fs) (rising fs) h
+
+pub after-rising : (es fs : List Entry) → rising fs ≡ true → risesAfter es fs ≡ noneBreaks es fs
+unfolding risesAfter _and_
+after-rising es fs h = rw h (passes (noneBreaks es fs))
+  where
+    passes : (a : Bool) → (a and true) ≡ a
+    passes true = refl
+    passes false = refl
 
 -- ---- two runs compared
 

@@ -1,10 +1,12 @@
 // The log, the results and the totals in lent runs: append and install, commits by the fee rules, replies.
+ghost use mathlib.Core.Bool.{true};
 ghost use mathlib.Core.Path.{_≡_};
 ghost use Prim.Native.Nat.{_+_, _*_, _≤_, _<_};
 ghost use lib.ListN.{length, take};
 ghost use Rattle.numbers.specs.Numbers.{over};
 ghost use Rattle.entries.specs.Entries.{encodeEntry, entries};
 ghost use Rattle.entries.specs.Places.{entryPlace, resultPlace};
+ghost use Rattle.entries.specs.Rising.{rising};
 ghost use Rattle.book.specs.Log.{withEntries, risesAfter, noneBreaks, isSame, keepsFirst};
 ghost use Rattle.book.specs.Runs.{applied, moneyCommitted, replies};
 ghost use Rattle.book.specs.Memory.{moneyBefore, moneyAfter};
@@ -30,8 +32,23 @@ pub fn append_part(log: &mut [u8], n: usize, part: &[u8], k: usize)
     numbers::copy(&mut log[p..], part, 32 * k);
 }
 
-// Whether none of the first k entries of `part` breaks with one of the first n of the log. The look stops at the first pair that does.
+// Whether none of the first k entries of `part`, which rise, breaks with one of the first n of the log. The look stops at the first pair that does.
+// Up to 2 entries every pair is looked at sooner than the chains are cleared. The chains have places for 4,096 entries, the most that a log has.
 fn none_breaks(log: &[u8], n: usize, part: &[u8], k: usize) -> bool
+    requires { ⌜ (n ≤ 4096) × ((entryPlace n ≤ length (now log)) × ((32 * k ≤ length (now part)) × (rising (entries k (now part)) ≡ true))) ⌝ }
+    ensures { λ r. ⌜ r ≡ noneBreaks (entries n (was log)) (entries k (was part)) ⌝ }
+{
+    if k <= 2 {
+        return none_by_pairs(log, n, part, k);
+    }
+    if 4096 < k {
+        return none_by_pairs(log, n, part, k);
+    }
+    none_by_chain(log, n, part, k)
+}
+
+// Each entry of the log is compared with every one of `part`.
+fn none_by_pairs(log: &[u8], n: usize, part: &[u8], k: usize) -> bool
     requires { ⌜ (n ≤ 4096) × ((entryPlace n ≤ length (now log)) × (32 * k ≤ length (now part))) ⌝ }
     ensures { λ r. ⌜ r ≡ noneBreaks (entries n (was log)) (entries k (was part)) ⌝ }
 {
@@ -52,15 +69,54 @@ fn none_breaks(log: &[u8], n: usize, part: &[u8], k: usize) -> bool
     ok
 }
 
+// Each entry of the log is compared with the first one of its client in `part`: those after it have higher request numbers.
+// It is found along chains like those of entries::rises_by_chain, in which the entries of `part` are counted from its end, 0 being the last one:
+// `first` has for each remainder one more than the first entry's number, 0 where there is none; `next` has for each entry the same of the next one.
+fn none_by_chain(log: &[u8], n: usize, part: &[u8], k: usize) -> bool
+    requires { ⌜ (n ≤ 4096) × ((entryPlace n ≤ length (now log)) × ((k ≤ 4096) × ((32 * k ≤ length (now part)) × (rising (entries k (now part)) ≡ true)))) ⌝ }
+    ensures { λ r. ⌜ r ≡ noneBreaks (entries n (was log)) (entries k (was part)) ⌝ }
+{
+    let mut first: [u16; 1021] = [0; 1021];
+    let mut next: [u16; 4096] = [0; 4096];
+    let mut m = 0;
+    while m < k {
+        let h = (numbers::read_u64(part, 32 * (k - 1 - m)) % 1021) as usize;
+        next[m] = first[h];
+        first[h] = (m + 1) as u16;
+        m += 1;
+    }
+    let mut ok = true;
+    let mut i = 0;
+    'pairs: while i < n {
+        let e = entries::entry_in(log, i);
+        let h = (e.client % 1021) as usize;
+        let mut j = first[h] as usize;
+        while 0 < j {
+            j -= 1;
+            let p = 32 * (k - 1 - j);
+            if numbers::read_u64(part, p) == e.client {
+                if numbers::read_u64(part, p + 8) <= e.request {
+                    ok = false;
+                    break 'pairs;
+                }
+                break;
+            }
+            j = next[j] as usize;
+        }
+        i += 1;
+    }
+    ok
+}
+
 // Whether the first n entries of a log that is rising, followed by the first k of `part`, are rising.
 pub fn rises_after(log: &[u8], n: usize, part: &[u8], k: usize) -> bool
     requires { ⌜ (n ≤ 4096) × ((entryPlace n ≤ length (now log)) × (32 * k ≤ length (now part))) ⌝ }
     ensures { λ r. ⌜ r ≡ risesAfter (entries n (was log)) (entries k (was part)) ⌝ }
 {
-    if !none_breaks(log, n, part, k) {
+    if !entries::is_rising(part, k) {
         return false;
     }
-    entries::is_rising(part, k)
+    none_breaks(log, n, part, k)
 }
 
 // Whether the first n bytes of two runs are equal.

@@ -1,4 +1,4 @@
--- `book::none_breaks` meets its contract. Assumes nothing.
+-- `book::none_by_pairs` meets its contract. Assumes nothing.
 use mathlib.Core.Path.{_≡_, refl, sym, _∙_}
 use mathlib.Core.Bool.{true, false}
 use Prim.Native.Nat.{_+_, _-_, _*_, _≤_}
@@ -12,8 +12,8 @@ use Rattle.entries.proofs.RisingLaws.{fromAt, follows-next, follows-stop, from-
 use Rattle.entries.proofs.PlaceLaws.{entry-room}
 use Rattle.book.specs.Log.{noneBreaks}
 use Rattle.book.proofs.LogLaws.{none-next}
-use Rattle.book.proofs.none_breaks.Statement.{statement}
-use Rattle.book.proofs.none_breaks.Tie as tie
+use Rattle.book.proofs.none_by_pairs.Statement.{statement}
+use Rattle.book.proofs.none_by_pairs.Tie as tie
 
 -- the whole answer is that of what is left
 abbrev Inv-loop : tie.InvT-loop
@@ -82,8 +82,8 @@ returns-2 c =
     sym (c .before .breaks .ensures) ∙ c .if1 .taken in
     sym (rw (follows-stop e (a .k) (a .part .now) (l .j) (c .before .before .loop-test .taken) f) at (l .inv .2))
 
-pub none-breaks-spec : {M : Type 1} → statement M
-none-breaks-spec =
+pub none-by-pairs-spec : {M : Type 1} → statement M
+none-by-pairs-spec =
     tie.close
     (tie.spec
     Inv-loop
