@@ -1,6 +1,6 @@
 -- A run that passes, written anew in part.
---     setup-front, place-front     the parts that stay
---     onward-held, clocked-held    the run holds the state that is further on, and that with another clock
+--     setup-front, place-front, status-front    the parts that stay
+--     onward-held, clocked-held                 the run holds the state that is further on, and that with another clock
 -- Assumes nothing.
 use mathlib.Core.Path.{_≡_, refl, sym, ap, _∙_, subst}
 use mathlib.Core.Bool.{Bool, true}
@@ -64,6 +64,11 @@ state-fits s b l x o k h c op commit waiting stable attempts =
 -- ---- bytes written over those of a state
 
 module _ (a : Replica) where
+  status-bytes : (k : ℕ) → over (encodeSetup (a .setup) ++ big 1 k) (encodeState a)
+      ≡ over (encodeSetup (a .setup) ++ big 1 k ++ big 4 (a .view .0) ++ big 4 (a .normal .0) ++ big 1 (flagNumber (a .catching))) (encodeState a)
+  unfolding over encodeState encodeSetup encodePlace big
+  status-bytes k = refl
+
   onward-bytes : (x : Status) (o k : Op) (h : Bool)
       → over ((encodeSetup (a .setup) ++ encodePlace (onward a x o k h)) ++ big 1 (flagNumber h)) (encodeState a) ≡ encodeState (onward a x o k h)
   unfolding over encodeState encodeSetup encodePlace encodeClock encodeVotes big
@@ -88,19 +93,25 @@ module _ (run : List ℕ) (b : Bytes run) (ok : stateOk run ≡ true) where
   unfolding over encodeState encodeSetup encodePlace big
   place-front = sym (over-whole (encodeSetup (stateOf run .setup) ++ encodePlace (stateOf run)) (state-whole run b ok))
 
+  -- behind a status that is written anew, view, last normal view and catching up stand as they were
+  pub status-front : {j k : ℕ} → j ≡ k → {cur : List ℕ} → cur ≡ over (encodeSetup (stateOf run .setup) ++ big 1 j) run → let s = stateOf run in
+      cur ≡ over (encodeSetup (s .setup) ++ big 1 k ++ big 4 (s .view .0) ++ big 4 (s .normal .0) ++ big 1 (flagNumber (s .catching))) run
+  status-front {j} {k} h e =
+      let a = stateOf run in
+      e ∙ ap (λ (i : ℕ). over (encodeSetup (a .setup) ++ big 1 i) run) h ∙ over-whole _ (status-bytes a k ∙ ap (over _) (state-whole run b ok))
+
   pub onward-held : {t : Replica} → Onward (stateOf run) t → t .op .0 < 2 ^ 32 → t .commit .0 < 2 ^ 32 → {after : List ℕ}
-      → after ≡ over ((encodeSetup (stateOf run .setup) ++ encodePlace t) ++ big 1 (flagNumber (t .clock .heard))) run → HoldsState t after
+      → after ≡ over ((encodeSetup (stateOf run .setup) ++ encodePlace (onward (stateOf run) (t .status) (t .op) (t .commit) (t .clock .heard)))
+      ++ big 1 (flagNumber (t .clock .heard))) run → HoldsState t after
   unfolding stateOf clockOf
   onward-held {t} w p q {after} e =
-      let flag = big 1 (flagNumber (t .clock .heard)) in
       let r = drop 30 run in
       let c = drop-bytes 30 run b in
       let l = state-long run ok in
       let m : length r ≡ 116 = rw length-drop (omega arith) in
       let fits = state-fits run b l (t .status) (t .op) (t .commit) true (onward (stateOf run) (t .status) (t .op) (t .commit) (t .clock .heard) .clock) p q
       (num-lt 4 1 r c (omega arith)) (num-lt 2 5 r c (omega arith)) (num-lt 1 7 r c (omega arith)) in
-      let same = ap (λ (x : Replica). over ((encodeSetup (stateOf run .setup) ++ encodePlace x) ++ flag) run) w in
-      subst (λ (x : Replica). HoldsState x after) (sym w) (bytes-held _ fits (e ∙ same ∙ over-whole _ (onward-bytes (stateOf run) _ _ _ _)))
+      subst (λ (x : Replica). HoldsState x after) (sym w) (bytes-held _ fits (e ∙ over-whole _ (onward-bytes (stateOf run) _ _ _ _)))
 
   pub clocked-held : {t : Replica} → Clocked (stateOf run) t → t .clock .waiting < 2 ^ 32 → t .clock .stable < 2 ^ 16 → t .clock .attempts < 2 ^ 8
       → {after : List ℕ} → after ≡ over ((encodeSetup (stateOf run .setup) ++ encodePlace (stateOf run)) ++ encodeClock (t .clock)) run

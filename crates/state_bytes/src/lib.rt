@@ -96,12 +96,15 @@ pub fn write_state(run: &mut [u8], s: Replica)
     part::write_reports(&mut run[48..], reports);
 }
 
-// The run goes from the state that it holds to one that is further on in the same view: 19 bytes.
+// The run goes from the state that it holds to one that is further on in the same view: 10 bytes.
 pub fn write_onward(run: &mut [u8], s: Replica)
     requires { ⌜ (stateOk (now run) ≡ true) × Onward (stateOf (now run)) s ⌝ }
     ensures { λ r. ⌜ HoldsState s (last run) ⌝ }
 {
-    write_place(&mut run[12..], s);
+    let status = s.status;
+    numbers::write_u8(&mut run[12..], flag::status_number(status));
+    numbers::write_u32(&mut run[22..], s.op.0);
+    numbers::write_u32(&mut run[26..], s.commit.0);
     let clock = s.clock;
     flag::write_flag(&mut run[30..], clock.heard);
 }
