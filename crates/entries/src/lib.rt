@@ -119,15 +119,14 @@ pub fn entry_ok(s: &[u8], at: usize) -> bool
     operation_ok(numbers::read_u8(s, at + 16), numbers::read_u64(s, at + 24))
 }
 
-// The entry's 32 bytes over the front of `area`.
+// The entry's 32 bytes over the front of `area`. The operation is the highest byte of four, of which the others are zero: one write.
 pub fn write_entry(area: &mut [u8], e: Entry)
     requires { ⌜ 32 ≤ length (now area) ⌝ }
     ensures { λ r. ⌜ last area ≡ over (encodeEntry e) (was area) ⌝ }
 {
     numbers::write_u64(area, e.client);
     numbers::write_u64(&mut area[8..], e.request);
-    numbers::write_u8(&mut area[16..], e.operation);
-    numbers::write_be(&mut area[17..], 3, 0);
+    numbers::write_u32(&mut area[16..], 16_777_216 * e.operation as u32);
     numbers::write_u32(&mut area[20..], e.member);
     numbers::write_u64(&mut area[24..], e.cents);
 }
