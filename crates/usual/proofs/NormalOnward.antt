@@ -1,11 +1,11 @@
--- What a Request, a PrepareOk, and a Prepare or Commit of its view leave of the state of a Normal replica: all but status, op and commit number and whether the primary
--- was heard.
---     request-onward, prepare-onward, prepare-ok-onward, commit-onward
+-- What a Request, a PrepareOk, a Prepare or Commit of its view, and a Recovery of no later view leave of the state of a Normal replica: all but status, op and commit
+-- number and whether the primary was heard.
+--     request-onward, prepare-onward, prepare-ok-onward, commit-onward, recovery-onward
 -- Assumes nothing.
 use mathlib.Core.Path.{_≡_, refl}
 use mathlib.Core.Bool.{true, false≢true}
 use mathlib.Core.List.{List}
-use Prim.Native.Nat.{ℕ}
+use Prim.Native.Nat.{ℕ, _≤_}
 use native.Mathlib.Omega.{arith}
 use borrow.Author.Tests.{ltb-true}
 use Rattle.numbers.specs.declared.View.{View}
@@ -35,6 +35,7 @@ use Rattle.normal.specs.declared.prepare_ok.Count.{Count}
 use Rattle.normal.specs.declared.prepare_ok.Count.the-variants as Counts
 use Rattle.normal.specs.declared.request.RequestVerdict.{RequestVerdict}
 use Rattle.normal.specs.declared.request.RequestVerdict.the-variants as Calls
+use Rattle.recovery.specs.Recovery.{fullAnswer, bareAnswer, recoveryStep}
 
 -- a Normal replica isn't in ViewChange
 not-changing : (t : Status) → isNormal t ≡ true → isChanging t ≡ true → ⊥
@@ -116,3 +117,20 @@ module _ (s : Replica) where
   unfolding commitStep takenCommit
   commit-onward n v e c x out =
       split Leaves _ _ _ (λ _. split Leaves _ _ _ (λ _. transferred-onward out) (λ _. refl)) (λ _. deferred-onward n v e out)
+
+  -- ---- Recovery
+
+  full-onward : (r x : ℕ) (log out : List ℕ) → Speaks (fullAnswer s r x log out)
+  unfolding fullAnswer
+  full-onward r x log out = split Speaks _ _ _ (λ _. refl) (λ _. refl)
+
+  bare-onward : (r x : ℕ) (out : List ℕ) → Speaks (bareAnswer s r x out)
+  unfolding bareAnswer
+  bare-onward r x out = split Speaks _ _ _ (λ _. refl) (λ _. refl)
+
+  pub recovery-onward : (r x : ℕ) (v : View) → v .0 ≤ s .view .0 → (log out : List ℕ) → Speaks (recoveryStep s r x v log out)
+  unfolding recoveryStep
+  recovery-onward r x v h log out =
+      split Speaks _ _ _ (λ l. absurd (omega (arith, h, ltb-true (s .view .0) (v .0) l))) λ _.
+      split Speaks _ _ _ (λ _. refl) λ _.
+      split Speaks _ _ _ (λ _. full-onward r x log out) (λ _. bare-onward r x out)

@@ -1,5 +1,6 @@
--- The ways out of the two tests, on plain variables, as the code's tests and calls give them.
---     kind-request, kind-prepare, kind-prepare-ok, kind-commit, kind-other    what is_usual says of each kind
+-- The ways out of the three tests, on plain variables, as the code's tests and calls give them.
+--     short-recovery, by-view            is_answered
+--     kind-request, kind-prepare, kind-prepare-ok, kind-commit, kind-recovery, kind-other    what is_usual says of each kind
 --     not-normal, short, by-kind         is_usual
 --     no-setup, not-leading, by-primary  is_leading
 -- Assumes nothing.
@@ -7,7 +8,7 @@ use mathlib.Core.Path.{_≡_}
 use mathlib.Core.Bool.{Bool, true, false, not}
 use mathlib.Core.List.{List}
 use Prim.Native.Nat.{ℕ, _≤_, _<_}
-use lib.Dec.{eqb}
+use lib.Dec.{leb, eqb}
 use lib.ListN.{length}
 use borrow.Author.Tests.{lt-ltb, le-ltb, ne-eqb}
 use Rattle.numbers.specs.Words.{if_then_else_}
@@ -16,9 +17,17 @@ use Rattle.frames.specs.Kinds.{kindOf}
 use Rattle.state.specs.State.{leads}
 use Rattle.state.specs.Statuses.{isNormal}
 use Rattle.state.specs.declared.Replica.{Replica}
-use Rattle.usual.specs.Usual.{usualKind, isUsual, isLeading}
+use Rattle.usual.specs.Usual.{isAnswered, usualKind, isUsual, isLeading}
 
 module _ (v : ℕ) (frame : List ℕ) where
+  pub short-recovery : length frame < 20 → false ≡ isAnswered v frame
+  unfolding isAnswered if_then_else_
+  short-recovery l = rw (lt-ltb (length frame) 20 l)
+
+  pub by-view : 20 ≤ length frame → (w : ℕ) → w ≡ num 4 16 frame → leb w v ≡ isAnswered v frame
+  unfolding isAnswered if_then_else_
+  by-view l w e = rw (le-ltb (length frame) 20 l, e)
+
   pub kind-request : kindOf frame ≡ 1 → true ≡ usualKind v frame
   unfolding usualKind if_then_else_
   kind-request k = rw k
@@ -35,9 +44,13 @@ module _ (v : ℕ) (frame : List ℕ) where
   unfolding usualKind if_then_else_
   kind-commit k w e = rw (k, e)
 
-  pub kind-other : (k : ℕ) → k ≡ kindOf frame → (k ≡ 1 → ⊥) → (k ≡ 2 → ⊥) → (k ≡ 3 → ⊥) → (k ≡ 4 → ⊥) → false ≡ usualKind v frame
+  pub kind-recovery : kindOf frame ≡ 10 → (r : Bool) → r ≡ isAnswered v frame → r ≡ usualKind v frame
   unfolding usualKind if_then_else_
-  kind-other k e a b c d = rw (← e, ne-eqb k 1 a, ne-eqb k 2 b, ne-eqb k 3 c, ne-eqb k 4 d)
+  kind-recovery k r e = rw (k, e)
+
+  pub kind-other : (k : ℕ) → k ≡ kindOf frame → (k ≡ 1 → ⊥) → (k ≡ 2 → ⊥) → (k ≡ 3 → ⊥) → (k ≡ 4 → ⊥) → (k ≡ 10 → ⊥) → false ≡ usualKind v frame
+  unfolding usualKind if_then_else_
+  kind-other k e a b c d f = rw (← e, ne-eqb k 1 a, ne-eqb k 2 b, ne-eqb k 3 c, ne-eqb k 4 d, ne-eqb k 10 f)
 
 module _ (s : Replica) (frame : List ℕ) where
   pub not-normal : not (isNormal (s .status)) ≡ true → false ≡ isUsual s frame

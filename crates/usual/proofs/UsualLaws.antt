@@ -5,9 +5,11 @@
 use mathlib.Core.Path.{_≡_, refl, sym, subst}
 use mathlib.Core.Bool.{Bool, true, false≢true}
 use mathlib.Core.List.{List}
-use Prim.Native.Nat.{ℕ}
-use borrow.Author.Tests.{eqb-true, not-false}
-use lib.Dec.{eqb}
+use Prim.Native.Nat.{ℕ, _≤_}
+use borrow.Author.Tests.{eqb-true, leb-true, not-false}
+use lib.Dec.{ltb, eqb}
+use lib.ListN.{length}
+use Rattle.numbers.specs.Numbers.{num}
 use Rattle.numbers.specs.Words.{if_then_else_}
 use Rattle.frames.specs.Kinds.{kindOf}
 use Rattle.numbers.proofs.WordLaws.{split}
@@ -31,14 +33,24 @@ use Rattle.outside.specs.Calls.{checkedOf}
 use Rattle.outside.proofs.CallLaws.{passed-is}
 use Rattle.replica.specs.Lent.{Lent, Called, lengthsOf}
 use Rattle.replica.specs.Calls.{latestFor, Tabled, followedBy, following, checkedCall, messageCall, idleCall}
-use Rattle.usual.specs.Usual.{usualKind, isUsual, isLeading}
-use Rattle.usual.proofs.NormalOnward.{request-onward, prepare-onward, prepare-ok-onward, commit-onward}
+use Rattle.usual.specs.Usual.{isAnswered, usualKind, isUsual, isLeading}
+use Rattle.usual.proofs.NormalOnward.{request-onward, prepare-onward, prepare-ok-onward, commit-onward, recovery-onward}
 
 -- ---- a frame
+
+answered-view : (v : ℕ) (frame : List ℕ) → isAnswered v frame ≡ true → num 4 16 frame ≤ v
+unfolding isAnswered
+answered-view v frame =
+    split (λ (b : Bool). b ≡ true → num 4 16 frame ≤ v) (ltb (length frame) 20) _ _ (λ _ e. absurd (false≢true e)) (λ _ e. leb-true _ _ e)
 
 module _ (s : Replica) (n : isNormal (s .status) ≡ true) (latest : Latest) (frame : List ℕ) (m : Memory) where
   abbrev Handles : Recorded → Type 0
   Handles d = Onward s (d .answer .state)
+
+  -- a Recovery
+  by-answered : kindOf frame ≡ 10 → isAnswered (s .view .0) frame ≡ true → Handles (handled (messageOf (kindOf frame) frame) s latest frame m)
+  unfolding messageOf handled if_then_else_
+  by-answered k e = rw k (recovery-onward s _ _ _ (answered-view (s .view .0) frame e) (m .runs .log) (m .out))
 
   -- by its kind
   kind-onward : usualKind (s .view .0) frame ≡ true → Handles (handled (messageOf (kindOf frame) frame) s latest frame m)
@@ -49,7 +61,8 @@ module _ (s : Replica) (n : isNormal (s .status) ≡ true) (latest : Latest) (fr
       split Goes (eqb k 1) _ _ (λ a _. rw a (request-onward s _ latest (m .runs .log) (m .acks) (m .out) (m .reps))) λ a.
       split Goes (eqb k 2) _ _ (λ b e. rw (a, b) (prepare-onward s n _ (eqb-true _ _ e) _ (m .runs) (m .out))) λ b.
       split Goes (eqb k 3) _ _ (λ c _. rw (a, b, c) (prepare-ok-onward s _ _ _ m)) λ c.
-      split Goes (eqb k 4) _ _ (λ d e. rw (a, b, c, d) (commit-onward s n _ (eqb-true _ _ e) _ (m .runs) (m .out))) λ d e.
+      split Goes (eqb k 4) _ _ (λ d e. rw (a, b, c, d) (commit-onward s n _ (eqb-true _ _ e) _ (m .runs) (m .out))) λ d.
+      split Goes (eqb k 10) _ _ (λ f. by-answered (eqb-true _ _ f)) λ _ e.
       absurd (false≢true e)
 
   step-onward : usualKind (s .view .0) frame ≡ true → Handles (messageStep (messageOf (kindOf frame) frame) s latest frame m)

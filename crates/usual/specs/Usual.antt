@@ -3,7 +3,7 @@
 use mathlib.Core.Bool.{Bool, true, false, not}
 use mathlib.Core.List.{List}
 use Prim.Native.Nat.{ℕ}
-use lib.Dec.{ltb, eqb}
+use lib.Dec.{ltb, leb, eqb}
 use lib.ListN.{length}
 use Rattle.numbers.specs.Words.{if_then_else_}
 use Rattle.numbers.specs.Numbers.{num}
@@ -12,13 +12,20 @@ use Rattle.state.specs.State.{leads}
 use Rattle.state.specs.Statuses.{isNormal}
 use Rattle.state.specs.declared.Replica.{Replica}
 
--- by its kind: a Request, a PrepareOk, and a Prepare or Commit of view v
+-- a Recovery that is answered: its view isn't above v
+unfoldable pub isAnswered : (v : ℕ) → List ℕ → Bool
+isAnswered v frame =
+    if ltb (length frame) 20 then false else
+    leb (num 4 16 frame) v
+
+-- by its kind: a Request, a PrepareOk, a Prepare or Commit of view v, and a Recovery of no later view
 unfoldable pub usualKind : (v : ℕ) → List ℕ → Bool
 usualKind v frame =
     if eqb (kindOf frame) 1 then true else
     if eqb (kindOf frame) 2 then eqb (num 4 7 frame) v else
     if eqb (kindOf frame) 3 then true else
     if eqb (kindOf frame) 4 then eqb (num 4 7 frame) v else
+    if eqb (kindOf frame) 10 then isAnswered v frame else
     false
 
 -- a frame for a Normal replica

@@ -65,6 +65,9 @@ message-usual-requires-3 c κs = ((sym (c .before .before .before .before .befor
 message-usual-requires-4 : tie.Need-message-usual-requires-4
 message-usual-requires-4 c κs = ((sym (c .before .before .before .before .before .before .before .before .before .before .before .before .before .before .before .before .before .state-ok .ensures) ∙ not-false (c .before .before .before .before .before .before .before .before .before .before .before .before .before .before .before .before .before .state-ok .result) (c .before .before .before .before .before .before .before .before .before .before .before .before .before .before .before .before .if1 .left)), may-is (c .before .before .before .before .before .before .before .before .before .before .before .before .before .before .before .before .before .before .before .before .before .before .before .before .before .before .before .before .before .before .before .args .state .now) (c .before .before .before .before .before .before .before .before .before .before .before .before .before .before .before .before .before .before .before .before .before .before .before .before .before .before .before .before .before .before .before .args .frame .now) (c .before .before .before .before .before .before .before .before .before .before .before .before .before .before .may-be-usual .ensures) (c .before .before .before .before .before .before .before .before .before .before .before .before .before .if2 .left) .1)
 
+message-usual-requires-5 : tie.Need-message-usual-requires-5
+message-usual-requires-5 c κs = ((sym (c .before .before .before .before .before .before .before .before .before .before .before .before .before .before .before .before .before .state-ok .ensures) ∙ not-false (c .before .before .before .before .before .before .before .before .before .before .before .before .before .before .before .before .before .state-ok .result) (c .before .before .before .before .before .before .before .before .before .before .before .before .before .before .before .before .if1 .left)), may-is (c .before .before .before .before .before .before .before .before .before .before .before .before .before .before .before .before .before .before .before .before .before .before .before .before .before .before .before .before .before .before .before .args .state .now) (c .before .before .before .before .before .before .before .before .before .before .before .before .before .before .before .before .before .before .before .before .before .before .before .before .before .before .before .before .before .before .before .args .frame .now) (c .before .before .before .before .before .before .before .before .before .before .before .before .before .before .may-be-usual .ensures) (c .before .before .before .before .before .before .before .before .before .before .before .before .before .if2 .left) .1)
+
 message-whole-requires-2 : tie.Need-message-whole-requires-2
 message-whole-requires-2 c κs = (sym (c .before .before .before .before .before .before .before .before .before .before .before .before .before .before .before .before .before .state-ok .ensures) ∙ not-false (c .before .before .before .before .before .before .before .before .before .before .before .before .before .before .before .before .before .state-ok .result) (c .before .before .before .before .before .before .before .before .before .before .before .before .before .before .before .before .if1 .left))
 
@@ -201,37 +204,70 @@ returns-6 : tie.Need-returns-6
 returns-6 c = c .before .before .before .before .before .before .before .before .before .before .before .before .before .before .before .before .before .before .before .before .message-usual4 .ensures
 
 same-length-52 : tie.Need-same-length-52
-same-length-52 c = c .before .before .before .before .before .before .before .before .before .before .before .before .before .before .before .before .before .before .before .before .message-whole2 .kept .0
+same-length-52 c = c .before .before .before .before .before .before .before .before .before .before .before .before .before .before .before .before .before .before .before .before .message-usual5 .kept .0
 
 same-length-53 : tie.Need-same-length-53
-same-length-53 c = c .before .before .before .before .before .before .before .before .before .before .before .before .before .before .before .before .before .before .before .before .message-whole2 .kept .1 .1 .0
+same-length-53 c = c .before .before .before .before .before .before .before .before .before .before .before .before .before .before .before .before .before .before .before .before .message-usual5 .kept .1 .1 .0
 
 same-length-54 : tie.Need-same-length-54
-same-length-54 c = c .before .before .before .before .before .before .before .before .before .before .before .before .before .before .before .before .before .before .before .before .message-whole2 .kept .1 .1 .1 .0
+same-length-54 c = c .before .before .before .before .before .before .before .before .before .before .before .before .before .before .before .before .before .before .before .before .message-usual5 .kept .1 .1 .1 .0
 
 same-length-55 : tie.Need-same-length-55
-same-length-55 c = c .before .before .before .before .before .before .before .before .before .before .before .before .before .before .before .before .before .before .before .before .message-whole2 .kept .1 .1 .1 .1 .0
+same-length-55 c = c .before .before .before .before .before .before .before .before .before .before .before .before .before .before .before .before .before .before .before .before .message-usual5 .kept .1 .1 .1 .1 .0
 
 same-length-56 : tie.Need-same-length-56
-same-length-56 c = c .before .before .before .before .before .before .before .before .before .before .before .before .before .before .before .before .before .before .before .before .message-whole2 .kept .1 .1 .1 .1 .1 .0
+same-length-56 c = c .before .before .before .before .before .before .before .before .before .before .before .before .before .before .before .before .before .before .before .before .message-usual5 .kept .1 .1 .1 .1 .1 .0
 
 same-length-57 : tie.Need-same-length-57
-same-length-57 c = c .before .before .before .before .before .before .before .before .before .before .before .before .before .before .before .before .before .before .before .before .message-whole2 .kept .1 .1 .1 .1 .1 .1 .0
+same-length-57 c = c .before .before .before .before .before .before .before .before .before .before .before .before .before .before .before .before .before .before .before .before .message-usual5 .kept .1 .1 .1 .1 .1 .1 .0
 
 same-length-58 : tie.Need-same-length-58
-same-length-58 c = c .before .before .before .before .before .before .before .before .before .before .before .before .before .before .before .before .before .before .before .before .message-whole2 .kept .1 .1 .1 .1 .1 .1 .1 .0
+same-length-58 c = c .before .before .before .before .before .before .before .before .before .before .before .before .before .before .before .before .before .before .before .before .message-usual5 .kept .1 .1 .1 .1 .1 .1 .1 .0
 
 same-length-59 : tie.Need-same-length-59
-same-length-59 c = c .before .before .before .before .before .before .before .before .before .before .before .before .before .before .before .before .before .before .before .before .message-whole2 .kept .1 .1 .1 .1 .1 .1 .1 .1 .0
+same-length-59 c = c .before .before .before .before .before .before .before .before .before .before .before .before .before .before .before .before .before .before .before .before .message-usual5 .kept .1 .1 .1 .1 .1 .1 .1 .1 .0
 
 same-length-60 : tie.Need-same-length-60
-same-length-60 c = c .before .before .before .before .before .before .before .before .before .before .before .before .before .before .before .before .before .before .before .before .message-whole2 .kept .1 .1 .1 .1 .1 .1 .1 .1 .1 .0
+same-length-60 c = c .before .before .before .before .before .before .before .before .before .before .before .before .before .before .before .before .before .before .before .before .message-usual5 .kept .1 .1 .1 .1 .1 .1 .1 .1 .1 .0
 
 same-length-61 : tie.Need-same-length-61
-same-length-61 c = c .before .before .before .before .before .before .before .before .before .before .before .before .before .before .before .before .before .before .before .before .message-whole2 .kept .1 .1 .1 .1 .1 .1 .1 .1 .1 .1 .0
+same-length-61 c = c .before .before .before .before .before .before .before .before .before .before .before .before .before .before .before .before .before .before .before .before .message-usual5 .kept .1 .1 .1 .1 .1 .1 .1 .1 .1 .1 .0
 
 returns-7 : tie.Need-returns-7
-returns-7 c = c .before .before .before .before .before .before .before .before .before .before .before .before .before .before .before .before .before .before .before .before .message-whole2 .ensures
+returns-7 c = c .before .before .before .before .before .before .before .before .before .before .before .before .before .before .before .before .before .before .before .before .message-usual5 .ensures
+
+same-length-62 : tie.Need-same-length-62
+same-length-62 c = c .before .before .before .before .before .before .before .before .before .before .before .before .before .before .before .before .before .before .before .before .message-whole2 .kept .0
+
+same-length-63 : tie.Need-same-length-63
+same-length-63 c = c .before .before .before .before .before .before .before .before .before .before .before .before .before .before .before .before .before .before .before .before .message-whole2 .kept .1 .1 .0
+
+same-length-64 : tie.Need-same-length-64
+same-length-64 c = c .before .before .before .before .before .before .before .before .before .before .before .before .before .before .before .before .before .before .before .before .message-whole2 .kept .1 .1 .1 .0
+
+same-length-65 : tie.Need-same-length-65
+same-length-65 c = c .before .before .before .before .before .before .before .before .before .before .before .before .before .before .before .before .before .before .before .before .message-whole2 .kept .1 .1 .1 .1 .0
+
+same-length-66 : tie.Need-same-length-66
+same-length-66 c = c .before .before .before .before .before .before .before .before .before .before .before .before .before .before .before .before .before .before .before .before .message-whole2 .kept .1 .1 .1 .1 .1 .0
+
+same-length-67 : tie.Need-same-length-67
+same-length-67 c = c .before .before .before .before .before .before .before .before .before .before .before .before .before .before .before .before .before .before .before .before .message-whole2 .kept .1 .1 .1 .1 .1 .1 .0
+
+same-length-68 : tie.Need-same-length-68
+same-length-68 c = c .before .before .before .before .before .before .before .before .before .before .before .before .before .before .before .before .before .before .before .before .message-whole2 .kept .1 .1 .1 .1 .1 .1 .1 .0
+
+same-length-69 : tie.Need-same-length-69
+same-length-69 c = c .before .before .before .before .before .before .before .before .before .before .before .before .before .before .before .before .before .before .before .before .message-whole2 .kept .1 .1 .1 .1 .1 .1 .1 .1 .0
+
+same-length-70 : tie.Need-same-length-70
+same-length-70 c = c .before .before .before .before .before .before .before .before .before .before .before .before .before .before .before .before .before .before .before .before .message-whole2 .kept .1 .1 .1 .1 .1 .1 .1 .1 .1 .0
+
+same-length-71 : tie.Need-same-length-71
+same-length-71 c = c .before .before .before .before .before .before .before .before .before .before .before .before .before .before .before .before .before .before .before .before .message-whole2 .kept .1 .1 .1 .1 .1 .1 .1 .1 .1 .1 .0
+
+returns-8 : tie.Need-returns-8
+returns-8 c = c .before .before .before .before .before .before .before .before .before .before .before .before .before .before .before .before .before .before .before .before .message-whole2 .ensures
 
 pub whitherhaul-on-message-spec : {M : Type 1} → statement M
 whitherhaul-on-message-spec =
@@ -258,6 +294,7 @@ whitherhaul-on-message-spec =
     message-usual-requires-2
     message-usual-requires-3
     message-usual-requires-4
+    message-usual-requires-5
     message-whole-requires-2
     same-length-12
     same-length-13
@@ -313,4 +350,15 @@ whitherhaul-on-message-spec =
     same-length-59
     same-length-60
     same-length-61
-    returns-7)
+    returns-7
+    same-length-62
+    same-length-63
+    same-length-64
+    same-length-65
+    same-length-66
+    same-length-67
+    same-length-68
+    same-length-69
+    same-length-70
+    same-length-71
+    returns-8)
