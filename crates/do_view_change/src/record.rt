@@ -159,7 +159,7 @@ fn record_own(
     }
 }
 
-// A DoViewChange's normal normal view, op and commit number.
+// A DoViewChange's last normal view, op and commit number.
 fn report(normal: View, o: Op, c: Op) -> Report
     ensures { λ d. ⌜ d ≡ reportOf normal o c ⌝ }
 {

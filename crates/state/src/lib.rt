@@ -20,7 +20,7 @@ pub struct Report {
     pub commit: Op,
 }
 
-// One for each replica id; those from n on are never read.
+// One for each replica id; those from n on are all zero, or refusal 1.
 pub struct Reports {
     pub rows: [Report; 7],
 }
