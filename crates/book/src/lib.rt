@@ -72,6 +72,7 @@ fn none_by_pairs(log: &[u8], n: usize, part: &[u8], k: usize) -> bool
 // Each entry of the log is compared with the first one of its client in `part`: those after it have higher request numbers.
 // It is found along chains like those of entries::rises_by_chain, in which the entries of `part` are counted from its end, 0 being the last one:
 // `first` has for each remainder one more than the first entry's number, 0 where there is none; `next` has for each entry the same of the next one.
+// Where too many ids have one remainder, the pairs are looked at instead.
 fn none_by_chain(log: &[u8], n: usize, part: &[u8], k: usize) -> bool
     requires { ⌜ (n ≤ 4096) × ((entryPlace n ≤ length (now log)) × ((k ≤ 4096) × ((32 * k ≤ length (now part)) × (rising (entries k (now part)) ≡ true)))) ⌝ }
     ensures { λ r. ⌜ r ≡ noneBreaks (entries n (was log)) (entries k (was part)) ⌝ }
@@ -85,13 +86,17 @@ fn none_by_chain(log: &[u8], n: usize, part: &[u8], k: usize) -> bool
         first[h] = (m + 1) as u16;
         m += 1;
     }
+    let mut looks = 16 * n;
     let mut ok = true;
     let mut i = 0;
     'pairs: while i < n {
         let e = entries::entry_in(log, i);
-        let h = (e.client % 1021) as usize;
-        let mut j = first[h] as usize;
+        let mut j = first[(e.client % 1021) as usize] as usize;
         while 0 < j {
+            if looks == 0 {
+                return none_by_pairs(log, n, part, k);
+            }
+            looks -= 1;
             j -= 1;
             let p = 32 * (k - 1 - j);
             if numbers::read_u64(part, p) == e.client {

@@ -27,19 +27,19 @@ abbrev μ-loop : tie.MeasureT-loop
 
 -- the entries of the part that have j or more after them are of other clients
 abbrev Inv-loop2 : tie.InvT-loop2
-Inv-loop2 log n part k first next m ok₀ i e h j₀ ok j = (ok ≡ true) × Sought (fromEnd part k) (e .client) k j
+Inv-loop2 log n part k first next m looks₀ ok₀ i e j₀ looks ok j = (ok ≡ true) × Sought (fromEnd part k) (e .client) k j
 
 abbrev μ-loop2 : tie.MeasureT-loop2
-μ-loop2 log n part k first next m ok₀ i e h j₀ ok j = j
+μ-loop2 log n part k first next m looks₀ ok₀ i e j₀ looks ok j = j
 
 -- the whole answer is that of what is left of the log
 abbrev Inv-pairs : tie.InvT-pairs
-Inv-pairs log n part k first next m ok₀ i₀ ok i =
+Inv-pairs log n part k first next m looks₀ ok₀ i₀ looks ok i =
     (i ≤ n) × (ok ≡ true) × Linked (fromEnd part k) first next k
     × (noneBreaks (entries n log) (entries k part) ≡ noneBreaks (fromAt n log i) (entries k part))
 
 abbrev μ-pairs : tie.MeasureT-pairs
-μ-pairs log n part k first next m ok₀ i₀ ok i = n - i
+μ-pairs log n part k first next m looks₀ ok₀ i₀ looks ok i = n - i
 
 loop-holds : tie.Need-loop-holds Inv-loop μ-loop Inv-loop2 μ-loop2 Inv-pairs μ-pairs
 loop-holds c =
@@ -76,24 +76,27 @@ loop2-holds c =
     let p = c .before .before .before .pairs in
     (p .inv .1, sought-start (fromEnd (a .part .now) (a .k)) (l .first) (l .next) (a .k) (p .inv .2) (c .before .entry-in .result .client))
 
+returns : tie.Need-returns Inv-loop μ-loop Inv-loop2 μ-loop2 Inv-pairs μ-pairs
+returns c = c .none-by-pairs .ensures
+
 cast-j-2 : tie.Need-cast-j-2 Inv-loop μ-loop Inv-loop2 μ-loop2 Inv-pairs μ-pairs
 cast-j-2 c =
-    let m = c .before .before .before .before .loop2 in
-    omega (arith, c .before .before .before .before .before .before .before .before .pairs .inv .2 .links (m .j - 1) (omega arith) .low)
+    let m = c .before .before .before .before .before .loop2 in
+    omega (arith, c .before .before .before .before .before .before .before .before .before .pairs .inv .2 .links (m .j - 1) (omega arith) .low)
 
 loop2-less : tie.Need-loop2-less Inv-loop μ-loop Inv-loop2 μ-loop2 Inv-pairs μ-pairs
 loop2-less c =
-    let m = c .before .before .before .before .loop2 in
-    omega (arith, c .before .before .before .before .before .before .before .before .pairs .inv .2 .links (m .j - 1) (omega arith) .low)
+    let m = c .before .before .before .before .before .loop2 in
+    omega (arith, c .before .before .before .before .before .before .before .before .before .pairs .inv .2 .links (m .j - 1) (omega arith) .low)
 
 loop2-again : tie.Need-loop2-again Inv-loop μ-loop Inv-loop2 μ-loop2 Inv-pairs μ-pairs
 loop2-again c =
-    let a = c .before .before .before .before .before .before .before .before .before .before .before .before .before .args in
-    let l = c .before .before .before .before .before .before .before .before .before .before .loop in
-    let m = c .before .before .before .before .loop2 in
-    let e = c .before .before .before .before .before .before .entry-in .result in
-    let n : fromEnd (a .part .now) (a .k) (m .j - 1) ≡ e .client → ⊥ = λ z. c .if1 .left (c .before .before .read-u642 .ensures ∙ z) in
-    (m .inv .0, sought-next (fromEnd (a .part .now) (a .k)) (l .first) (l .next) (a .k) (c .before .before .before .before .before .before .before .before .pairs .inv .2) (e .client) (m .j) (c .before .before .before .loop2-test .taken) (m .inv .1) n)
+    let a = c .before .before .before .before .before .before .before .before .before .before .before .before .before .before .args in
+    let l = c .before .before .before .before .before .before .before .before .before .before .before .loop in
+    let m = c .before .before .before .before .before .loop2 in
+    let e = c .before .before .before .before .before .before .before .entry-in .result in
+    let n : fromEnd (a .part .now) (a .k) (m .j - 1) ≡ e .client → ⊥ = λ z. c .if2 .left (c .before .before .read-u642 .ensures ∙ z) in
+    (m .inv .0, sought-next (fromEnd (a .part .now) (a .k)) (l .first) (l .next) (a .k) (c .before .before .before .before .before .before .before .before .before .pairs .inv .2) (e .client) (m .j) (c .before .before .before .before .loop2-test .taken) (m .inv .1) n)
 
 pairs-again : tie.Need-pairs-again Inv-loop μ-loop Inv-loop2 μ-loop2 Inv-pairs μ-pairs
 unfolding _and_
@@ -109,27 +112,27 @@ pairs-again c =
     (λ w. let z : m .j ≡ 0 = omega arith in follows-none (x .result) (a .k) (a .part .now) (rw z at none))
     (λ w.
     let e : m .j ≡ m .j - 1 + 1 = omega (arith, w .0 .taken) in
-    follows-over (x .result) (a .k) (a .part .now) (m .j - 1) (rises-back (a .k) (a .part .now) (s .pre .1 .1 .1 .1)) (omega (arith, w .0 .taken)) (rw (← e) none) (sym (w .1 .ensures) ∙ w .3 .taken) (rw (← w .4 .ensures) (w .6 .left)))
+    follows-over (x .result) (a .k) (a .part .now) (m .j - 1) (rises-back (a .k) (a .part .now) (s .pre .1 .1 .1 .1)) (omega (arith, w .0 .taken)) (rw (← e) none) (sym (w .2 .ensures) ∙ w .4 .taken) (rw (← w .5 .ensures) (w .7 .left)))
     (c .loop2-test .came) in
     (omega arith, m .inv .0, p .inv .2, p .inv .3 ∙ none-next (a .n) (a .log .now) (p .i) (x .result) (entries (a .k) (a .part .now)) (c .before .before .before .before .pairs-test .taken) (x .ensures) ∙ rw f)
 
-returns : tie.Need-returns Inv-loop μ-loop Inv-loop2 μ-loop2 Inv-pairs μ-pairs
+returns-2 : tie.Need-returns-2 Inv-loop μ-loop Inv-loop2 μ-loop2 Inv-pairs μ-pairs
 unfolding noneBreaks
-returns c =
+returns-2 c =
     let p = c .before .pairs in
     let a = c .before .before .before .before .before .before .args in
     let e : p .i ≡ a .n = omega arith in
     p .inv .1 ∙ sym (p .inv .3 ∙ rw (e, from-end))
 
-returns-2 : tie.Need-returns-2 Inv-loop μ-loop Inv-loop2 μ-loop2 Inv-pairs μ-pairs
+returns-3 : tie.Need-returns-3 Inv-loop μ-loop Inv-loop2 μ-loop2 Inv-pairs μ-pairs
 unfolding _and_
-returns-2 c =
-    let a = c .before .before .before .before .before .before .before .before .before .before .before .before .before .before .before .before .args in
-    let p = c .before .before .before .before .before .before .before .before .before .before .before .pairs in
-    let m = c .before .before .before .before .before .before .before .loop2 in
-    let x = c .before .before .before .before .before .before .before .before .before .entry-in in
-    let f = follows-broken (x .result) (a .k) (a .part .now) (a .k - 1 - (m .j - 1)) (omega arith) (sym (c .before .before .before .before .before .read-u642 .ensures) ∙ c .before .before .before .if1 .taken) (rw (← c .before .before .read-u643 .ensures) (c .if2 .taken)) in
-    sym (p .inv .3 ∙ none-next (a .n) (a .log .now) (p .i) (x .result) (entries (a .k) (a .part .now)) (c .before .before .before .before .before .before .before .before .before .before .pairs-test .taken) (x .ensures) ∙ rw f)
+returns-3 c =
+    let a = c .before .before .before .before .before .before .before .before .before .before .before .before .before .before .before .before .before .args in
+    let p = c .before .before .before .before .before .before .before .before .before .before .before .before .pairs in
+    let m = c .before .before .before .before .before .before .before .before .loop2 in
+    let x = c .before .before .before .before .before .before .before .before .before .before .entry-in in
+    let f = follows-broken (x .result) (a .k) (a .part .now) (a .k - 1 - (m .j - 1)) (omega arith) (sym (c .before .before .before .before .before .read-u642 .ensures) ∙ c .before .before .before .if2 .taken) (rw (← c .before .before .read-u643 .ensures) (c .if3 .taken)) in
+    sym (p .inv .3 ∙ none-next (a .n) (a .log .now) (p .i) (x .result) (entries (a .k) (a .part .now)) (c .before .before .before .before .before .before .before .before .before .before .before .pairs-test .taken) (x .ensures) ∙ rw f)
 
 pub none-by-chain-spec : {M : Type 1} → statement M
 none-by-chain-spec =
@@ -157,12 +160,16 @@ none-by-chain-spec =
     (λ c. omega arith)
     (λ c. omega arith)
     loop-again
+    (λ c. omega arith)
     pairs-holds
     entry-in-requires
     (λ c. omega arith)
     (λ c. omega arith)
     cast-j
     loop2-holds
+    (λ c κs. omega arith)
+    returns
+    (λ c. omega arith)
     (λ c. omega arith)
     (λ c. omega arith)
     (λ c. omega arith)
@@ -178,5 +185,5 @@ none-by-chain-spec =
     (λ c. omega arith)
     (λ c. omega arith)
     pairs-again
-    returns
-    returns-2)
+    returns-2
+    returns-3)
