@@ -19,7 +19,7 @@ use lib.Seq.{drop-cons, getD-take, length-take-le}
 use borrow.Author.Tests.{eq-eqb, ne-eqb, eqb-true, le-leb, lt-leb, leb-true}
 use Rattle.numbers.specs.Words.{_and_}
 use Rattle.numbers.specs.Numbers.{over, putAt}
-use Rattle.numbers.proofs.WordLaws.{and-both, and-false}
+use Rattle.numbers.proofs.WordLaws.{and-both, and-false, and-yes}
 use Rattle.numbers.proofs.RunLaws.{put-part, put-length}
 use Rattle.numbers.proofs.CellLaws.{cells-get, cells-more, cells-join, cells-front, cells-taken}
 use Rattle.entries.specs.Entries.{entryOf, encodeEntry, entries, EntryFits}
@@ -96,12 +96,8 @@ unfolding risesAfter
 after-not es fs h = and-false (noneBreaks es fs) (rising fs) h
 
 pub after-rising : (es fs : List Entry) → rising fs ≡ true → risesAfter es fs ≡ noneBreaks es fs
-unfolding risesAfter _and_
-after-rising es fs h = rw h (passes (noneBreaks es fs))
-  where
-    passes : (a : Bool) → (a and true) ≡ a
-    passes true = refl
-    passes false = refl
+unfolding risesAfter
+after-rising es fs h = rw h (and-yes (noneBreaks es fs))
 
 -- ---- two runs compared
 

@@ -11,18 +11,9 @@ use lib.ListN.{length, getD, take, drop, set, length-drop, length-append}
 use lib.Seq.{drop-cons, drop-length}
 use Rattle.numbers.specs.Numbers.{over}
 use Rattle.numbers.proofs.RunLaws.{part-rest, over-set}
+use Rattle.numbers.proofs.WordLaws.{and-false, and-yes}
 use Rattle.numbers.specs.Words.{if_then_else_, _and_}
 use Rattle.comparing.specs.Text.{placeOf, timesIn, behindWord, wordStart, firstWord, wordAt, withDigit, numberAfter, hexDigit, hexText, runText, sameBytes, byteAt, bytesIn}
-
-and-no : (b : Bool) → (b and false) ≡ false
-unfolding _and_
-and-no true = refl
-and-no false = refl
-
-and-yes : (b : Bool) → (b and true) ≡ b
-unfolding _and_
-and-yes true = refl
-and-yes false = refl
 
 -- b is the byte at place i
 pub place-here : (b : ℕ) (s : List ℕ) (i : ℕ) → i < length s → getD s i 0 ≡ b → placeOf b (drop i s) ≡ 0
@@ -100,7 +91,7 @@ unfolding sameBytes _and_
 same-lengths [] [] h = absurd (h refl)
 same-lengths [] (y ∷ ys) h = refl
 same-lengths (x ∷ xs) [] h = refl
-same-lengths (x ∷ xs) (y ∷ ys) h = rw (same-lengths xs ys (λ e. h (ap suc e))) (and-no (eqb x y))
+same-lengths (x ∷ xs) (y ∷ ys) h = rw (same-lengths xs ys (λ e. h (ap suc e))) (and-false (eqb x y) false refl)
 
 pub text-length : (s : List ℕ) → length (hexText s) ≡ 2 * length s
 unfolding hexText

@@ -15,7 +15,7 @@ use mathlib.Core.Option.{Option}
 use lib.Dec.{leb, eqb}
 use borrow.Author.Tests.{eqb-true, eqb-false, eq-eqb, ne-eqb, leb-true, leb-false, le-leb, lt-leb, not-true}
 use Rattle.numbers.specs.Words.{if_then_else_, _and_}
-use Rattle.numbers.proofs.WordLaws.{split, if-true, if-false, and-left, and-right, and-true, and-false}
+use Rattle.numbers.proofs.WordLaws.{split, if-true, if-false, and-left, and-right, and-true, and-false, and-yes}
 use Rattle.numbers.proofs.NumberLaws.{eq-or-not}
 use Rattle.entries.specs.Rising.{breaksAt, follows, rising}
 use Rattle.entries.specs.declared.Entry.{Entry}
@@ -133,12 +133,8 @@ module _ (e : Entry) where
     pub latest-lift : (es : List Entry) → Latest t es → rising es ≡ true
         → rising (es ++ (e ∷ [])) ≡ not (find t (e .client) .there and leb (e .request) (find t (e .client) .request))
     unfolding risesAfter rising follows _and_
-    latest-lift es l h = rises-after es (e ∷ []) h ∙ alone (noneBreaks es (e ∷ [])) ∙ go _ _ refl refl
+    latest-lift es l h = rises-after es (e ∷ []) h ∙ and-yes (noneBreaks es (e ∷ [])) ∙ go _ _ refl refl
       where
-        alone : (b : Bool) → (b and true) ≡ b
-        alone true = refl
-        alone false = refl
-
         go : (a b : Bool) → find t (e .client) .there ≡ a → leb (e .request) (find t (e .client) .request) ≡ b
             → noneBreaks es (e ∷ []) ≡ not (a and b)
         go true true p q = stuck es (find t (e .client) .request) (l .among (e .client) p) (leb-true _ _ q)
