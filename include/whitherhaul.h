@@ -461,6 +461,13 @@ struct whitherhaul_replica {
     struct whitherhaul_counts counts;
 };
 
+/* A run as two arguments, and in the calls' order those that follow the state of a replica. */
+#define WHITHERHAUL_RUN(run) (run).bytes, (run).length
+#define WHITHERHAUL_RUNS(r)                                                                     \
+    WHITHERHAUL_RUN((r)->log), WHITHERHAUL_RUN((r)->results), WHITHERHAUL_RUN((r)->totals),     \
+        WHITHERHAUL_RUN((r)->acks), WHITHERHAUL_RUN((r)->stored), WHITHERHAUL_RUN((r)->table),  \
+        WHITHERHAUL_RUN((r)->old)
+
 /* How long a replica's block is, for numbers inside the sizes: for blocks in static memory. */
 #define WHITHERHAUL_REPLICA_BYTES(n, L, M)                                                      \
     (WHITHERHAUL_STATE_BYTES + WHITHERHAUL_LOG_BYTES(L) + WHITHERHAUL_RESULTS_BYTES(L) +        \
@@ -532,15 +539,8 @@ static inline uint8_t whitherhaul_replica_new(struct whitherhaul_replica *r, uin
     if (bytes == 0 || length < bytes)
         return WHITHERHAUL_REFUSED_SIZES;
     made = whitherhaul_lay_out(n, id, timeout, room, members, memory);
-    number = whitherhaul_create(n, id, timeout, room, members,
-                                made.state.bytes, made.state.length,
-                                made.log.bytes, made.log.length,
-                                made.results.bytes, made.results.length,
-                                made.totals.bytes, made.totals.length,
-                                made.acks.bytes, made.acks.length,
-                                made.stored.bytes, made.stored.length,
-                                made.table.bytes, made.table.length,
-                                made.old.bytes, made.old.length);
+    number = whitherhaul_create(n, id, timeout, room, members, WHITHERHAUL_RUN(made.state),
+                                WHITHERHAUL_RUNS(&made));
     if (number == WHITHERHAUL_DONE)
         *r = made;
     return number;
@@ -562,15 +562,8 @@ static inline uint8_t whitherhaul_replica_recover(struct whitherhaul_replica *r,
         return WHITHERHAUL_REFUSED_SIZES;
     made = whitherhaul_lay_out(n, id, timeout, room, members, memory);
     number = whitherhaul_recover(n, id, timeout, room, members, view, nonce,
-                                 made.state.bytes, made.state.length,
-                                 made.log.bytes, made.log.length,
-                                 made.results.bytes, made.results.length,
-                                 made.totals.bytes, made.totals.length,
-                                 made.acks.bytes, made.acks.length,
-                                 made.stored.bytes, made.stored.length,
-                                 made.table.bytes, made.table.length,
-                                 made.old.bytes, made.old.length,
-                                 made.out.bytes, made.out.length, &made.counts);
+                                 WHITHERHAUL_RUN(made.state), WHITHERHAUL_RUNS(&made),
+                                 WHITHERHAUL_RUN(made.out), &made.counts);
     if (number == WHITHERHAUL_DONE)
         *r = made;
     return number;
@@ -583,31 +576,15 @@ static inline uint8_t whitherhaul_replica_recover(struct whitherhaul_replica *r,
 static inline uint8_t whitherhaul_replica_on_message(struct whitherhaul_replica *r,
                                                      const uint8_t *frame, size_t length)
 {
-    return whitherhaul_on_message(r->state.bytes, r->state.length, frame, length,
-                                  r->log.bytes, r->log.length,
-                                  r->results.bytes, r->results.length,
-                                  r->totals.bytes, r->totals.length,
-                                  r->acks.bytes, r->acks.length,
-                                  r->stored.bytes, r->stored.length,
-                                  r->table.bytes, r->table.length,
-                                  r->old.bytes, r->old.length,
-                                  r->out.bytes, r->out.length,
-                                  r->reps.bytes, r->reps.length, &r->counts);
+    return whitherhaul_on_message(WHITHERHAUL_RUN(r->state), frame, length, WHITHERHAUL_RUNS(r),
+                                  WHITHERHAUL_RUN(r->out), WHITHERHAUL_RUN(r->reps), &r->counts);
 }
 
 /* Time has passed: a tick, to be called at a regular interval. 0 to 8. */
 static inline uint8_t whitherhaul_replica_on_idle(struct whitherhaul_replica *r)
 {
-    return whitherhaul_on_idle(r->state.bytes, r->state.length,
-                               r->log.bytes, r->log.length,
-                               r->results.bytes, r->results.length,
-                               r->totals.bytes, r->totals.length,
-                               r->acks.bytes, r->acks.length,
-                               r->stored.bytes, r->stored.length,
-                               r->table.bytes, r->table.length,
-                               r->old.bytes, r->old.length,
-                               r->out.bytes, r->out.length,
-                               r->reps.bytes, r->reps.length, &r->counts);
+    return whitherhaul_on_idle(WHITHERHAUL_RUN(r->state), WHITHERHAUL_RUNS(r),
+                               WHITHERHAUL_RUN(r->out), WHITHERHAUL_RUN(r->reps), &r->counts);
 }
 
 /* What a replica is doing: WHITHERHAUL_NORMAL .. */

@@ -66,7 +66,7 @@ static int same(const struct owned *before, const struct owned *o)
     return memcmp(before, o, sizeof *o) == 0;
 }
 
-/* The runs of a replica as arguments of the calls that the helpers are written over. */
+/* The runs of a replica as arguments of the calls, said apart from the helpers' own list. */
 #define RUN(run) (run).bytes, (run).length
 #define RUNS(r)                                                                              \
     RUN((r)->state), RUN((r)->log), RUN((r)->results), RUN((r)->totals), RUN((r)->acks),     \
