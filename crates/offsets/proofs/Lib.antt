@@ -1,0 +1,5 @@
+pub mod RuleLaws
+pub mod FieldLaws
+pub mod PlaceLaws
+pub mod ReadLaws
+pub mod OffsetLaws
