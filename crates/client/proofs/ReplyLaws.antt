@@ -6,7 +6,7 @@
 --     accepted, malformed-back, malformed-exactly     malformed exactly where `replyOk` is false
 --     read-number, reads      the number and values of a read are those that the bytes give, so that who answers the definition keeps the whole promise
 -- Assumes nothing.
-use mathlib.Core.Path.{_≡_, refl, sym, ap, _∙_}
+use mathlib.Core.Path.{_≡_, refl, sym, ap, _∙_, subst}
 use mathlib.Core.Bool.{Bool, true, false}
 use mathlib.Core.List.{List, [], _∷_}
 use mathlib.Core.Logic.{⊎-elim}
@@ -20,6 +20,8 @@ use Rattle.numbers.specs.Numbers.{num, big, within}
 use Rattle.numbers.specs.declared.View.{View}
 use Rattle.numbers.proofs.WordLaws.{and-both, if-true, if-false}
 use Rattle.numbers.proofs.NumberLaws.{be-big, within-both, both-within, eq-or-not}
+use Rattle.offsets.specs.Offsets.{Points}
+use Rattle.offsets.proofs.OffsetLaws.{points, unpointed}
 use Rattle.frames.specs.Kinds.{kindOf}
 use Rattle.frames.specs.Numbered.{numbered, inTurn}
 use Rattle.writers.specs.Writers.{header, reply}
@@ -27,7 +29,8 @@ use Rattle.client.specs.declared.ReplyOutcome.{ReplyOutcome}
 use Rattle.client.specs.declared.ReplyOutcome.the-variants.{Fee, Refund, Ask, NoMember, PastLimit, PastTotal}
 use Rattle.client.specs.declared.Read.{Read}
 use Rattle.client.specs.declared.Read.the-variants.{Reply, Malformed}
-use Rattle.client.specs.Replies.{outcomeNumber, outcomeOf, replyOk, replySaid, readReply, readNumber, readNumbers, Reads}
+use Rattle.client.proofs.PlaceLaws.{reply-rules}
+use Rattle.client.specs.Replies.{outcomeNumber, outcomeOf, replyOk, replyRule, replyOffset, replySaid, readReply, readNumber, readOffset, readNumbers, Reads}
 
 pub reply-long : (s : List ℕ) → replyOk s ≡ true → length s ≡ 36
 unfolding replyOk
@@ -69,11 +72,11 @@ outcome-forth k l h =
 
 pub accepted : (s : List ℕ) → replyOk s ≡ true → readReply s ≡ replySaid s
 unfolding readReply
-accepted s h = if-true (replyOk s) (replySaid s) Malformed h
+accepted s h = if-true (replyOk s) (replySaid s) (Malformed (replyOffset s)) h
 
-pub malformed-back : (s : List ℕ) → replyOk s ≡ false → readReply s ≡ Malformed
+pub malformed-back : (s : List ℕ) → replyOk s ≡ false → readReply s ≡ Malformed (replyOffset s)
 unfolding readReply
-malformed-back s h = if-false (replyOk s) (replySaid s) Malformed h
+malformed-back s h = if-false (replyOk s) (replySaid s) (Malformed (replyOffset s)) h
 
 pub malformed-exactly : (s : List ℕ) → readNumber (readReply s) .number ≡ 2 → replyOk s ≡ false
 malformed-exactly s h = go (replyOk s) refl
@@ -110,8 +113,19 @@ read-number s = go (replyOk s) refl
         ∙ sym (if-true (replyOk s) _ _ e)
     go false e = ap readNumber (malformed-back s e) ∙ sym (if-false (replyOk s) _ _ e)
 
+-- 2 comes with the offset of the first wrong byte, 0 with 0
+read-points : (s : List ℕ) → Points replyOk s (readNumber (readReply s) .number) (readOffset (readReply s))
+unfolding replyOffset
+read-points s = go (replyOk s) refl
+  where
+    go : (b : Bool) → replyOk s ≡ b → Points replyOk s (readNumber (readReply s) .number) (readOffset (readReply s))
+    go true e =
+        subst (λ (r : Read). Points replyOk s (readNumber r .number) (readOffset r)) (sym (accepted s e)) (unpointed replyOk s {k = 0} (λ q. omega (arith, q)))
+    go false e =
+        subst (λ (r : Read). Points replyOk s (readNumber r .number) (readOffset r)) (sym (malformed-back s e)) (points replyOk s replyRule reply-rules)
+
 pub reads : (s : List ℕ) (r : Read) → r ≡ readReply s → Reads s r
-reads s r e = record { exact = e; number = ap readNumber e ∙ read-number s }
+reads s r e = record { exact = e; number = ap readNumber e ∙ read-number s; points = rw e (read-points s) }
 
 -- ---- what is written is read
 

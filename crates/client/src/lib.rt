@@ -9,6 +9,8 @@ ghost use Rattle.numbers.specs.Lending.{was, last};
 use entries::Entry;
 use numbers::View;
 
+mod offset; // which byte of a malformed Reply is wrong
+
 // The request that waits for its reply, whole, so that it can be sent again.
 pub enum Pending {
     Nothing,
@@ -298,7 +300,9 @@ pub enum Read {
         outcome: ReplyOutcome,
         total: u64,
     },
-    Malformed,
+    Malformed {
+        offset: usize,
+    },
 }
 
 // Any number but 1 to 5 is read as PastTotal.
@@ -337,12 +341,14 @@ fn reply_ok(frame: &[u8]) -> bool
     numbers::within(1, 6, numbers::read_u8(frame, 27) as u64)
 }
 
-// What a Reply says, or that the frame is malformed: 2.
+// What a Reply says, or that the frame is malformed, which is refusal 2, and its first wrong byte.
 pub fn read_reply(frame: &[u8]) -> Read
     ensures { λ r. ⌜ Reads (was frame) r ⌝ }
 {
     if !reply_ok(frame) {
-        return Read::Malformed;
+        return Read::Malformed {
+            offset: offset::offset(frame),
+        };
     }
     Read::Reply {
         view: numbers::read_view(frame, 7),

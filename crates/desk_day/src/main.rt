@@ -93,8 +93,9 @@ fn hear_frame(c: Client, frame: &[u8]) -> Client {
     say_frames(frame, frame.len());
     text::say(b"\n");
     match client::read_reply(frame) {
-        Read::Malformed => {
-            text::say(b"reply: malformed\n");
+        Read::Malformed { offset } => {
+            text::labelled(b"reply: malformed at byte ", offset as u64);
+            text::say(b"\n");
             c
         }
         Read::Reply {

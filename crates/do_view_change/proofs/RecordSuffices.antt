@@ -26,8 +26,8 @@ use Rattle.reports.proofs.JudgeLaws.{begin-lies}
 use Rattle.reports.proofs.ReportStays.{row-ok, set-ok, rows-fit, begin-keeps}
 use Rattle.steps.specs.Steps.{Spoke}
 use Rattle.steps.specs.Recorded.{Recorded, Gathering}
-use Rattle.steps.specs.Areas.{outLength, Suffices}
-use Rattle.steps.proofs.AreaLaws.{both-fit, each-fits, others, done, no-room, no-reply-room}
+use Rattle.steps.specs.Areas.{outLength}
+use Rattle.steps.proofs.AreaLaws.{Answers, both-fit, each-fits, later, done, no-room, no-reply-room}
 use Rattle.state.proofs.SoundLaws.{none-gathered}
 use Rattle.steps.proofs.Held.{Held, as-it-was, moves}
 use Rattle.view_change.proofs.ChangeSuffices.{sent-start-view-suffices}
@@ -64,7 +64,7 @@ module _ (t : Replica) (ok : setupOk (t .setup) ≡ true) (first : Bool) where
 
 module _ (s t : Replica) (m : Memory) (ht : Held (t .setup) t (m .runs)) (stored-long : length (m .stored) ≡ storedLength (t .setup)) where
   abbrev pub Enough : Recorded → Type 0
-  Enough d = Suffices (t .setup) (length (m .out)) (length (m .reps)) (d .answer .code)
+  Enough d = Answers (t .setup) (length (m .out)) (length (m .reps)) (d .answer .code)
 
   -- replica r tells the report d, whose log is in `fresh`
   module _ (first : Bool) (r : ℕ) (d : Report) (fresh : List ℕ) (lt : r < t .setup .n) (there : d .there ≡ true)
@@ -95,7 +95,7 @@ module _ (s t : Replica) (m : Memory) (ht : Held (t .setup) t (m .runs)) (stored
     judged-suffices : (j : Judged) → verdict ≡ j → D (decidedBy j t first (length (m .out)) (length (m .reps)))
     unfolding decidedBy byDecision keptBy startedBy beginStep begunIn
     judged-suffices Wait e = split D _ _ _ (no-room (firstLength first t) (first-fits t (ht .sound .sized) first)) (λ _. done)
-    judged-suffices Refuse e = others (omega arith)
+    judged-suffices Refuse e = later (omega arith) (omega arith)
     judged-suffices (Begin b g) e =
         let k = begin-short b g e in
         split D _ _ _ (no-room _ (views-fit t (ht .sound .sized) first (b .report .op) (k .0))) λ _.
@@ -114,14 +114,14 @@ module _ (s t : Replica) (m : Memory) (ht : Held (t .setup) t (m .runs)) (stored
       split Enough _ _ _
       (λ _. recorded-suffices first (t .setup .id) (ownReport t) (m .runs .log) (sized (t .setup) (a .sized) .own) refl (a .op-le) (a .commit-le) (omega (arith, a .op-le, a .log-long)))
       (λ _.
-      split (λ (d : Spoke). Suffices (t .setup) (length (m .out)) (length (m .reps)) (d .answer .code)) _ _ _
+      split (λ (d : Spoke). Answers (t .setup) (length (m .out)) (length (m .reps)) (d .answer .code)) _ _ _
       (no-room _ (report-fits t (a .sized) first (a .op-le))) (λ _. done))
 
 -- ---- DoViewChange
 
 module _ (s : Replica) (m : Memory) (h : Gathering s m) where
   abbrev EnoughHere : Recorded → Type 0
-  EnoughHere d = Suffices (s .setup) (length (m .out)) (length (m .reps)) (d .answer .code)
+  EnoughHere d = Answers (s .setup) (length (m .out)) (length (m .reps)) (d .answer .code)
 
   pub do-view-change-suffices : (v : View) (r : ℕ) (l : View) (o c : Op) (part : List ℕ)
       → (r < s .setup .n) × ((o .0 ≤ s .setup .room) × ((c .0 ≤ o .0) × (32 * o .0 ≤ length part)))

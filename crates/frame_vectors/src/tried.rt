@@ -35,7 +35,7 @@ fn kind_of(m: Message) -> u8 {
 // The kind of the message that `parse` reads, 0: malformed.
 fn kind_in(frame: &[u8]) -> u8 {
     match frames::parse(frame) {
-        Parsed::Malformed => 0,
+        Parsed::Malformed { .. } => 0,
         Parsed::Frame { to: _, message } => kind_of(message),
     }
 }
@@ -43,7 +43,7 @@ fn kind_in(frame: &[u8]) -> u8 {
 fn checked(frame: &[u8]) -> u8 {
     match frames::check(setup(), frame) {
         Checked::Passed { .. } => 0,
-        Checked::Refused { number } => number,
+        Checked::Refused { number, offset: _ } => number,
     }
 }
 

@@ -4,3 +4,8 @@ pub mod RefusalLaws
 pub mod NumberedLaws
 pub mod TableLaws
 pub mod OneAnswer
+pub mod EntryPlaces
+pub mod LiveLaws
+pub mod BodyLaws
+pub mod PointLaws
+pub mod ReaderLaws

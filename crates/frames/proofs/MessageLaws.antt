@@ -19,6 +19,7 @@ use Rattle.numbers.specs.declared.Op.{Op}
 use Rattle.numbers.proofs.WordLaws.{if-true, if-false}
 use Rattle.numbers.proofs.NumberLaws.{within-both}
 use Rattle.frames.specs.Kinds.{roomOf, countOf, wellFormed}
+use Rattle.frames.specs.FrameRules.{offsetOf}
 use Rattle.frames.specs.Messages.{responseState, messageOf, parseFrame, stateRow, carriedOf, carriedBytes}
 use Rattle.frames.specs.Numbered.{parsedNumber}
 use Rattle.frames.specs.declared.RecoveryState.{RecoveryState}
@@ -121,11 +122,11 @@ module _ (m : Message) (s : List ℕ) (at : ℕ) (e : at ≡ carriedOf m .start)
 
 pub accepted : (s : List ℕ) → wellFormed s ≡ true → parseFrame s ≡ Frame (num 1 6 s) (messageOf (num 1 5 s) s)
 unfolding parseFrame
-accepted s h = if-true (wellFormed s) (Frame (num 1 6 s) (messageOf (num 1 5 s) s)) Malformed h
+accepted s h = if-true (wellFormed s) (Frame (num 1 6 s) (messageOf (num 1 5 s) s)) (Malformed (offsetOf s)) h
 
-pub malformed-back : (s : List ℕ) → wellFormed s ≡ false → parseFrame s ≡ Malformed
+pub malformed-back : (s : List ℕ) → wellFormed s ≡ false → parseFrame s ≡ Malformed (offsetOf s)
 unfolding parseFrame
-malformed-back s h = if-false (wellFormed s) (Frame (num 1 6 s) (messageOf (num 1 5 s) s)) Malformed h
+malformed-back s h = if-false (wellFormed s) (Frame (num 1 6 s) (messageOf (num 1 5 s) s)) (Malformed (offsetOf s)) h
 
 pub malformed-exactly : (s : List ℕ) → parsedNumber (parseFrame s) .number ≡ 2 → wellFormed s ≡ false
 malformed-exactly s h = go (wellFormed s) refl

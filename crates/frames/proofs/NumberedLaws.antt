@@ -31,6 +31,7 @@ use Rattle.frames.specs.declared.Checked.{Checked}
 use Rattle.frames.specs.declared.Checked.the-variants.{Passed, Refused}
 use Rattle.frames.proofs.KindLaws.{each-kind, well-formed}
 use Rattle.frames.proofs.MessageLaws.{accepted, malformed-back}
+use Rattle.frames.proofs.PointLaws.{parsed-points, checked-points}
 
 -- ---- the fields
 
@@ -136,7 +137,7 @@ parsed-number s = go (wellFormed s) refl
 verdict-number : (k : ℕ) (m : Message) → checkedNumber (verdict k m) ≡ numbered k (if eqb k 0 then fieldsOf m else [])
 unfolding verdict
 verdict-number k m =
-    split (λ (x : Checked). checkedNumber x ≡ numbered k (if eqb k 0 then fieldsOf m else [])) (eqb k 0) (Passed m) (Refused k)
+    split (λ (x : Checked). checkedNumber x ≡ numbered k (if eqb k 0 then fieldsOf m else [])) (eqb k 0) (Passed m) (Refused k 0)
     (λ e. ap (λ (j : ℕ). numbered j (fieldsOf m)) (sym (eqb-true k 0 e)) ∙ ap (numbered k) (sym (if-true (eqb k 0) _ _ e)))
     (λ e. ap (numbered k) (sym (if-false (eqb k 0) _ _ e)))
 
@@ -171,7 +172,7 @@ module _ (u : Setup) (s : List ℕ) where
 -- ---- the promises
 
 pub parses : (s : List ℕ) (r : Parsed) → r ≡ parseFrame s → Parses s r
-parses s r e = record { exact = e; number = ap parsedNumber e ∙ parsed-number s }
+parses s r e = record { exact = e; number = ap parsedNumber e ∙ parsed-number s; points = rw e (parsed-points s) }
 
 pub checks : (u : Setup) (s : List ℕ) (r : Checked) → r ≡ checkFrame u s → Checks u s r
-checks u s r e = record { exact = e; number = ap checkedNumber e ∙ checked-number u s }
+checks u s r e = record { exact = e; number = ap checkedNumber e ∙ checked-number u s; points = rw e (checked-points u s) }

@@ -73,12 +73,12 @@ pub record Fit (u : Setup) (s : List ℕ) (m : Message) : Type 0 where
 verdict-passed : (k : ℕ) (x m : Message) → verdict k x ≡ Passed m → (k ≡ 0) × (x ≡ m)
 unfolding verdict
 verdict-passed k x m =
-    split (λ (v : Checked). v ≡ Passed m → (k ≡ 0) × (x ≡ m)) (eqb k 0) (Passed x) (Refused k)
+    split (λ (v : Checked). v ≡ Passed m → (k ≡ 0) × (x ≡ m)) (eqb k 0) (Passed x) (Refused k 0)
     (λ b e. (eqb-true k 0 b, cc e)) (λ b e. absurd (eqb-false k 0 b (ap (λ (x : Checked). checkedNumber x .number) e)))
 
 passed-by : (u : Setup) (s : List ℕ) (m : Message) (p : Parsed) → parseFrame s ≡ p → checkParsed u s p ≡ Passed m → Fit u s m
 unfolding checkParsed
-passed-by u s m Malformed q e = absurd (omega (arith, ap (λ (x : Checked). checkedNumber x .number) e))
+passed-by u s m (Malformed p) q e = absurd (omega (arith, ap (λ (x : Checked). checkedNumber x .number) e))
 passed-by u s m (Frame to x) q e =
     let v = verdict-passed (refusalOf u to (carriedOf x) s) x m e in
     let f = rw (v .1) at (unrefused u to (carriedOf x) s (v .0)) in
@@ -108,19 +108,19 @@ refusal-number u to x s =
     split (λ (k : ℕ). (k ≡ 0 → ⊥) → Listed k) _ 5 _ (λ b n. inr (inr (inr (inl refl)))) (λ b.
     split (λ (k : ℕ). (k ≡ 0 → ⊥) → Listed k) _ 6 0 (λ b n. inr (inr (inr (inr refl)))) (λ b n. absurd (n refl)))))
 
-verdict-refused : (r k : ℕ) (x : Message) → verdict r x ≡ Refused k → (r ≡ k) × (r ≡ 0 → ⊥)
+verdict-refused : (r k p : ℕ) (x : Message) → verdict r x ≡ Refused k p → (r ≡ k) × (r ≡ 0 → ⊥)
 unfolding verdict
-verdict-refused r k x =
-    split (λ (v : Checked). v ≡ Refused k → (r ≡ k) × (r ≡ 0 → ⊥)) (eqb r 0) (Passed x) (Refused r)
+verdict-refused r k p x =
+    split (λ (v : Checked). v ≡ Refused k p → (r ≡ k) × (r ≡ 0 → ⊥)) (eqb r 0) (Passed x) (Refused r 0)
     (λ b e. absurd (let z : _≡_ {A = ℕ} 0 1 = cc e in omega arith)) (λ b e. (ap (λ (x : Checked). checkedNumber x .number) e, eqb-false r 0 b))
 
-refused-by : (u : Setup) (s : List ℕ) (k : ℕ) (p : Parsed) → checkParsed u s p ≡ Refused k → Listed k
+refused-by : (u : Setup) (s : List ℕ) (k q : ℕ) (p : Parsed) → checkParsed u s p ≡ Refused k q → Listed k
 unfolding checkParsed
-refused-by u s k Malformed e = inl (sym (ap (λ (x : Checked). checkedNumber x .number) e))
-refused-by u s k (Frame to x) e =
-    let v = verdict-refused (refusalOf u to (carriedOf x) s) k x e in
+refused-by u s k q (Malformed p) e = inl (sym (ap (λ (x : Checked). checkedNumber x .number) e))
+refused-by u s k q (Frame to x) e =
+    let v = verdict-refused (refusalOf u to (carriedOf x) s) k q x e in
     rw (v .0) at (refusal-number u to (carriedOf x) s (v .1))
 
-pub refused-number : (u : Setup) (s : List ℕ) (k : ℕ) → checkFrame u s ≡ Refused k → Listed k
+pub refused-number : (u : Setup) (s : List ℕ) (k q : ℕ) → checkFrame u s ≡ Refused k q → Listed k
 unfolding checkFrame
-refused-number u s k h = refused-by u s k (parseFrame s) h
+refused-number u s k q h = refused-by u s k q (parseFrame s) h

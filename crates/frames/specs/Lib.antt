@@ -1,4 +1,5 @@
 pub mod Kinds
+pub mod FrameRules
 pub mod Messages
 pub mod Refusals
 pub mod Numbered

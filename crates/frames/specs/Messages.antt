@@ -9,6 +9,7 @@ use Rattle.numbers.specs.Numbers.{num, viewAt, opAt}
 use Rattle.numbers.specs.declared.Op.{Op}
 use Rattle.entries.specs.Entries.{entryOf}
 use Rattle.frames.specs.Kinds.{kindOf, fieldsEnd, responseMark, stateEnd, wellFormed}
+use Rattle.frames.specs.FrameRules.{offsetOf}
 use Rattle.frames.specs.declared.RecoveryState.{RecoveryState}
 use Rattle.frames.specs.declared.RecoveryState.the-variants.{Absent, Present}
 use Rattle.frames.specs.declared.Message.{Message}
@@ -36,9 +37,9 @@ messageOf k s =
     if eqb k 10 then Recovery (num 1 7 s) (num 8 8 s) (viewAt 16 s) else
     RecoveryResponse (viewAt 7 s) (num 8 11 s) (num 1 19 s) (responseState s)
 
--- addressee and message, or refusal 2
+-- addressee and message, or refusal 2 with the offset of the first wrong byte
 unfoldable pub parseFrame : List ℕ → Parsed
-parseFrame s = if wellFormed s then Frame (num 1 6 s) (messageOf (kindOf s) s) else Malformed
+parseFrame s = if wellFormed s then Frame (num 1 6 s) (messageOf (kindOf s) s) else Malformed (offsetOf s)
 
 abbrev pub noOp : Op
 noOp = record { 0 = 0 }

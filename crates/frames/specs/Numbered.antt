@@ -13,6 +13,7 @@ use Rattle.entries.specs.Entries.{entries}
 use Rattle.entries.specs.Rising.{rising}
 use Rattle.entries.specs.declared.Entry.{Entry}
 use Rattle.config.specs.declared.Setup.{Setup}
+use Rattle.offsets.specs.Offsets.{Points}
 use Rattle.frames.specs.Kinds.{kindOf, responseMark, roomOf, countOf, wellFormed}
 use Rattle.frames.specs.Messages.{parseFrame}
 use Rattle.frames.specs.Refusals.{checkFrame}
@@ -60,12 +61,21 @@ fieldsOf (RecoveryResponse v x r t) = 11 ∷ v .0 ∷ x ∷ r ∷ stateValues t
 -- 0 with the addressee and the message, or refusal 2
 abbrev pub parsedNumber : Parsed → Numbered
 parsedNumber (Frame to m) = numbered 0 (to ∷ fieldsOf m)
-parsedNumber Malformed = numbered 2 []
+parsedNumber (Malformed p) = numbered 2 []
 
 -- 0 with the message, or the refusal
 abbrev pub checkedNumber : Checked → Numbered
 checkedNumber (Passed m) = numbered 0 (fieldsOf m)
-checkedNumber (Refused k) = numbered k []
+checkedNumber (Refused k p) = numbered k []
+
+-- the offset that comes with it
+abbrev pub parsedOffset : Parsed → ℕ
+parsedOffset (Frame to m) = 0
+parsedOffset (Malformed p) = p
+
+abbrev pub checkedOffset : Checked → ℕ
+checkedOffset (Passed m) = 0
+checkedOffset (Refused k p) = p
 
 -- ---- by the frame's bytes
 
@@ -142,12 +152,14 @@ parseNumbers s = if wellFormed s then numbered 0 (num 1 6 s ∷ fieldsIn (kindOf
 unfoldable pub checkNumbers : Setup → List ℕ → Numbered
 checkNumbers u s = numbered (earnedBy u s) (if eqb (earnedBy u s) 0 then fieldsIn (kindOf s) s else [])
 
--- ---- what `parse` and `check` promise: the enum, and its number and values
+-- ---- what `parse` and `check` promise: the enum, its number and values, and where a malformed frame is wrong
 
 pub record Parses (s : List ℕ) (r : Parsed) : Type 0 where
   pub exact : r ≡ parseFrame s
   pub number : parsedNumber r ≡ parseNumbers s
+  pub points : Points wellFormed s (parsedNumber r .number) (parsedOffset r)
 
 pub record Checks (u : Setup) (s : List ℕ) (r : Checked) : Type 0 where
   pub exact : r ≡ checkFrame u s
   pub number : checkedNumber r ≡ checkNumbers u s
+  pub points : Points wellFormed s (checkedNumber r .number) (checkedOffset r)

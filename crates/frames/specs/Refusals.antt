@@ -30,12 +30,12 @@ refusalOf u to x s =
     if not (rising (wholeLog x s)) then 6 else
     0
 
--- a refusal by its number, or the message
+-- a refusal of a well-formed frame by its number, or the message
 unfoldable pub verdict : ℕ → Message → Checked
-verdict k m = if eqb k 0 then Passed m else Refused k
+verdict k m = if eqb k 0 then Passed m else Refused k 0
 
 unfoldable pub checkParsed : Setup → List ℕ → Parsed → Checked
-checkParsed u s Malformed = Refused 2
+checkParsed u s (Malformed p) = Refused 2 p
 checkParsed u s (Frame to m) = verdict (refusalOf u to (carriedOf m) s) m
 
 unfoldable pub checkFrame : Setup → List ℕ → Checked

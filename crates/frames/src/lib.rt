@@ -17,6 +17,7 @@ mod shape; // when a frame is well formed
 mod say; // what a well-formed frame of each kind says
 mod row; // the numbers of a message that are judged
 mod table; // which kinds a status looks at
+mod offset; // which byte of a malformed frame is wrong
 
 // What a replica is doing.
 pub enum Status {
@@ -102,14 +103,16 @@ pub struct Carried {
     pub whole: u32,
 }
 
+// Of a malformed frame the offset of its first wrong byte, or its length where only bytes are missing.
 pub enum Parsed {
     Frame { to: u8, message: Message },
-    Malformed,
+    Malformed { offset: usize },
 }
 
+// The offset is that of a malformed frame, which is refusal 2; with every other number it is 0.
 pub enum Checked {
     Passed { message: Message },
-    Refused { number: u8 },
+    Refused { number: u8, offset: usize },
 }
 
 // The kind that a frame names, whether or not it is well formed.
@@ -120,12 +123,14 @@ pub fn kind_of(frame: &[u8]) -> u8
     numbers::read_u8(frame, 5)
 }
 
-// The addressee and the message of a frame, or that it is malformed: refusal 2.
+// The addressee and the message of a frame, or that it is malformed, which is refusal 2, and its first wrong byte.
 pub fn parse(frame: &[u8]) -> Parsed
     ensures { λ r. ⌜ Parses (was frame) r ⌝ }
 {
     if !shape::well_formed(frame) {
-        return Parsed::Malformed;
+        return Parsed::Malformed {
+            offset: offset::offset(frame),
+        };
     }
     Parsed::Frame {
         to: numbers::read_u8(frame, 6),
@@ -162,13 +167,16 @@ pub fn check(u: Setup, frame: &[u8]) -> Checked
     ensures { λ r. ⌜ Checks u (was frame) r ⌝ }
 {
     match parse(frame) {
-        Parsed::Malformed => Checked::Refused { number: 2 },
+        Parsed::Malformed { offset } => Checked::Refused { number: 2, offset },
         Parsed::Frame { to, message } => {
             let k = refusal(u, to, row::carried(message), frame);
             if k == 0 {
                 return Checked::Passed { message };
             }
-            Checked::Refused { number: k }
+            Checked::Refused {
+                number: k,
+                offset: 0,
+            }
         }
     }
 }

@@ -17,8 +17,7 @@ use Rattle.client_table.specs.declared.Latest.{Latest}
 use Rattle.state.specs.declared.Replica.{Replica}
 use Rattle.steps.specs.Steps.{Spoke}
 use Rattle.steps.specs.Recorded.{Recorded, Gathering}
-use Rattle.steps.specs.Areas.{Suffices}
-use Rattle.steps.proofs.AreaLaws.{done}
+use Rattle.steps.proofs.AreaLaws.{Answers, done}
 use Rattle.book.specs.Memory.{Memory}
 use Rattle.normal.specs.Prepare.{preparedBy}
 use Rattle.transfer.specs.NewState.{partOf}
@@ -39,7 +38,7 @@ module _ (s : Replica) (m : Memory) (h : Gathering s m) where
   b = length (m .reps)
 
   abbrev Enough : Recorded → Type 0
-  Enough d = Suffices (s .setup) a b (d .answer .code)
+  Enough d = Answers (s .setup) a b (d .answer .code)
 
   -- ---- on_message
 
@@ -64,14 +63,14 @@ module _ (s : Replica) (m : Memory) (h : Gathering s m) where
       response-suffices s a b v x r t (carriedBytes (RecoveryResponse v x r t) frame) (m .runs) (m .stored)
 
   pub message-suffices : (x : Message) (latest : Latest) (frame : List ℕ) → checkFrame (s .setup) frame ≡ Passed x
-      → Suffices (s .setup) (length (m .out)) (length (m .reps)) (messageStep x s latest frame m .answer .code)
+      → Answers (s .setup) (length (m .out)) (length (m .reps)) (messageStep x s latest frame m .answer .code)
   unfolding messageStep
   message-suffices x latest frame ok = split Enough _ _ _ (λ _. handled-suffices x latest frame ok) (λ _. done)
 
   -- ---- on_idle
 
   abbrev Speaks : Spoke → Type 0
-  Speaks d = Suffices (s .setup) a b (d .answer .code)
+  Speaks d = Answers (s .setup) a b (d .answer .code)
 
   normal-suffices : Speaks (normalTick s (m .runs .log) (m .out))
   unfolding normalTick followTick
@@ -85,7 +84,7 @@ module _ (s : Replica) (m : Memory) (h : Gathering s m) where
       split Speaks _ _ _ (λ _. next-view-asking-suffices s m h (t .clock))
       (λ _. transfer-tick-suffices s (m .runs) (h .sound) (m .out) b (t .clock))
 
-  pub idle-suffices : Suffices (s .setup) (length (m .out)) (length (m .reps)) (idleStep s m .answer .code)
+  pub idle-suffices : Answers (s .setup) (length (m .out)) (length (m .reps)) (idleStep s m .answer .code)
   unfolding idleStep changingTick
   idle-suffices =
       let t = tickOf (s .setup .timeout) Change (s .clock) in

@@ -97,7 +97,7 @@ module _ (u : Setup) where
 
   -- a frame after refusals 2 to 6 on the frame alone: the table of what a status looks at, then the handler
   unfoldable pub onChecked : State → List ℕ → Checked → Answer
-  onChecked m s (Refused k) = refused k
+  onChecked m s (Refused k p) = refused k
   onChecked m s (Passed x) =
       if not (looksAt (m .place .status) (carriedOf x .kind)) then ignored m else
       onMessage m x (carriedLog x s)

@@ -18,8 +18,8 @@ use Rattle.client_table.specs.declared.Latest.{Latest}
 use Rattle.client_table.specs.declared.Latest.the-variants as Row
 use Rattle.state.specs.declared.Replica.{Replica}
 use Rattle.steps.specs.Steps.{Sound, Left, acceptOf}
-use Rattle.steps.specs.Areas.{outLength, Suffices}
-use Rattle.steps.proofs.AreaLaws.{one-fits, each-fits, others, done, no-room, no-reply-room}
+use Rattle.steps.specs.Areas.{outLength}
+use Rattle.steps.proofs.AreaLaws.{Answers, one-fits, each-fits, later, done, no-room, no-reply-room}
 use Rattle.steps.proofs.StepsSuffice.{Spoken, LeftBy, transferred-suffices, deferred-suffices, acked-suffices}
 use Rattle.book.specs.Memory.{Money, Runs}
 use Rattle.normal.specs.Request as Request
@@ -52,12 +52,12 @@ module _ (s : Replica) (x : Runs) (h : Sound s x) where
 
   module _ (e : Entry) (latest : Latest) (log acks out reps : List ℕ) where
     abbrev Called : RequestVerdict → Type 0
-    Called k = Suffices (s .setup) (length out) (length reps) (Request.byCall k s e log acks out reps .answer .code)
+    Called k = Answers (s .setup) (length out) (length reps) (Request.byCall k s e log acks out reps .answer .code)
 
     new-suffices : Called (Request.newVerdict s (length out))
     unfolding Request.newVerdict Request.byCall Request.accepted
     new-suffices =
-        split Called _ _ _ (λ _. others (omega arith)) λ _.
+        split Called _ _ _ (λ _. later (omega arith) (omega arith)) λ _.
         split Called _ _ _ (no-room (sendsOf s) sends-fit) λ _. done
 
     known-suffices : (l : Latest) → Called (Request.knownVerdict e l (length reps))
@@ -73,7 +73,7 @@ module _ (s : Replica) (x : Runs) (h : Sound s x) where
     client-suffices =
         split Called _ _ _ (λ _. new-suffices) (λ _. known-suffices latest)
 
-    pub request-suffices : Suffices (s .setup) (length out) (length reps) (requestStep s e latest log acks out reps .answer .code)
+    pub request-suffices : Answers (s .setup) (length out) (length reps) (requestStep s e latest log acks out reps .answer .code)
     unfolding requestStep Request.requestVerdict Request.byCall
     request-suffices =
         split Called _ _ _ (λ _. done) λ _.
@@ -94,8 +94,8 @@ module _ (s : Replica) (x : Runs) (h : Sound s x) where
     verdict-suffices : (p : Prepared) → LeftHere (Prepare.byPrepareVerdict (Prepare.appendVerdict s p) s p x out)
     unfolding Prepare.appendVerdict Prepare.byPrepareVerdict
     verdict-suffices p =
-        split P _ _ _ (λ _. others (omega arith)) λ _.
-        split P _ _ _ (λ _. others (omega arith)) λ _. append-suffices p
+        split P _ _ _ (λ _. later (omega arith) (omega arith)) λ _.
+        split P _ _ _ (λ _. later (omega arith) (omega arith)) λ _. append-suffices p
       where
         P : PrepareVerdict → Type 0
         P d = LeftHere (Prepare.byPrepareVerdict d s p x out)
@@ -133,7 +133,7 @@ module _ (s : Replica) (x : Runs) (h : Sound s x) where
 
   module _ (room : ℕ) (o : Op) (r : ℕ) (log : List ℕ) (money : Money) (acks reps : List ℕ) where
     abbrev Counts : Count → Type 0
-    Counts d = Suffices (s .setup) room (length reps) (PrepareOk.byCount d s o r log money acks reps .answer .code)
+    Counts d = Answers (s .setup) room (length reps) (PrepareOk.byCount d s o r log money acks reps .answer .code)
 
     ack-suffices : (held : ℕ) → Counts (PrepareOk.ackVerdict s o held r (length reps))
     unfolding PrepareOk.ackVerdict PrepareOk.byCount PrepareOk.committedBy
@@ -141,13 +141,13 @@ module _ (s : Replica) (x : Runs) (h : Sound s x) where
         split Counts _ _ _ (λ _. done) λ _.
         split Counts _ _ _ (λ _. done) λ _.
         split Counts _ _ _ (λ _. done) λ _.
-        split Counts _ _ _ (λ _. others (omega arith)) λ l.
+        split Counts _ _ _ (λ _. later (omega arith) (omega arith)) λ l.
         split Counts _ _ _
         (no-reply-room (36 * (o .0 - s .commit .0)) (omega (arith, ltb-false (s .op .0) (o .0) l, h .op-le))) λ _. done
 
     pub prepare-ok-suffices : (v : View)
-        → Suffices (s .setup) room (length reps) (prepareOkStep s v o r log money acks reps .answer .code)
+        → Answers (s .setup) room (length reps) (prepareOkStep s v o r log money acks reps .answer .code)
     unfolding prepareOkStep
     prepare-ok-suffices v =
-        split (λ (d : Counted). Suffices (s .setup) room (length reps) (d .answer .code)) _ _ _ (λ _. done)
+        split (λ (d : Counted). Answers (s .setup) room (length reps) (d .answer .code)) _ _ _ (λ _. done)
         (λ _. ack-suffices (getD acks (ackPlace (o .0 - 1)) 0))

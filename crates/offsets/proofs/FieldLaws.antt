@@ -3,22 +3,22 @@
 --     takes-free, takes-between     what the bytes say that a field takes: `Got`
 --     free-takes, between-takes     and how to see that it takes them
 -- Assumes nothing.
-use mathlib.Core.Path.{_≡_, refl, sym, ap, _∙_}
-use mathlib.Core.Bool.{Bool, true, false, false≢true}
+use mathlib.Core.Path.{_≡_, refl, sym}
+use mathlib.Core.Bool.{true, false, false≢true}
 use mathlib.Core.Logic.{⊎-elim}
-use mathlib.Core.List.{List, [], _∷_, _++_}
+use mathlib.Core.List.{List, [], _∷_}
 use Prim.Native.Nat.{ℕ, zero, suc, _+_, _-_, _*_, _/_, _^_, _≤_, _<_}
 use native.Mathlib.Nat.{mul-comm, pow-succ', div-one, div-eq-of-lt, div-div-eq-div-mul, div-mul-le-self, le-div-iff-mul-le}
 use native.Mathlib.Omega.{arith}
 use lib.Arith.{digits-div}
-use lib.Dec.{lit<, leb}
-use lib.ListN.{length, getD, take, drop}
+use lib.Dec.{lit<}
+use lib.ListN.{length, take, drop}
 use lib.Seq.{length-take-le}
 use Rattle.numbers.specs.Words.{_and_}
-use Rattle.numbers.specs.Numbers.{beFrom, be, num, within, Bytes}
+use Rattle.numbers.specs.Numbers.{beFrom, be, within, Bytes}
 use Rattle.numbers.proofs.WordLaws.{and-both, and-true}
 use Rattle.numbers.proofs.NumberLaws.{pow-pos256, beFrom-acc, be-lt, take-bytes, within-both, both-within, le-or-lt}
-use Rattle.offsets.specs.Rules.{Rule, end, byte, reach, takes, free, between}
+use Rattle.offsets.specs.Rules.{Rule, takes, free, between}
 use Rattle.offsets.proofs.RuleLaws.{Lives}
 
 -- ---- numbers

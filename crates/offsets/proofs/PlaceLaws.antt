@@ -1,20 +1,19 @@
 -- The laws of fields by places: what the bytes from place a on say that keep a field, and how to see that they keep it.
 -- Assumes nothing.
-use mathlib.Core.Path.{_≡_, refl, sym, ap, _∙_}
+use mathlib.Core.Path.{_≡_, refl}
 use mathlib.Core.Bool.{Bool, true, false, false≢true}
-use mathlib.Core.List.{List, [], _∷_, _++_}
-use Prim.Native.Nat.{ℕ, zero, suc, _+_, _-_, _*_, _/_, _^_, _≤_, _<_}
+use mathlib.Core.List.{List, [], _∷_}
+use Prim.Native.Nat.{ℕ, zero, suc, _+_, _-_, _^_, _≤_, _<_}
 use native.Mathlib.Nat.{zero-add}
 use native.Mathlib.Omega.{arith}
-use lib.Dec.{lit<, leb, eqb}
-use lib.ListN.{length, getD, take, drop, length-drop}
+use lib.ListN.{length, drop, length-drop}
 use lib.Seq.{drop-drop}
-use Rattle.numbers.specs.Words.{if_then_else_, _and_}
-use Rattle.numbers.specs.Numbers.{beFrom, be, num, within, Bytes}
+use Rattle.numbers.specs.Words.{_and_}
+use Rattle.numbers.specs.Numbers.{num, Bytes}
 use Rattle.numbers.proofs.WordLaws.{and-both, and-true}
-use Rattle.numbers.proofs.NumberLaws.{drop-bytes, within-both, both-within, num-drop, eq-or-not}
-use Rattle.offsets.specs.Rules.{Rule, end, byte, reach, takes, free, between}
-use Rattle.offsets.proofs.FieldLaws.{Got, takes-free, free-takes, takes-between, between-takes}
+use Rattle.numbers.proofs.NumberLaws.{drop-bytes}
+use Rattle.offsets.specs.Rules.{Rule, end, byte, takes, free, between}
+use Rattle.offsets.proofs.FieldLaws.{takes-free, free-takes, takes-between, between-takes}
 
 -- ---- nothing more
 

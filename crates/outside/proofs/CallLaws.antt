@@ -24,15 +24,15 @@ use Rattle.outside.specs.declared.Lengths.{Lengths}
 
 -- a frame isn't refused and passed at once
 abbrev Stops : Checked → Type 0
-Stops (Refused k) = Unit
+Stops (Refused k p) = Unit
 Stops (Passed m) = ⊥
 
-refused-passed : {k : ℕ} {m : Message} → Refused k ≡ Passed m → ⊥
+refused-passed : {k p : ℕ} {m : Message} → Refused k p ≡ Passed m → ⊥
 refused-passed r = subst Stops r tt
 
 module _ (s : Replica) (l : Lengths) (frame : List ℕ) where
   module _ (b : Bool) (e : b ≡ sound s l) where
-    pub unsound : not b ≡ true → Refused 1 ≡ checkedOf s l frame
+    pub unsound : not b ≡ true → Refused 1 0 ≡ checkedOf s l frame
     unfolding checkedOf
     unsound h = sym (if-true _ _ _ (ap not (sym e) ∙ h))
 

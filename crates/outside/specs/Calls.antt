@@ -21,7 +21,7 @@ use Rattle.outside.specs.declared.call.Carrying.{Carrying}
 -- refusal 1, then 2 to 6 on the frame alone
 unfoldable pub checkedOf : Replica → Lengths → (frame : List ℕ) → Checked
 checkedOf s l frame =
-    if not (sound s l) then Refused 1 else
+    if not (sound s l) then Refused 1 0 else
     checkFrame (s .setup) frame
 
 -- whether a message carries an entry, and whose

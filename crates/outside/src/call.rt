@@ -12,12 +12,21 @@ use frames::Message;
 use state::Replica;
 use state::Returned;
 
+// What a call answers to a frame: with 2 the offset of the frame's first wrong byte, else 0.
+pub struct WithOffset {
+    pub returned: Returned,
+    pub offset: usize,
+}
+
 // Refusal 1, then 2 to 6 on the frame alone.
 pub fn checked(s: Replica, l: Lengths, frame: &[u8]) -> Checked
     ensures { λ r. ⌜ ChecksCall s l (was frame) r ⌝ }
 {
     if !sound::is_sound(s, l) {
-        return Checked::Refused { number: 1 };
+        return Checked::Refused {
+            number: 1,
+            offset: 0,
+        };
     }
     let u = s.setup;
     frames::check(u, frame)

@@ -16,8 +16,8 @@ use Rattle.state.specs.declared.Reports.{Reports}
 use Rattle.reports.specs.declared.Judged.{Judged}
 use Rattle.reports.specs.declared.Judged.the-variants.{Wait, Refuse, Begin}
 use Rattle.steps.specs.Steps.{Spoke}
-use Rattle.steps.specs.Areas.{outLength, Suffices}
-use Rattle.steps.proofs.AreaLaws.{one-fits, each-fits, others, done, no-room}
+use Rattle.steps.specs.Areas.{outLength}
+use Rattle.steps.proofs.AreaLaws.{Answers, one-fits, each-fits, later, done, no-room}
 use Rattle.steps.proofs.StepsSuffice.{Spoken}
 use Rattle.view_change.proofs.ChangeSuffices.{started-suffices}
 use Rattle.book.specs.Memory.{Runs}
@@ -51,13 +51,13 @@ module _ (s : Replica) (ok : setupOk (s .setup) ≡ true) where
 
 module _ (s : Replica) (out reps : ℕ) where
   abbrev Collects : Collected → Type 0
-  Collects d = Suffices (s .setup) out reps (d .answer .code)
+  Collects d = Answers (s .setup) out reps (d .answer .code)
 
   judged-suffices : (rows : Reports) (r : ℕ) (o : Op) (fresh : List ℕ) (x : Runs) (stored : List ℕ) (j : Judged)
       → Collects (byResponse j s rows r o fresh x stored)
   unfolding byResponse recoveredBy
   judged-suffices rows r o fresh x stored Wait = done
-  judged-suffices rows r o fresh x stored Refuse = others (omega arith)
+  judged-suffices rows r o fresh x stored Refuse = later (omega arith) (omega arith)
   judged-suffices rows r o fresh x stored (Begin b g) = done
 
   pub response-suffices : (v : View) (x r : ℕ) (t : RecoveryState) (part : List ℕ) (y : Runs) (stored : List ℕ)

@@ -6,6 +6,7 @@ ghost use Prim.Native.Nat.{_≤_};
 ghost use lib.ListN.{length};
 use comparing::memory;
 use config::Setup;
+use outside::call::WithOffset;
 use playing::ReplicaCall;
 use state::Replica;
 use state::Returned;
@@ -89,6 +90,11 @@ fn logs(room: u32, n: u8) -> usize
     k
 }
 
+// Of an answer to a frame; the recorded calls name no offset.
+fn returned(a: WithOffset) -> Returned {
+    a.returned
+}
+
 fn made(
     g: Given,
     frame: &[u8],
@@ -129,7 +135,7 @@ fn made(
             old,
             out,
         ),
-        ReplicaCall::Message => replica::call::on_message(
+        ReplicaCall::Message => returned(replica::call::on_message(
             s,
             frame,
             log,
@@ -141,7 +147,7 @@ fn made(
             old,
             out,
             reps,
-        ),
+        )),
         ReplicaCall::Idle => replica::call::on_idle(
             s,
             log,

@@ -1,4 +1,4 @@
--- What the four walks of `held` share: the types that they hold, the contract of `with_rows`, and that the first rows of an array are as many as asked for and have room. Assumes nothing.
+-- What the four walks of `held` share: the types that they hold, the contracts of `with_rows` and `answered_with_rows`, and that the first rows of an array are as many as asked for and have room. Assumes nothing.
 use mathlib.Core.Path.{_≡_, sym, subst}
 use Prim.Native.Nat.{ℕ, _-_, _≤_, _<_, _^_}
 use native.Mathlib.Omega.{arith}
@@ -26,6 +26,7 @@ use Rattle.client_table_structs.proofs.Rowed.{rowE}
 use Rattle.replay_structs.proofs.held.Left as L
 use Rattle.replay_structs.proofs.held.Left.Laws as L′
 use Rattle.replay_structs.proofs.held.with_rows as with-rows
+use Rattle.replay_structs.proofs.held.answered_with_rows as answered-with-rows
 
 abbrev pub R : RattleType
 R = rowE .R
@@ -39,6 +40,9 @@ leftE = elem-of L.the-type L′.the-laws L′.lowers L′.the-copy L′.the-plai
 module _ {M : Type 1} (𝓤 : URA M) (H : Heap 𝓤) (A : Atoms 𝓤) (mem : Memory → SProp 𝓤) (run : Routine → Fun 𝓤) where
   abbrev pub WithRows : Contract 𝓤
   WithRows = tripleOf 𝓤 H A with-rows.signature (with-rows.spec 𝓤 H A mem run)
+
+  abbrev pub AnsweredWithRows : Contract 𝓤
+  AnsweredWithRows = tripleOf 𝓤 H A answered-with-rows.signature (answered-with-rows.spec 𝓤 H A mem run)
 
 eight-rows : Room R 8
 eight-rows = (omega arith, omega arith)

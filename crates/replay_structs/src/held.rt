@@ -3,6 +3,7 @@ ghost use Prim.Native.Nat.{_≤_};
 use client_table_structs::Row;
 use config::Setup;
 use numbers::View;
+use outside::call::WithOffset;
 use state::Replica;
 use state::Returned;
 
@@ -15,6 +16,11 @@ pub struct Left {
 
 pub fn with_rows(answer: Returned, table: [Row; 8], old: [Row; 8]) -> Left {
     Left { answer, table, old }
+}
+
+// Of an answer to a frame; the recorded calls name no offset.
+pub fn answered_with_rows(a: WithOffset, table: [Row; 8], old: [Row; 8]) -> Left {
+    with_rows(a.returned, table, old)
 }
 
 // new
@@ -113,7 +119,7 @@ pub fn on_message(
         out,
         reps,
     );
-    with_rows(a, rows, spare)
+    answered_with_rows(a, rows, spare)
 }
 
 // on_idle

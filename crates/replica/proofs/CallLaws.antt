@@ -82,9 +82,9 @@ followed-is s d a m table old e q =
 -- ---- a frame
 
 module _ (s : Replica) (frame : List ℕ) (x : Lent) (j : Checked) (q : j ≡ checkedOf s (lengthsOf x) frame) where
-  pub malformed : (k : ℕ) → j ≡ Refused k → {a : Returned} → a ≡ refusal k s → called a x ≡ messageCall s frame x
+  pub malformed : (k o : ℕ) → j ≡ Refused k o → {a : Returned} → a ≡ refusal k s → called a x ≡ messageCall s frame x
   unfolding messageCall checkedCall
-  malformed k r p = rw (← q, r, p)
+  malformed k o r p = rw (← q, r, p)
 
   pub passes : (m : Message) → j ≡ Passed m → {d : Called} → d ≡ checkedCall (Passed m) s frame x → d ≡ messageCall s frame x
   unfolding messageCall

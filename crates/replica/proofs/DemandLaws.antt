@@ -69,7 +69,7 @@ module _ (s : Replica) (x : Lent) where
 
   checks : (f : List ℕ) (j : Checked) → Untouched s x (checkedCall j s f x)
   unfolding checkedCall
-  checks f (Refused k) = refuses k
+  checks f (Refused k p) = refuses k
   checks f (Passed m) = follows _ (R.message-untouched m s (latestFor m (s .setup .room) (x .table)) f (x .core))
 
   pub message-untouched : (f : List ℕ) (d : Called) → MessagePromise s f x d → Untouched s x d

@@ -11,4 +11,5 @@ pub mod CreateDemands
 pub mod FoundLift
 pub mod MarkedHold
 pub mod SufficeLaws
+pub mod PointLaws
 pub mod ReplyLaws

@@ -63,7 +63,7 @@ module _ (s : Replica) (x : Lent) (applied : List Entry) (o : Owned x) (k : Kept
 
     checked-kept : (y : Checked) → checkFrame u frame ≡ y → Reached u (after m (says y)) → Promised s x m (checkedCall y s frame x) (says y)
     unfolding checkedCall onChecked fitted
-    checked-kept (Refused i) e r = refused-kept s x applied o k i _ refl
+    checked-kept (Refused i q) e r = refused-kept s x applied o k i _ refl
     checked-kept (Passed y) e r =
         let latest = latestFor y (u .room) (x .table) in
         let g = whole s x applied o k .gathering in

@@ -44,7 +44,7 @@ module _ (s : Replica) (x : Lent) where
   module _ (frame : List ℕ) where
     checked-replies : sound s (lengthsOf x) ≡ true → (j : Checked) → checkFrame (s .setup) frame ≡ j → Answers x (checkedCall j s frame x)
     unfolding checkedCall
-    checked-replies p (Refused k) e = silent
+    checked-replies p (Refused k q) e = silent
     checked-replies p (Passed m) e = follows _ (message-replies s (x .core) (gathers p) m _ frame e (λ r o q. latest-outcome m (s .setup .room) (x .table) q))
 
     pub message-call-replies : Answers x (messageCall s frame x)

@@ -20,7 +20,7 @@ use Rattle.state.specs.State.{newIn}
 use Rattle.state.specs.declared.Replica.{Replica}
 use Rattle.steps.specs.Recorded.{Recorded, Gathering}
 use Rattle.steps.specs.Areas.{Suffices}
-use Rattle.steps.proofs.AreaLaws.{others, done, no-room}
+use Rattle.steps.proofs.AreaLaws.{Answers, others, done, no-room}
 use Rattle.recovery.specs.Recovery.{recoveriesLength}
 use Rattle.recovery.proofs.RecoverySuffices.{recoveries-fit}
 use Rattle.handlers.proofs.Suffice.{message-suffices, idle-suffices}
@@ -43,11 +43,11 @@ listed k h =
 
 module _ (s : Replica) (x : Lent) where
   -- the table changes nothing of the answer
-  follows : (d : Recorded) → Suffices (s .setup) (length (x .core .out)) (length (x .core .reps)) (d .answer .code)
+  follows : (d : Recorded) → Answers (s .setup) (length (x .core .out)) (length (x .core .reps)) (d .answer .code)
       → Enough (s .setup) x (following s (x .table) (x .old) d)
   unfolding following followedBy
   follows d h =
-      split (λ (t : Tabled). Suffices (s .setup) (length (x .core .out)) (length (x .core .reps)) (t .answer .code)) _ _ _ (λ _. h) (λ _. h)
+      split (λ (t : Tabled). Suffices (s .setup) (length (x .core .out)) (length (x .core .reps)) (t .answer .code)) _ _ _ (λ _. h .suffices) (λ _. h .suffices)
 
   gathers : sound s (lengthsOf x) ≡ true → Gathering s (x .core)
   gathers p = sound-is s (x .core) (length (x .table)) (length (x .old)) p .gathering
@@ -57,7 +57,7 @@ module _ (s : Replica) (x : Lent) where
   checked-suffices : (frame : List ℕ) → sound s (lengthsOf x) ≡ true → (j : Checked) → checkFrame (s .setup) frame ≡ j
       → Enough (s .setup) x (checkedCall j s frame x)
   unfolding checkedCall
-  checked-suffices frame p (Refused k) e = others (listed k (refused-number (s .setup) frame k e))
+  checked-suffices frame p (Refused k q) e = others (listed k (refused-number (s .setup) frame k q e))
   checked-suffices frame p (Passed m) e = follows _ (message-suffices s (x .core) (gathers p) m _ frame e)
 
   pub message-call-suffices : (frame : List ℕ) → Enough (s .setup) x (messageCall s frame x)
@@ -82,11 +82,12 @@ module _ (u : Setup) (x : Lent) where
 
   pub create-call-suffices : Enough u x (createCall u x)
   unfolding createCall cleared createStep
-  create-call-suffices = split Starts _ _ _ (λ _. others (omega arith)) (λ _. done)
+  create-call-suffices = split Starts _ _ _ (λ _. others (omega arith)) (λ _. done .suffices)
 
   pub recover-call-suffices : (v : View) (nonce : ℕ) → Enough u x (recoverCall u v nonce x)
   unfolding recoverCall cleared recoverStep
   recover-call-suffices v nonce =
       let t = newIn u Recovering v nonce in
       split Starts (not (creatable u (lengthsOf x))) _ _ (λ _. others (omega arith)) λ f.
-      split Starts _ _ _ (no-room (recoveriesLength t) (recoveries-fit t (creatable-is u (lengthsOf x) _ refl f .0))) (λ _. done)
+      split Starts _ _ _ (λ l. no-room (recoveriesLength t) (recoveries-fit t (creatable-is u (lengthsOf x) _ refl f .0)) l .suffices)
+      (λ _. done .suffices)

@@ -86,7 +86,7 @@ following s table old d =
 
 -- a frame, by what refusals 1 to 6 say
 unfoldable pub checkedCall : Checked → Replica → (frame : List ℕ) → Lent → Called
-checkedCall (Refused k) s frame x = called (refusal k s) x
+checkedCall (Refused k p) s frame x = called (refusal k s) x
 checkedCall (Passed m) s frame x =
     following s (x .table) (x .old) (messageStep m s (latestFor m (s .setup .room) (x .table)) frame (x .core))
 

@@ -2,6 +2,7 @@
 ghost use mathlib.Core.Path.{_≡_};
 ghost use mathlib.Core.Bool.{true, false};
 ghost use lib.ListN.{length};
+ghost use Rattle.frames.specs.Kinds.{wellFormed};
 ghost use Rattle.frames.specs.Refusals.{checkFrame};
 ghost use Rattle.frames.specs.declared.Checked.the-variants.{Passed};
 ghost use Prim.Native.Nat.{_*_, _≤_};
@@ -11,6 +12,7 @@ ghost use Rattle.client_table_bytes.specs.Steps.{foundIn, latestOf, AppendsFor}
 ghost use Rattle.state.specs.Lengths.{tableLength};
 ghost use Rattle.steps.specs.Recorded.{Gathering};
 ghost use Rattle.book.specs.Memory.{memoryHeld};
+ghost use Rattle.offsets.specs.Offsets.{Points};
 ghost use Rattle.outside.specs.Calls.{changeBy};
 ghost use Rattle.replica.specs.Calls.{KnownFor, Following, tabled, followedBy, checkedCall};
 ghost use Rattle.replica.specs.Lent.{called, Keeps, lentBefore, lentAfter};
@@ -22,6 +24,7 @@ use client_table_bytes::MarkedRow;
 use frames::Checked;
 use frames::Message;
 use outside::Lengths;
+use outside::call::WithOffset;
 use state::Replica;
 use state::Returned;
 
@@ -170,8 +173,8 @@ pub fn on_message(
     old: &mut [u8],
     out: &mut [u8],
     reps: &mut [u8],
-) -> Returned
-    ensures { λ a. ⌜ Keeps (MessagePromise s (was frame)) a log results totals acks stored table old out reps ⌝ }
+) -> WithOffset
+    ensures { λ a. ⌜ Keeps (MessagePromise s (was frame)) (a .returned) log results totals acks stored table old out reps × Points wellFormed (was frame) (a .returned .code) (a .offset) ⌝ }
 {
     let l = Lengths {
         log: log.len(),
@@ -183,21 +186,27 @@ pub fn on_message(
         old: old.len(),
     };
     match outside::call::checked(s, l, frame) {
-        Checked::Refused { number } => state::refused(number, s),
-        Checked::Passed { message } => take(
-            s,
-            message,
-            frame,
-            log,
-            results,
-            totals,
-            acks,
-            stored,
-            table,
-            old,
-            out,
-            reps,
-        ),
+        Checked::Refused { number, offset } => WithOffset {
+            returned: state::refused(number, s),
+            offset,
+        },
+        Checked::Passed { message } => WithOffset {
+            returned: take(
+                s,
+                message,
+                frame,
+                log,
+                results,
+                totals,
+                acks,
+                stored,
+                table,
+                old,
+                out,
+                reps,
+            ),
+            offset: 0,
+        },
     }
 }
 

@@ -9,6 +9,8 @@ use Rattle.frames.proofs.Checked as C
 use Rattle.frames.proofs.Checked.Laws as C′
 use Rattle.state.proofs.Returned as A
 use Rattle.state.proofs.Returned.Laws as A′
+use Rattle.outside.proofs.call.WithOffset as F
+use Rattle.outside.proofs.call.WithOffset.Laws as F′
 use Rattle.state.proofs.Replica as S
 use Rattle.state.proofs.Replica.Laws as S′
 
@@ -23,6 +25,9 @@ checkedE = enum-of C.the-type C′.the-laws tt C′.lowers C′.the-copy C′.th
 
 abbrev pub answerE : Elem
 answerE = elem-of A.the-type A′.the-laws A′.lowers A′.the-copy A′.the-plain
+
+abbrev pub answeredE : Elem
+answeredE = elem-of F.the-type F′.the-laws F′.lowers F′.the-copy F′.the-plain
 
 abbrev pub replicaE : Elem
 replicaE = elem-of S.the-type S′.the-laws S′.lowers S′.the-copy S′.the-plain

@@ -77,7 +77,7 @@ module _ (log results totals acks stored table old : ℕ) {t o : ℕ} (p : t ≡
       → checkedOf s (record { log = log; results = results; totals = totals; acks = acks; stored = stored; table = t; old = o }) frame
       ≡ checkedOf s (lengthsBy log results totals acks stored table old) frame
   unfolding checkedOf
-  checked-by s frame = ap (λ (b : Bool). if not b then Refused 1 else checkFrame (s .setup) frame) (sound-by s)
+  checked-by s frame = ap (λ (b : Bool). if not b then Refused 1 0 else checkFrame (s .setup) frame) (sound-by s)
 
 module _ (m : Memory) (table old : ℕ) {t o : ℕ} (p : t ≡ rowBytes table) (q : o ≡ rowBytes old) where
   pub sound-counted : (s : Replica) → sound s (lengthsWith m t o) ≡ sound s (lengthsIn m table old)
@@ -157,7 +157,7 @@ module _ (s : Replica) (table old : ℕ) where
   module _ (l : Latest) (frame : List ℕ) (m : Memory) where
     checked-ready : (c : Checked) → checkFrame (s .setup) frame ≡ c → Gathering s m × (old ≡ table) → ReadyBy (checkedCore c s l frame m)
     unfolding checkedCore
-    checked-ready (Refused k) e g = stays-ready (recorded (refusal k s) m) (g .0) (g .1)
+    checked-ready (Refused k p) e g = stays-ready (recorded (refusal k s) m) (g .0) (g .1)
     checked-ready (Passed y) e g = stays-ready _ (message-stays y s (toldOf y l) frame m (g .0) e .gathering) (g .1)
 
     pub message-ready : (c : Checked) → c ≡ checkedOf s (lengthsIn m table old) frame → ReadyBy (checkedCore c s l frame m)
@@ -178,9 +178,9 @@ module _ (s : Replica) (table old : ℕ) where
 -- ---- a frame
 
 module _ (c : Checked) (s : Replica) (l : Latest) (frame : List ℕ) (m : Memory) where
-  pub malformed : (k : ℕ) → c ≡ Refused k → {a : Returned} → a ≡ refusal k s → recorded a m ≡ checkedCore c s l frame m
+  pub malformed : (k q : ℕ) → c ≡ Refused k q → {a : Returned} → a ≡ refusal k s → recorded a m ≡ checkedCore c s l frame m
   unfolding checkedCore
-  malformed k r p = rw (r, p)
+  malformed k q r p = rw (r, p)
 
   pub taken : (y : Message) → c ≡ Passed y → (t : Latest) → t ≡ toldOf y l → {d : Recorded} → d ≡ messageStep y s t frame m
       → d ≡ checkedCore c s l frame m

@@ -49,7 +49,7 @@ module _ (s : Replica) (x : LentRows) where
 
   checks : (c : Checked) (l : Latest) (frame : List ℕ) → S.Untouched s (x .core) (checkedCore c s l frame (x .core))
   unfolding checkedCore
-  checks (Refused k) l frame = S.refused s (x .core) k
+  checks (Refused k p) l frame = S.refused s (x .core) k
   checks (Passed m) l frame = R.message-untouched m s (toldOf m l) frame (x .core)
 
   pub message-rows-untouched : (frame : List ℕ) (d : CalledRows) → MessageRowsPromise s frame x d → UntouchedRows s x d

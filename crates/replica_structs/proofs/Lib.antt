@@ -1,4 +1,5 @@
 pub mod CoreLaws
+pub mod PointLaws
 pub mod CodedLaws
 pub mod ByteLaws
 pub mod StepLaws

@@ -77,7 +77,7 @@ module _ (s : Replica) (x : LentRows) (applied : List Entry) (o : Owned (inBytes
   module _ (frame : List ℕ) (b : Bytes frame) where
     checked-keeps : (c : Checked) → checkFrame (s .setup) frame ≡ c → Keeps (checkedRows c s frame x) (checkedCall c s frame y)
     unfolding checkedRows checkedCore clientIn checkedCall
-    checked-keeps (Refused i) e = refused-keeps s x applied o kept i
+    checked-keeps (Refused i p) e = refused-keeps s x applied o kept i
     checked-keeps (Passed z) e =
         let latest = latestFor z (s .setup .room) (tableBytes (x .table)) in
         let d = messageStep z s latest frame (x .core) in

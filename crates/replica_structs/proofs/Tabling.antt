@@ -1,5 +1,5 @@
 -- The calls behind the core, as steps of a walk.
---     ChangeAfter, to-change       `core::change_after`, and what its triple binds outside
+--     ChangeAfter, to-change       `core::change_after`, and what its triple binds outside.      ChangeAnswered, to-answered    `core::change_answered` likewise
 --     Follow, to-follow            `client_table_structs::follow`.      gives-follow    before the call: the log and the results go as `&` for lifetimes of it, the rows for good
 --     takes-follow                 behind it: all four are given up
 --     Clear, clears                `client_table_structs::clear`: the call, with rows that go for good
@@ -48,8 +48,10 @@ use Rattle.client_table_structs.proofs.clear.Symbol as clear-def
 use Rattle.client_table_structs.proofs.follow as follow
 use Rattle.state.specs.declared.Returned.{Returned}
 use Rattle.state.specs.declared.Replica.{Replica}
-use Rattle.replica_structs.proofs.Carried.{replicaE, answerE}
+use Rattle.outside.specs.declared.call.WithOffset.{WithOffset}
+use Rattle.replica_structs.proofs.Carried.{replicaE, answerE, answeredE}
 use Rattle.replica_structs.proofs.core.change_after as change-after
+use Rattle.replica_structs.proofs.core.change_answered as change-answered
 
 pub nonzero : (n : ℕ) → T (not (eqb n 0)) → n ≡ 0 → ⊥
 nonzero zero h e = h
@@ -69,6 +71,9 @@ module _ {M : Type 1} (𝓤 : URA M) (H : Heap 𝓤) (A : Atoms 𝓤) (mem : Mem
   abbrev pub ChangeAfter : Contract 𝓤
   ChangeAfter = tripleOf 𝓤 H A change-after.signature (change-after.spec 𝓤 H A mem run)
 
+  abbrev pub ChangeAnswered : Contract 𝓤
+  ChangeAnswered = tripleOf 𝓤 H A change-answered.signature (change-answered.spec 𝓤 H A mem run)
+
   abbrev pub Follow : Contract 𝓤
   Follow = tripleOf 𝓤 H A follow.signature (follow.spec 𝓤 H A mem run)
 
@@ -78,6 +83,9 @@ module _ {M : Type 1} (𝓤 : URA M) (H : Heap 𝓤) (A : Atoms 𝓤) (mem : Mem
   -- what each triple binds outside
   abbrev pub to-change : Replica → Returned → ChangeAfter .Ghost
   to-change s ans = ((tt, tt, tt, (s, (ans, tt)), (replicaE .val s ∷ [], (answerE .val ans ∷ [], tt))), tt)
+
+  abbrev pub to-answered : Replica → WithOffset → ChangeAnswered .Ghost
+  to-answered s ans = ((tt, tt, tt, (s, (ans, tt)), (replicaE .val s ∷ [], (answeredE .val ans ∷ [], tt))), tt)
 
   abbrev pub to-follow : (log results : Part u8) (table old : Part R) → ℕ → GName → ℕ → GName → (l r : List ℕ) → Change → Follow .Ghost
   to-follow log results table old ν δ ν′ δ′ l r k = (

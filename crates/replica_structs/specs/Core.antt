@@ -35,12 +35,12 @@ lengthsIn m table old = lengthsWith m (25 * table) (25 * old)
 
 -- the client whose row a frame asks for
 unfoldable pub clientIn : Checked → ℕ
-clientIn (Refused k) = 0
+clientIn (Refused k p) = 0
 clientIn (Passed m) = carriedBy m .client
 
 -- on_message, by what refusals 1 to 6 say
 unfoldable pub checkedCore : Checked → Replica → Latest → (frame : List ℕ) → Memory → Recorded
-checkedCore (Refused k) s l frame m = recorded (refusal k s) m
+checkedCore (Refused k p) s l frame m = recorded (refusal k s) m
 checkedCore (Passed y) s l frame m = messageStep y s (toldOf y l) frame m
 
 -- what its code needs: of a frame that passed, that it passed refusals 2 to 6 and that state and runs are sound

@@ -3,6 +3,7 @@ ghost use mathlib.Core.Path.{_≡_};
 ghost use mathlib.Core.List.{[]};
 ghost use Rattle.book.specs.Memory.{memoryHeld, unlent};
 ghost use Rattle.steps.specs.Recorded.{Does};
+ghost use Rattle.frames.specs.Numbered.{checkedOffset};
 ghost use Rattle.outside.specs.Calls.{checkedOf};
 ghost use Rattle.replica_structs.specs.Core.{lengthsBy, clientIn, Passes, checkedCore, idleCore, createCore, recoverCore, changeAfter, rowBytes};
 ghost use Rattle.numbers.specs.Lending.{was};
@@ -13,6 +14,7 @@ use frames::Checked;
 use numbers::Op;
 use numbers::View;
 use outside::Lengths;
+use outside::call::WithOffset;
 use state::Replica;
 use state::Returned;
 
@@ -75,25 +77,31 @@ pub fn on_message(
     stored: &mut [u8],
     out: &mut [u8],
     reps: &mut [u8],
-) -> Returned
+) -> WithOffset
     requires { ⌜ Passes c s (now frame) (memoryHeld log results totals acks stored out reps) ⌝ }
-    ensures { λ a. ⌜ Does (checkedCore c s latest (was frame)) a log results totals acks stored out reps ⌝ }
+    ensures { λ a. ⌜ Does (checkedCore c s latest (was frame)) (a .returned) log results totals acks stored out reps × (a .offset ≡ checkedOffset c) ⌝ }
 {
     match c {
-        Checked::Refused { number } => state::refused(number, s),
-        Checked::Passed { message } => handlers::message::on_message(
-            s,
-            message,
-            outside::call::told(message, latest),
-            frame,
-            log,
-            results,
-            totals,
-            acks,
-            stored,
-            out,
-            reps,
-        ),
+        Checked::Refused { number, offset } => WithOffset {
+            returned: state::refused(number, s),
+            offset,
+        },
+        Checked::Passed { message } => WithOffset {
+            returned: handlers::message::on_message(
+                s,
+                message,
+                outside::call::told(message, latest),
+                frame,
+                log,
+                results,
+                totals,
+                acks,
+                stored,
+                out,
+                reps,
+            ),
+            offset: 0,
+        },
     }
 }
 
@@ -194,4 +202,11 @@ pub fn change_after(s: Replica, a: Returned) -> Change
         };
     }
     outside::call::change_by(s, a)
+}
+
+// The same of the answer to a frame.
+pub fn change_answered(s: Replica, a: WithOffset) -> Change
+    ensures { λ r. ⌜ r ≡ changeAfter s (a .returned) ⌝ }
+{
+    change_after(s, a.returned)
 }

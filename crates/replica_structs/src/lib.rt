@@ -2,6 +2,8 @@
 // refusals 1 to 6, the row that the core asks for, the core, and the table brought up to what it did.
 ghost use mathlib.Core.Path.{_≡_};
 ghost use mathlib.Core.List.{[]};
+ghost use Rattle.offsets.specs.Offsets.{Points};
+ghost use Rattle.frames.specs.Kinds.{wellFormed};
 ghost use Rattle.replica_structs.specs.Calls.{KeepsRows};
 ghost use Rattle.replica_structs.specs.Promise.{MessageRowsPromise, IdleRowsPromise, CreateRowsPromise, RecoverRowsPromise};
 ghost use Rattle.numbers.specs.Lending.{was};
@@ -9,6 +11,7 @@ ghost use Rattle.book.specs.Memory.{unlent};
 use client_table_structs::Row;
 use config::Setup;
 use numbers::View;
+use outside::call::WithOffset;
 use state::Replica;
 use state::Returned;
 
@@ -93,8 +96,8 @@ pub fn on_message(
     old: &mut [Row],
     out: &mut [u8],
     reps: &mut [u8],
-) -> Returned
-    ensures { λ a. ⌜ KeepsRows (MessageRowsPromise s (was frame)) a log results totals acks stored table old out reps ⌝ }
+) -> WithOffset
+    ensures { λ a. ⌜ KeepsRows (MessageRowsPromise s (was frame)) (a .returned) log results totals acks stored table old out reps × Points wellFormed (was frame) (a .returned .code) (a .offset) ⌝ }
 {
     let c = core::checked(
         s,
@@ -121,7 +124,7 @@ pub fn on_message(
         out,
         reps,
     );
-    client_table_structs::follow(table, old, log, results, core::change_after(s, a));
+    client_table_structs::follow(table, old, log, results, core::change_answered(s, a));
     a
 }
 

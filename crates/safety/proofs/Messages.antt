@@ -74,7 +74,7 @@ module _ (u : Setup) (m : State) (s : List ℕ) where
 
   checked-good : (x : Checked) → checkFrame u s ≡ x → Good u m (onChecked u m s x)
   unfolding onChecked
-  checked-good (Refused k) e = refusal k
+  checked-good (Refused k p) e = refusal k
   checked-good (Passed x) e = cases u _ _ _ (λ _. ignored-good u) (λ _. message-good x (passed u s x e))
 
 -- refusals 9 and 10

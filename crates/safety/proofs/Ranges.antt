@@ -413,7 +413,7 @@ module _ (u : Setup) (own : u .id < u .n) (m : State) where
 
   checked-fine : (s : List ℕ) → Bytes s → (x : Checked) → checkFrame u s ≡ x → Fine u m (onChecked u m s x)
   unfolding onChecked carriedLog
-  checked-fine s b (Refused k) e = refusal k
+  checked-fine s b (Refused k p) e = refusal k
   checked-fine s b (Passed x) e =
       let f : Fit u s x = passed u s x e in
       cases u own _ _ _ (λ _. ignored-fine u own)

@@ -16,4 +16,4 @@ setupShown = record { n = 3; id = 1; timeout = 3; room = 8; members = 8 }
 -- the refusal's number, 0: none
 unfoldable pub numberShown : Checked → ℕ
 numberShown (Passed m) = 0
-numberShown (Refused k) = k
+numberShown (Refused k p) = k

@@ -24,7 +24,7 @@ pub fn number(frame: &[u8]) -> u8
 {
     match frames::check(setup(), frame) {
         Checked::Passed { .. } => 0,
-        Checked::Refused { number } => number,
+        Checked::Refused { number, offset: _ } => number,
     }
 }
 

@@ -127,7 +127,7 @@ fn read(s: &[u8], to: u8, m: Message) {
 fn frame(s: &[u8]) {
     line(s);
     match frames::parse(s) {
-        Parsed::Malformed => text::say(b"  malformed"),
+        Parsed::Malformed { offset } => text::labelled(b"  malformed at byte ", offset as u64),
         Parsed::Frame { to, message } => read(s, to, message),
     }
     damage::copies(s);

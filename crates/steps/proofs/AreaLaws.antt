@@ -1,7 +1,8 @@
 -- What fits the areas of `outLength` and `repsLength` bytes, and which answers are then left.
 --     both-fit, one-fits, each-fits    bytes to each other replica, and bytes to one
---     others, done                     a number below 9
---     no-room, no-reply-room           a refusal by 9 or 10, of what would have fit
+--     others                           a number below 9
+--     later, done                      a handler's number below 9, which isn't 2: `Answers`
+--     no-room, no-reply-room           its refusal by 9 or 10, of what would have fit
 -- Assumes nothing.
 use mathlib.Core.Path.{_≡_}
 use mathlib.Core.Bool.{true}
@@ -37,15 +38,31 @@ module _ (u : Setup) (ok : setupOk u ≡ true) where
 
 -- ---- answers
 
+-- What a handler answers: never 2, which is given on the frame alone, and with areas that long neither 9 nor 10.
+pub record Answers (u : Setup) (out reps code : ℕ) : Type 0 where
+  pub suffices : Suffices u out reps code
+  pub formed : code ≡ 2 → ⊥
+
 module _ {u : Setup} {out reps : ℕ} where
   pub others : {k : ℕ} → k < 9 → Suffices u out reps k
   others h = record { messages = λ _ e. omega (arith, h, e); replies = λ _ e. omega (arith, h, e) }
 
-  pub done : Suffices u out reps 0
-  done = others (omega arith)
+  pub later : {k : ℕ} → 2 < k → k < 9 → Answers u out reps k
+  later l h = record { suffices = others h; formed = λ e. omega (arith, l, e) }
 
-  pub no-room : (k : ℕ) → k ≤ outLength u → ltb out k ≡ true → Suffices u out reps 9
-  no-room k h t = record { messages = λ l _. omega (arith, h, l, ltb-true out k t); replies = λ _ e. omega (arith, e) }
+  pub done : Answers u out reps 0
+  done = record { suffices = others (omega arith); formed = λ e. omega (arith, e) }
 
-  pub no-reply-room : (k : ℕ) → k ≤ repsLength u → ltb reps k ≡ true → Suffices u out reps 10
-  no-reply-room k h t = record { messages = λ _ e. omega (arith, e); replies = λ l _. omega (arith, h, l, ltb-true reps k t) }
+  pub no-room : (k : ℕ) → k ≤ outLength u → ltb out k ≡ true → Answers u out reps 9
+  no-room k h t =
+      record {
+        suffices = record { messages = λ l _. omega (arith, h, l, ltb-true out k t); replies = λ _ e. omega (arith, e) };
+        formed = λ e. omega (arith, e);
+      }
+
+  pub no-reply-room : (k : ℕ) → k ≤ repsLength u → ltb reps k ≡ true → Answers u out reps 10
+  no-reply-room k h t =
+      record {
+        suffices = record { messages = λ _ e. omega (arith, e); replies = λ l _. omega (arith, h, l, ltb-true reps k t) };
+        formed = λ e. omega (arith, e);
+      }

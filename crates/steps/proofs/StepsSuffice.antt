@@ -12,10 +12,9 @@ use Rattle.config.specs.Setup.{setupOk}
 use Rattle.config.specs.declared.Setup.{Setup}
 use Rattle.state.specs.declared.Replica.{Replica}
 use Rattle.steps.specs.Steps.{Spoke, Left, askedForState, transferred, deferred, committedAndAcked}
-use Rattle.steps.specs.Areas.{Suffices}
 use Rattle.steps.specs.declared.Accept.{Accept}
 use Rattle.steps.specs.declared.Accept.the-variants.{Ignore, Hear, Join, Rejoin, Take}
-use Rattle.steps.proofs.AreaLaws.{one-fits, done, no-room}
+use Rattle.steps.proofs.AreaLaws.{Answers, one-fits, done, no-room}
 use Rattle.book.specs.Memory.{Runs}
 
 -- `room` is the length of the area for replies
@@ -23,7 +22,7 @@ module _ (u : Setup) (ok : setupOk u ≡ true) (out : List ℕ) (room : ℕ) whe
   -- ---- messages alone
 
   abbrev pub Spoken : Spoke → Type 0
-  Spoken d = Suffices u (length out) room (d .answer .code)
+  Spoken d = Answers u (length out) room (d .answer .code)
 
   pub asked-suffices : (s t : Replica) (at : Op) → Spoken (askedForState s t at out)
   unfolding askedForState
@@ -44,7 +43,7 @@ module _ (u : Setup) (ok : setupOk u ≡ true) (out : List ℕ) (room : ℕ) whe
   -- ---- PrepareOk
 
   abbrev pub LeftBy : Left → Type 0
-  LeftBy d = Suffices u (length out) room (d .answer .code)
+  LeftBy d = Answers u (length out) room (d .answer .code)
 
   pub acked-suffices : (s t : Replica) (k : Op) (installed : Bool) (x : Runs) → LeftBy (committedAndAcked s t k installed x out)
   unfolding committedAndAcked

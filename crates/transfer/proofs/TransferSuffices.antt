@@ -9,7 +9,7 @@ use Rattle.numbers.proofs.WordLaws.{split}
 use Rattle.clock.specs.declared.Clock.{Clock}
 use Rattle.state.specs.declared.Replica.{Replica}
 use Rattle.steps.specs.Steps.{Sound, Spoke, Left}
-use Rattle.steps.proofs.AreaLaws.{one-fits, others, done, no-room}
+use Rattle.steps.proofs.AreaLaws.{one-fits, later, done, no-room}
 use Rattle.steps.proofs.StepsSuffice.{Spoken, LeftBy, asked-suffices, acked-suffices}
 use Rattle.book.specs.Memory.{Runs}
 use Rattle.transfer.specs.GetState.{newStateLength, getStateStep}
@@ -37,7 +37,7 @@ module _ (s : Replica) (x : Runs) (h : Sound s x) (out : List ℕ) (room : ℕ) 
   extended-suffices : (t : Replica) (n k : ℕ) (p : Part) (i : Bool) (part : List ℕ) → LeftHere (extended s t n k p i part x out)
   unfolding extended
   extended-suffices t n k p i part =
-      split LeftHere _ _ _ (λ _. others (omega arith)) λ _.
+      split LeftHere _ _ _ (λ _. later (omega arith) (omega arith)) λ _.
       split LeftHere _ _ _ (no-room 16 (one-fits (s .setup) (h .sized) 16 (omega arith)))
       (λ _. acked-suffices (s .setup) (h .sized) out room s t (p .commit) i _)
 

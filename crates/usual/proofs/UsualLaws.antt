@@ -80,7 +80,7 @@ module _ (s : Replica) (n : isNormal (s .status) ≡ true) (frame : List ℕ) (u
 
   checked-onward : (j : Checked) → checkedOf s (lengthsOf x) frame ≡ j → Leaves (checkedCall j s frame x)
   unfolding checkedCall
-  checked-onward (Refused k) e = refl
+  checked-onward (Refused k p) e = refl
   checked-onward (Passed m) e =
       let latest = latestFor m (s .setup .room) (x .table) in
       let q : m ≡ messageOf (kindOf frame) frame = passed (s .setup) frame m (passed-is s (lengthsOf x) frame m e .1) .said .message in

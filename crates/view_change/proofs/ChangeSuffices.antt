@@ -10,8 +10,8 @@ use Rattle.numbers.specs.declared.Op.{Op}
 use Rattle.numbers.proofs.WordLaws.{split}
 use Rattle.config.specs.Setup.{setupOk}
 use Rattle.state.specs.declared.Replica.{Replica}
-use Rattle.steps.specs.Areas.{outLength, Suffices}
-use Rattle.steps.proofs.AreaLaws.{one-fits, each-fits, others, done, no-room}
+use Rattle.steps.specs.Areas.{outLength}
+use Rattle.steps.proofs.AreaLaws.{Answers, one-fits, each-fits, later, done, no-room}
 use Rattle.steps.proofs.StepsSuffice.{Spoken, acked-suffices}
 use Rattle.book.specs.Memory.{Runs}
 use Rattle.view_change.specs.StartViewChange.{callsLength, startedChange}
@@ -41,13 +41,13 @@ module _ (out : List ℕ) (room : ℕ) where
     -- ---- StartView
 
     abbrev Joins : Joined → Type 0
-    Joins d = Suffices (s .setup) (length out) room (d .answer .code)
+    Joins d = Answers (s .setup) (length out) room (d .answer .code)
 
     module _ (v : View) (o c : Op) (part : List ℕ) (x : Runs) (acks : List ℕ) where
       verdict-suffices : (d : StartViewVerdict) → Joins (StartView.byStartViewVerdict d s v o c part x acks out)
       unfolding StartView.byStartViewVerdict joinedBy
       verdict-suffices Verdicts.Ignore = done
-      verdict-suffices Verdicts.Refuse = others (omega arith)
+      verdict-suffices Verdicts.Refuse = later (omega arith) (omega arith)
       verdict-suffices Verdicts.Join =
           split Joins _ _ _ (no-room 16 (one-fits (s .setup) ok 16 (omega arith)))
           (λ _. acked-suffices (s .setup) ok out room s _ c _ _)

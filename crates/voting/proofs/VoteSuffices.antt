@@ -14,8 +14,7 @@ use Rattle.state.specs.Lengths.{storedLength}
 use Rattle.state.specs.declared.Replica.{Replica}
 use Rattle.steps.specs.Steps.{Spoke}
 use Rattle.steps.specs.Recorded.{Recorded, Gathering, onlySent}
-use Rattle.steps.specs.Areas.{Suffices}
-use Rattle.steps.proofs.AreaLaws.{both-fit, others, done, no-room}
+use Rattle.steps.proofs.AreaLaws.{Answers, both-fit, later, done, no-room}
 use Rattle.steps.proofs.StepsSuffice.{Spoken, asked-suffices}
 use Rattle.state.proofs.SoundLaws.{none-gathered, start-gathered}
 use Rattle.steps.proofs.Held.{Held, as-it-was, moves}
@@ -48,7 +47,7 @@ module _ (s : Replica) (m : Memory) (h : Gathering s m) where
   here = as-it-was h
 
   abbrev EnoughHere : Recorded → Type 0
-  EnoughHere d = Suffices (s .setup) (length (m .out)) (length (m .reps)) (d .answer .code)
+  EnoughHere d = Answers (s .setup) (length (m .out)) (length (m .reps)) (d .answer .code)
 
   -- ---- StartViewChange
 
@@ -81,13 +80,13 @@ module _ (s : Replica) (m : Memory) (h : Gathering s m) where
     pub next-view-suffices : SpokenHere (nextView s c (m .out))
     unfolding nextView
     next-view-suffices =
-        split SpokenHere _ _ _ (λ _. others (omega arith))
+        split SpokenHere _ _ _ (λ _. later (omega arith) (omega arith))
         (λ _. started-suffices (m .out) (length (m .reps)) s (withClock s c) (h .sound .sized) (viewAfter s))
 
     pub next-view-asking-suffices : SpokenHere (nextViewAsking s c (m .out))
     unfolding nextViewAsking
     next-view-asking-suffices =
-        split SpokenHere _ _ _ (λ _. others (omega arith)) λ _.
+        split SpokenHere _ _ _ (λ _. later (omega arith) (omega arith)) λ _.
         split SpokenHere _ _ _
         (no-room (16 + callsLength s) (omega (arith, both-fit (s .setup) (h .sound .sized) 12 16 (omega (arith, sized (s .setup) (h .sound .sized) .room-low))))) λ _. done
 

@@ -98,7 +98,7 @@ UntouchedRead d = (d .code ≡ 0 → ⊥) → d ≡ record { code = d .code; ans
 read-untouched : (x : Read) → UntouchedRead (afterRead x)
 unfolding afterRead
 read-untouched (Reply v c k o t) h = absurd (h refl)
-read-untouched Malformed h = refl
+read-untouched (Malformed p) h = refl
 
 pub read-reply-untouched : (frame : List ℕ) (d : Read′) → d ≡ readRun frame → (d .code ≡ 0 → ⊥)
     → d ≡ record { code = d .code; answers = 0 ∷ 0 ∷ 0 ∷ 0 ∷ 0 ∷ [] }

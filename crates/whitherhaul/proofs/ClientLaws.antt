@@ -3,10 +3,10 @@
 --     no-request, request-refused, request-done          on_request
 --     no-reply, reply-refused, reply-done                on_reply
 --     no-tick, idle-ran                                  on_idle
---     read-malformed, read-said                          a Reply, read
+--     read-malformed, read-said, malformed-points, said-points    a Reply, read
 --     kept, reply-quiet                                  what a refused call leaves
 -- Assumes nothing.
-use mathlib.Core.Path.{_≡_, refl, sym, ap, _∙_}
+use mathlib.Core.Path.{_≡_, refl, sym, ap, _∙_, subst}
 use mathlib.Core.Bool.{true, false, not, false≢true}
 use mathlib.Core.List.{List, [], _∷_}
 use Prim.Native.Nat.{ℕ}
@@ -24,7 +24,8 @@ use Rattle.client.specs.declared.ReplyOutcome.{ReplyOutcome}
 use Rattle.client.specs.declared.Read.{Read}
 use Rattle.client.specs.declared.Read.the-variants.{Reply, Malformed}
 use Rattle.client.specs.Client.{createOf, requestedOf, requestedArea, repliedOf, idledOf, idledArea}
-use Rattle.client.specs.Replies.{readReply, outcomeNumber}
+use Rattle.offsets.specs.Offsets.{Points}
+use Rattle.client.specs.Replies.{readReply, outcomeNumber, replyOk, readNumber, readOffset}
 use Rattle.state_bytes.specs.Layout.{flagNumber}
 use Rattle.client_bytes.specs.Layout.{recordOf, recordOk, HoldsClient}
 use Rattle.whitherhaul.specs.Clients.{keptRecord, ClientCreated, clientCreateRun, Requested, requestRun, Replied, replyRun, Idled, clientIdleRun, Read′, readRun, afterRead}
@@ -215,7 +216,7 @@ module _ (run area : List ℕ) where
 -- ---- a Reply, read
 
 module _ (frame : List ℕ) (x : Read) (e : x ≡ readReply frame) where
-  pub read-malformed : x ≡ Malformed
+  pub read-malformed : {p : ℕ} → x ≡ Malformed p
       → _≡_ {A = Read′} (record { code = 2; answers = 0 ∷ 0 ∷ 0 ∷ 0 ∷ 0 ∷ [] }) (readRun frame)
   unfolding readRun afterRead
   read-malformed h = ap afterRead (sym h ∙ e)
@@ -225,3 +226,13 @@ module _ (frame : List ℕ) (x : Read) (e : x ≡ readReply frame) where
   unfolding readRun afterRead
   read-said {v} {c} {k} {t} {o} {w} h p =
       (λ i. record { code = 0; answers = v .0 ∷ c ∷ k ∷ p i ∷ t ∷ [] }) ∙ ap afterRead (sym h ∙ e)
+
+  -- and where it is wrong
+  abbrev Pointed : Read → Type 0
+  Pointed r = Points replyOk frame (readNumber r .number) (readOffset r)
+
+  pub malformed-points : {p : ℕ} → x ≡ Malformed p → Pointed x → Points replyOk frame 2 p
+  malformed-points h q = subst Pointed h q
+
+  pub said-points : {v : View} {c k t : ℕ} {w : ReplyOutcome} → x ≡ Reply v c k w t → Pointed x → Points replyOk frame 0 0
+  said-points h q = subst Pointed h q

@@ -93,7 +93,7 @@ pub record Read′ : Type 0 where
 unfoldable pub afterRead : Read → Read′
 afterRead (Reply v c k o t) =
     record { code = 0; answers = v .0 ∷ c ∷ k ∷ outcomeNumber o ∷ t ∷ [] }
-afterRead Malformed = record { code = 2; answers = 0 ∷ 0 ∷ 0 ∷ 0 ∷ 0 ∷ [] }
+afterRead (Malformed p) = record { code = 2; answers = 0 ∷ 0 ∷ 0 ∷ 0 ∷ 0 ∷ [] }
 
 unfoldable pub readRun : (frame : List ℕ) → Read′
 readRun frame = afterRead (readReply frame)

@@ -1,6 +1,7 @@
 // A client, whose record lies in a lent run of 54 bytes. A refused call leaves that run, like the area, as it was.
 ghost use mathlib.Core.Path.{_≡_};
-ghost use Rattle.client.specs.Replies.{outcomeNumber};
+ghost use Rattle.client.specs.Replies.{outcomeNumber, replyOk};
+ghost use Rattle.offsets.specs.Offsets.{Points};
 ghost use Rattle.whitherhaul.specs.Clients.{ClientCreateRan, RequestRan, ReplyRan, clientIdleRun, readRun};
 ghost use Rattle.numbers.specs.Lending.{was, last};
 use client::Read;
@@ -112,14 +113,22 @@ fn outcome_number(o: ReplyOutcome) -> u8
     }
 }
 
-// A Reply, read: view, client, request, outcome and total, or all are 0 where it is malformed.
+// A Reply, read: view, client, request, outcome and total, or all are 0 where it is malformed; then the offset is that of its first wrong byte, else 0.
 #[no_mangle]
-pub extern "C" fn whitherhaul_read_reply(frame: &[u8], answers: &mut [u64; 5]) -> u8
-    ensures { λ r. ⌜ (record { code = r; answers = last answers }) ≡ readRun (was frame) ⌝ }
+pub extern "C" fn whitherhaul_read_reply(
+    frame: &[u8],
+    answers: &mut [u64; 5],
+    offset: &mut u64,
+) -> u8
+    ensures { λ r. ⌜ ((record { code = r; answers = last answers }) ≡ readRun (was frame)) × Points replyOk (was frame) r (last offset) ⌝ }
 {
     *answers = [0, 0, 0, 0, 0];
+    *offset = 0;
     match client::read_reply(frame) {
-        Read::Malformed => 2,
+        Read::Malformed { offset: place } => {
+            *offset = place as u64;
+            2
+        }
         Read::Reply {
             view,
             client,

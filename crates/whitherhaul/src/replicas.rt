@@ -3,6 +3,8 @@ ghost use mathlib.Core.Path.{_≡_};
 ghost use mathlib.Core.Bool.{true};
 ghost use mathlib.Core.List.{[], _∷_};
 ghost use lib.ListN.{length};
+ghost use Rattle.offsets.specs.Offsets.{Points};
+ghost use Rattle.frames.specs.Kinds.{wellFormed};
 ghost use Rattle.state_bytes.specs.Layout.{stateOf, Onward, Clocked, stateOk, isQuiet};
 ghost use Rattle.whitherhaul.specs.Replicas.{KeptIn, mayBeUsual, CreateRan, RecoverRan, MessageRan, IdleRan, Ends};
 ghost use Rattle.numbers.specs.Lending.{was, last};
@@ -143,11 +145,12 @@ fn message_whole(
     out: &mut [u8],
     reps: &mut [u8],
     counts: &mut [u64; 2],
+    offset: &mut u64,
 ) -> u8
     requires { ⌜ stateOk (now state) ≡ true ⌝ }
-    ensures { λ r. ⌜ Ends (MessageRan (was state) (was frame)) r (last counts) state log results totals acks stored table old out reps ⌝ }
+    ensures { λ r. ⌜ Ends (MessageRan (was state) (was frame)) r (last counts) state log results totals acks stored table old out reps × Points wellFormed (was frame) r (last offset) ⌝ }
 {
-    let a = replica::call::on_message(
+    let r = replica::call::on_message(
         state_bytes::read_state(state),
         frame,
         log,
@@ -160,6 +163,8 @@ fn message_whole(
         out,
         reps,
     );
+    *offset = r.offset as u64;
+    let a = r.returned;
     *counts = [a.messages as u64, a.replies as u64];
     keep(a, state)
 }
@@ -178,9 +183,10 @@ fn message_usual(
     out: &mut [u8],
     reps: &mut [u8],
     counts: &mut [u64; 2],
+    offset: &mut u64,
 ) -> u8
     requires { ⌜ (stateOk (now state) ≡ true) × (isQuiet (now state) ≡ true) ⌝ }
-    ensures { λ r. ⌜ Ends (MessageRan (was state) (was frame)) r (last counts) state log results totals acks stored table old out reps ⌝ }
+    ensures { λ r. ⌜ Ends (MessageRan (was state) (was frame)) r (last counts) state log results totals acks stored table old out reps × Points wellFormed (was frame) r (last offset) ⌝ }
 {
     let s = state_bytes::read_quiet(state);
     if !usual::is_usual(s, frame) {
@@ -197,9 +203,10 @@ fn message_usual(
             out,
             reps,
             counts,
+            offset,
         );
     }
-    let a = replica::call::on_message(
+    let r = replica::call::on_message(
         s,
         frame,
         log,
@@ -212,6 +219,8 @@ fn message_usual(
         out,
         reps,
     );
+    *offset = r.offset as u64;
+    let a = r.returned;
     *counts = [a.messages as u64, a.replies as u64];
     keep_onward(a, state)
 }
@@ -227,7 +236,7 @@ fn may_be_usual<'a>(state: &'a [u8], frame: &'a [u8]) -> bool
     state_bytes::is_quiet(state)
 }
 
-// on_message. The same call stands once for each kind of a usual frame, and nothing is written between the look at the kind and the call: so the compiler makes of each the code of that kind alone.
+// on_message, and with refusal 2 the offset of the frame's first wrong byte, else 0. The same call stands once for each kind of a usual frame, and nothing is written between the look at the kind and the call: so the compiler makes of each the code of that kind alone.
 #[no_mangle]
 pub extern "C" fn whitherhaul_on_message(
     state: &mut [u8],
@@ -242,10 +251,12 @@ pub extern "C" fn whitherhaul_on_message(
     out: &mut [u8],
     reps: &mut [u8],
     counts: &mut [u64; 2],
+    offset: &mut u64,
 ) -> u8
-    ensures { λ r. ⌜ Ends (MessageRan (was state) (was frame)) r (last counts) state log results totals acks stored table old out reps ⌝ }
+    ensures { λ r. ⌜ Ends (MessageRan (was state) (was frame)) r (last counts) state log results totals acks stored table old out reps × Points wellFormed (was frame) r (last offset) ⌝ }
 {
     *counts = [0, 0];
+    *offset = 0;
     if !state_bytes::state_ok(state) {
         return 1;
     }
@@ -263,6 +274,7 @@ pub extern "C" fn whitherhaul_on_message(
             out,
             reps,
             counts,
+            offset,
         );
     }
     match frames::kind_of(frame) {
@@ -279,6 +291,7 @@ pub extern "C" fn whitherhaul_on_message(
             out,
             reps,
             counts,
+            offset,
         ),
         2 => message_usual(
             state,
@@ -293,6 +306,7 @@ pub extern "C" fn whitherhaul_on_message(
             out,
             reps,
             counts,
+            offset,
         ),
         3 => message_usual(
             state,
@@ -307,6 +321,7 @@ pub extern "C" fn whitherhaul_on_message(
             out,
             reps,
             counts,
+            offset,
         ),
         4 => message_usual(
             state,
@@ -321,6 +336,7 @@ pub extern "C" fn whitherhaul_on_message(
             out,
             reps,
             counts,
+            offset,
         ),
         10 => message_usual(
             state,
@@ -335,6 +351,7 @@ pub extern "C" fn whitherhaul_on_message(
             out,
             reps,
             counts,
+            offset,
         ),
         _ => message_whole(
             state,
@@ -349,6 +366,7 @@ pub extern "C" fn whitherhaul_on_message(
             out,
             reps,
             counts,
+            offset,
         ),
     }
 }

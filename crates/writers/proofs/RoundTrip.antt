@@ -1,7 +1,7 @@
 -- What a writer writes, `parse` reads back: for each kind, and for any log that keeps the entry rules.
 --     parse-encode    the frame of a message is read as that message to that addressee
 --     encode-log      and the log that it carries is what follows its fields
---     reply-refused   a Reply handed to a replica is malformed
+--     reply-refused   a Reply handed to a replica is malformed at its length, which no kind has
 -- Assumes nothing.
 use mathlib.Core.Path.{_≡_, refl, _∙_}
 use mathlib.Core.List.{List, [], _∷_, _++_}
@@ -11,7 +11,7 @@ use native.Mathlib.Omega.{arith}
 use borrow.Author.Tests.{le-leb}
 use lib.Dec.{lit≤}
 use lib.ListN.{length}
-use Rattle.numbers.specs.Words.{if_then_else_, _and_}
+use Rattle.numbers.specs.Words.{if_then_else_, _and_, _or_}
 use Rattle.numbers.specs.Numbers.{big, num, within}
 use Rattle.numbers.specs.declared.View.{View}
 use Rattle.numbers.specs.declared.Op.{Op}
@@ -19,6 +19,8 @@ use Rattle.numbers.proofs.NumberLaws.{be-big}
 use Rattle.entries.specs.Entries.{operationOk, encodeEntry, entriesOk, EntryFits}
 use Rattle.entries.specs.declared.Entry.{Entry}
 use Rattle.entries.proofs.EntryLaws.{entryOf-encode, entryOk-encode}
+use Rattle.offsets.specs.Rules.{reach, between}
+use Rattle.frames.specs.FrameRules.{carriesLog, entriesFrom, countFor, fits, someFits, frameRule, offsetOf}
 use Rattle.frames.specs.Kinds.{roomOf, fieldsOk, countOf, headOk, bodyOk, wellFormed}
 use Rattle.frames.specs.Messages.{responseState, messageOf, parseFrame, stateRow, carriedOf, carriedBytes}
 use Rattle.frames.specs.declared.RecoveryState.the-variants.{Absent, Present}
@@ -229,6 +231,6 @@ encode-log to (Recovery r x v) log h l = empty log l
 encode-log to (RecoveryResponse v x r Absent) log h l = empty log l
 encode-log to (RecoveryResponse v x r (Present o c)) log h l = refl
 
-pub reply-refused : (v : View) (client request outcome total : ℕ) → parseFrame (reply v client request outcome total) ≡ Malformed
-unfolding parseFrame wellFormed bodyOk headOk within reply header big num if_then_else_ _and_
+pub reply-refused : (v : View) (client request outcome total : ℕ) → parseFrame (reply v client request outcome total) ≡ Malformed 3
+unfolding parseFrame offsetOf frameRule someFits fits entriesFrom countFor carriesLog reach between _or_ wellFormed bodyOk headOk within reply header big num if_then_else_ _and_
 reply-refused v client request outcome total = refl

@@ -17,7 +17,9 @@ long : (c : tie.Else1) → length (c .before .before .before .args .frame .now) 
 long c = reply-long (c .before .before .before .args .frame .now) (passed c)
 
 returns : tie.Need-returns
-returns c = reads _ _ (sym (malformed-back _ (sym (c .before .reply-ok .ensures) ∙ not-true (c .before .reply-ok .result) (c .if1 .taken))))
+returns c =
+    let h = c .before .before .reply-ok in
+    reads _ _ (rw (malformed-back _ (sym (h .ensures) ∙ not-true (h .result) (c .before .if1 .taken)), ← c .offset .ensures))
 
 returns-2 : tie.Need-returns-2
 returns-2 c =
@@ -36,6 +38,7 @@ pub read-reply-spec : {M : Type 1} → statement M
 read-reply-spec =
     tie.close
     (tie.spec
+    (λ c κs. search needs)
     (λ c κs. search needs)
     returns
     (λ c κs. omega (arith, long c))

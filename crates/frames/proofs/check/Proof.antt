@@ -22,7 +22,7 @@ returns c =
 
 returns-2 : tie.Need-returns-2
 unfolding checkFrame checkParsed verdict if_then_else_
-returns-2 c = checks _ _ _ (rw (← c .before .before .parse .ensures .exact, c .enum-told .given .1))
+returns-2 c = checks _ _ _ (rw (← c .before .before .before .parse .ensures .exact, c .before .offset .given .1))
 
 returns-3 : tie.Need-returns-3
 unfolding checkFrame checkParsed verdict if_then_else_

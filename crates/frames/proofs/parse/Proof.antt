@@ -17,7 +17,9 @@ facts c =
 
 returns : tie.Need-returns
 unfolding parseFrame if_then_else_
-returns c = parses _ _ (rw (← c .before .well-formed .ensures, not-true (c .before .well-formed .result) (c .if1 .taken)))
+returns c =
+    let h = c .before .before .well-formed in
+    parses _ _ (rw (← h .ensures, not-true (h .result) (c .before .if1 .taken), ← c .offset .ensures))
 
 read-u8-requires : tie.Need-read-u8-requires
 read-u8-requires c κs = omega (arith, facts c .long)
@@ -40,6 +42,7 @@ pub parse-spec : {M : Type 1} → statement M
 parse-spec =
     tie.close
     (tie.spec
+    (λ c κs. search needs)
     (λ c κs. search needs)
     returns
     read-u8-requires

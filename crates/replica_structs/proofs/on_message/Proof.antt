@@ -1,4 +1,4 @@
--- `replica_structs::on_message` meets its contract: a walk of its MIR, by hand. All that it knows of `core::checked`, `core::client_in`, `client_table_structs::latest`, `core::on_message`, `core::change_after` and
+-- `replica_structs::on_message` meets its contract: a walk of its MIR, by hand. All that it knows of `core::checked`, `core::client_in`, `client_table_structs::latest`, `core::on_message`, `core::change_answered` and
 -- `client_table_structs::follow` is that each meets its contract. The rows are lent as `&` to `latest`, the log and the results again to the core, which gets the other bytes for good, and then as `&` to `follow`, which gets the rows
 -- for good. Assumes nothing.
 use mathlib.Core.Path.{_≡_, refl}
@@ -56,6 +56,10 @@ use Rattle.client_table_structs.proofs.follow.Symbol as follow-def
 use Rattle.client_table_structs.proofs.follow.Met as follow-thm
 use Rattle.book.specs.Memory.{memory}
 use Rattle.state.specs.declared.Returned.{Returned}
+use Rattle.outside.specs.declared.call.WithOffset.{WithOffset}
+use Rattle.offsets.specs.Offsets.{Points}
+use Rattle.frames.specs.Kinds.{wellFormed}
+use Rattle.frames.specs.Numbered.{checkedOffset}
 use Rattle.state.specs.declared.Replica.{Replica}
 use Rattle.steps.specs.Recorded.{Recorded, recorded}
 use Rattle.outside.specs.Calls.{checkedOf}
@@ -64,8 +68,9 @@ use Rattle.replica_structs.specs.Calls.{LentRows, lentRows, calledRows}
 use Rattle.replica_structs.specs.Promise.{MessageRowsPromise}
 use Rattle.replica_structs.proofs.CoreLaws.{passes as gets, message-ready}
 use Rattle.replica_structs.proofs.PromiseLaws.{follow-needs, message-rows}
-use Rattle.replica_structs.proofs.Carried.{checkedE, replicaE, answerE}
-use Rattle.replica_structs.proofs.Tabling.{ChangeAfter, Follow, to-change, to-follow, to-follow-all, gives-follow, takes-follow}
+use Rattle.replica_structs.proofs.PointLaws.{rows-points}
+use Rattle.replica_structs.proofs.Carried.{checkedE, replicaE, answeredE}
+use Rattle.replica_structs.proofs.Tabling.{ChangeAnswered, Follow, to-answered, to-follow, to-follow-all, gives-follow, takes-follow}
 use Rattle.replica_structs.proofs.core.checked as core-checked
 use Rattle.replica_structs.proofs.core.checked.Symbol as core-checked-def
 use Rattle.replica_structs.proofs.core.checked.Met as core-checked-thm
@@ -75,9 +80,9 @@ use Rattle.replica_structs.proofs.core.client_in.Met as core-client-thm
 use Rattle.replica_structs.proofs.core.on_message as core-message
 use Rattle.replica_structs.proofs.core.on_message.Symbol as core-message-def
 use Rattle.replica_structs.proofs.core.on_message.Met as core-message-thm
-use Rattle.replica_structs.proofs.core.change_after as change-after
-use Rattle.replica_structs.proofs.core.change_after.Symbol as change-after-def
-use Rattle.replica_structs.proofs.core.change_after.Met as change-after-thm
+use Rattle.replica_structs.proofs.core.change_answered as change-answered
+use Rattle.replica_structs.proofs.core.change_answered.Symbol as change-answered-def
+use Rattle.replica_structs.proofs.core.change_answered.Met as change-answered-thm
 use Rattle.replica_structs.proofs.on_message.Key as key
 use Rattle.replica_structs.proofs.on_message as on-message
 use Rattle.replica_structs.proofs.on_message.Statement as stated
@@ -147,12 +152,12 @@ module _ {M : Type 1} (𝓤 : URA M) (H : Heap 𝓤) (A : Atoms 𝓤) (W : Given
   abbrev ends : (l r t k c : List ℕ) (ts os : List Row) (o p : List ℕ) → List Param
   ends l r t k c ts os o p = passes (arg replicaE s typed) ∷ lends (shr frame (named 0)) ∷ lends (ended log l) ∷ lends (ended results r) ∷ lends (ended totals t) ∷ lends (ended acks k) ∷ lends (ended stored c) ∷ lends (ended table ts) ∷ lends (ended old os) ∷ lends (ended out o) ∷ lends (ended reps p) ∷ []
 
-  exits : (ans : Returned) → Is (answerE .R) ans (answerE .val ans ∷ []) → (l r t k c : List ℕ) (ts os : List Row) (o p : List ℕ) → MessageRowsPromise s (frame .xs) before (calledRows ans (lentRows l r t k c ts os o p))
-      → length l ≡ length (log .xs) → length r ≡ length (results .xs) → length t ≡ length (totals .xs) → length k ≡ length (acks .xs) → length c ≡ length (stored .xs) → length ts ≡ length (table .xs) → length os ≡ length (old .xs) → length o ≡ length (out .xs) → length p ≡ length (reps .xs) → ent 𝓤 (⋆ 𝓤 H A (items (slices (ends l r t k c ts os o p)))) (Post (answerE .val ans))
+  exits : (ans : WithOffset) → Is (answeredE .R) ans (answeredE .val ans ∷ []) → (l r t k c : List ℕ) (ts os : List Row) (o p : List ℕ) → MessageRowsPromise s (frame .xs) before (calledRows (ans .returned) (lentRows l r t k c ts os o p)) × Points wellFormed (frame .xs) (ans .returned .code) (ans .offset)
+      → length l ≡ length (log .xs) → length r ≡ length (results .xs) → length t ≡ length (totals .xs) → length k ≡ length (acks .xs) → length c ≡ length (stored .xs) → length ts ≡ length (table .xs) → length os ≡ length (old .xs) → length o ≡ length (out .xs) → length p ≡ length (reps .xs) → ent 𝓤 (⋆ 𝓤 H A (items (slices (ends l r t k c ts os o p)))) (Post (answeredE .val ans))
   exits ans is l r t k c ts os o p promised e-l e-r e-t e-k e-c e-ts e-os e-o e-p =
       qed W (items (slices (ends l r t k c ts os o p))) ∵
-      suffices ! _ (ends-at 𝓤 H A on-message.ended stayed (on-message.clauses 𝓤 H A mem run) W bound (answerE .val ans) ans (tt, (tt, (l, (r, (t, (k, (c, (ts, (os, (o, (p, tt))))))))))) (tt, (tt, (e-l, (e-r, (e-t, (e-k, (e-c, (e-ts, (e-os, (e-o, (e-p, tt)))))))))))) $
-      says ! promised $ leaves-all ! (ends l r t k c ts os o p) (arg answerE ans is)
+      suffices ! _ (ends-at 𝓤 H A on-message.ended stayed (on-message.clauses 𝓤 H A mem run) W bound (answeredE .val ans) ans (tt, (tt, (l, (r, (t, (k, (c, (ts, (os, (o, (p, tt))))))))))) (tt, (tt, (e-l, (e-r, (e-t, (e-k, (e-c, (e-ts, (e-os, (e-o, (e-p, tt)))))))))))) $
+      says ! promised $ leaves-all ! (ends l r t k c ts os o p) (arg answeredE ans is)
 
   -- what each callee's triple binds outside, and what it gets
   abbrev to-checked : CoreChecked 𝓤 H A mem run .Ghost
@@ -186,14 +191,14 @@ module _ {M : Type 1} (𝓤 : URA M) (H : Heap 𝓤) (A : Atoms 𝓤) (W : Given
   to-core-all ν₀ δ₀ ν₁ δ₁ z z-is n n-is =
       passes (arg replicaE s typed) ∷ passes (arg checkedE z z-is) ∷ passes (arg latestE n n-is) ∷ lends (shr frame (named 0)) ∷ lends (lent (ν₀ ∷ []) fullShare (MutSlice (named 1) (ν₀ ∷ []) u8 .own (ref δ₀ (log .b) (log .o) (log .xs)) (at log ∷ []))) ∷ lends (lent (ν₁ ∷ []) fullShare (MutSlice (named 2) (ν₁ ∷ []) u8 .own (ref δ₁ (results .b) (results .o) (results .xs)) (at results ∷ []))) ∷ lends (mut totals (named 3) (totals .xs)) ∷ lends (mut acks (named 4) (acks .xs)) ∷ lends (mut stored (named 5) (stored .xs)) ∷ lends (mut out (named 6) (out .xs)) ∷ lends (mut reps (named 7) (reps .xs)) ∷ []
 
-  module _ (C : Calls 𝓤 H) (Λ : Loops 𝓤 H) (fm : FmC 𝓤 H (W .laws) C) (known-checked : Triple 𝓤 (C core-checked-def.name) (CoreChecked 𝓤 H A mem run)) (known-client : Triple 𝓤 (C core-client-def.name) (CoreClient 𝓤 H A mem run)) (known-latest : Triple 𝓤 (C table-latest-def.name) (TableLatest 𝓤 H A mem run)) (known-core : Triple 𝓤 (C core-message-def.name) (CoreMessage 𝓤 H A mem run)) (known-change : Triple 𝓤 (C change-after-def.name) (ChangeAfter 𝓤 H A mem run)) (known-follow : Triple 𝓤 (C follow-def.name) (Follow 𝓤 H A mem run)) where
+  module _ (C : Calls 𝓤 H) (Λ : Loops 𝓤 H) (fm : FmC 𝓤 H (W .laws) C) (known-checked : Triple 𝓤 (C core-checked-def.name) (CoreChecked 𝓤 H A mem run)) (known-client : Triple 𝓤 (C core-client-def.name) (CoreClient 𝓤 H A mem run)) (known-latest : Triple 𝓤 (C table-latest-def.name) (TableLatest 𝓤 H A mem run)) (known-core : Triple 𝓤 (C core-message-def.name) (CoreMessage 𝓤 H A mem run)) (known-change : Triple 𝓤 (C change-answered-def.name) (ChangeAnswered 𝓤 H A mem run)) (known-follow : Triple 𝓤 (C follow-def.name) (Follow 𝓤 H A mem run)) where
     -- The walk from behind the core on, with the temporaries forgotten. It stands by itself since the whole is more than antt takes in one declaration.
-    module _ (l₀ l₁ l₂ l₃ l₄ l₅ l₆ l₇ l₈ l₉ l₁₀ l₁₁ l₁₂ l₁₃ l₁₄ l₁₅ l₁₆ l₁₇ l₁₈ l₁₉ l₂₀ l₂₁ l₂₂ l₂₃ l₂₄ l₂₅ l₂₆ l₂₇ l₂₈ l₂₉ l₃₀ l₃₁ l₃₂ l₃₃ l₃₄ l₃₅ l₃₆ l₃₇ l₃₈ l₃₉ l₄₀ l₄₁ l₄₂ l₄₃ l₄₄ l₄₅ l₄₆ l₄₇ l₄₈ : ℕ) (z : Checked) (e-z : Said z) (i : ℕ) (e-i : i ≡ clientIn z) (n : Latest) (e-n : n ≡ latestAmong (table .xs) i) (ans : Returned) (is : Is (answerE .R) ans (answerE .val ans ∷ []))
-        (l r t k c o p : List ℕ) (e : Left z n ans l r t k c o p) (e-l : length l ≡ length (log .xs)) (e-r : length r ≡ length (results .xs)) (e-t : length t ≡ length (totals .xs)) (e-k : length k ≡ length (acks .xs)) (e-c : length c ≡ length (stored .xs)) (e-o : length o ≡ length (out .xs)) (e-p : length p ≡ length (reps .xs)) where
+    module _ (l₀ l₁ l₂ l₃ l₄ l₅ l₆ l₇ l₈ l₉ l₁₀ l₁₁ l₁₂ l₁₃ l₁₄ l₁₅ l₁₆ l₁₇ l₁₈ l₁₉ l₂₀ l₂₁ l₂₂ l₂₃ l₂₄ l₂₅ l₂₆ l₂₇ l₂₈ l₂₉ l₃₀ l₃₁ l₃₂ l₃₃ l₃₄ l₃₅ l₃₆ l₃₇ l₃₈ l₃₉ l₄₀ l₄₁ l₄₂ l₄₃ l₄₄ l₄₅ l₄₆ l₄₇ l₄₈ : ℕ) (z : Checked) (e-z : Said z) (i : ℕ) (e-i : i ≡ clientIn z) (n : Latest) (e-n : n ≡ latestAmong (table .xs) i) (ans : WithOffset) (is : Is (answeredE .R) ans (answeredE .val ans ∷ []))
+        (l r t k c o p : List ℕ) (e : Left z n (ans .returned) l r t k c o p) (e-at : ans .offset ≡ checkedOffset z) (e-l : length l ≡ length (log .xs)) (e-r : length r ≡ length (results .xs)) (e-t : length t ≡ length (totals .xs)) (e-k : length k ≡ length (acks .xs)) (e-c : length c ≡ length (stored .xs)) (e-o : length o ≡ length (out .xs)) (e-p : length p ≡ length (reps .xs)) where
       abbrev En : Env 𝓤 H
       En = env-at piece.locals (l₀ ∷ l₁ ∷ l₂ ∷ l₃ ∷ l₄ ∷ l₅ ∷ l₆ ∷ l₇ ∷ l₈ ∷ l₉ ∷ l₁₀ ∷ l₁₁ ∷ l₁₂ ∷ l₁₃ ∷ l₁₄ ∷ l₁₅ ∷ l₁₆ ∷ l₁₇ ∷ l₁₈ ∷ l₁₉ ∷ l₂₀ ∷ l₂₁ ∷ l₂₂ ∷ l₂₃ ∷ l₂₄ ∷ l₂₅ ∷ l₂₆ ∷ l₂₇ ∷ l₂₈ ∷ l₂₉ ∷ l₃₀ ∷ l₃₁ ∷ l₃₂ ∷ l₃₃ ∷ l₃₄ ∷ l₃₅ ∷ l₃₆ ∷ l₃₇ ∷ l₃₈ ∷ l₃₉ ∷ l₄₀ ∷ l₄₁ ∷ l₄₂ ∷ l₄₃ ∷ l₄₄ ∷ l₄₅ ∷ l₄₆ ∷ l₄₇ ∷ l₄₈ ∷ [])
 
-      rest : Sq W (items (mut log (named 1) l ∷ mut results (named 2) r ∷ mut table (named 6) (table .xs) ∷ mut old (named 7) (old .xs) ∷ shr frame (named 0) ∷ ended totals t ∷ ended acks k ∷ ended stored c ∷ ended out o ∷ ended reps p ∷ []) ++ locals-at piece.locals (l₀ ∷ l₁ ∷ l₂ ∷ l₃ ∷ l₄ ∷ l₅ ∷ l₆ ∷ l₇ ∷ l₈ ∷ l₉ ∷ l₁₀ ∷ l₁₁ ∷ l₁₂ ∷ l₁₃ ∷ l₁₄ ∷ l₁₅ ∷ l₁₆ ∷ l₁₇ ∷ l₁₈ ∷ l₁₉ ∷ l₂₀ ∷ l₂₁ ∷ l₂₂ ∷ l₂₃ ∷ l₂₄ ∷ l₂₅ ∷ l₂₆ ∷ l₂₇ ∷ l₂₈ ∷ l₂₉ ∷ l₃₀ ∷ l₃₁ ∷ l₃₂ ∷ l₃₃ ∷ l₃₄ ∷ l₃₅ ∷ l₃₆ ∷ l₃₇ ∷ l₃₈ ∷ l₃₉ ∷ l₄₀ ∷ l₄₁ ∷ l₄₂ ∷ l₄₃ ∷ l₄₄ ∷ l₄₅ ∷ l₄₆ ∷ l₄₇ ∷ l₄₈ ∷ []) (none ∷ some (replicaE .val s) ∷ some (at frame) ∷ some (at log) ∷ some (at results) ∷ some (at totals) ∷ some (at acks) ∷ some (at stored) ∷ some (at table) ∷ some (at old) ∷ some (at out) ∷ some (at reps) ∷ some (checkedE .val z) ∷ some (latestE .val n) ∷ some (answerE .val ans) ∷ none ∷ none ∷ none ∷ none ∷ none ∷ none ∷ none ∷ none ∷ none ∷ none ∷ none ∷ none ∷ none ∷ none ∷ none ∷ none ∷ none ∷ none ∷ none ∷ none ∷ none ∷ none ∷ none ∷ none ∷ none ∷ none ∷ none ∷ none ∷ none ∷ none ∷ none ∷ none ∷ none ∷ none ∷ []) []) (runs C Λ En piece.t-28 (atRet En Post))
+      rest : Sq W (items (mut log (named 1) l ∷ mut results (named 2) r ∷ mut table (named 6) (table .xs) ∷ mut old (named 7) (old .xs) ∷ shr frame (named 0) ∷ ended totals t ∷ ended acks k ∷ ended stored c ∷ ended out o ∷ ended reps p ∷ []) ++ locals-at piece.locals (l₀ ∷ l₁ ∷ l₂ ∷ l₃ ∷ l₄ ∷ l₅ ∷ l₆ ∷ l₇ ∷ l₈ ∷ l₉ ∷ l₁₀ ∷ l₁₁ ∷ l₁₂ ∷ l₁₃ ∷ l₁₄ ∷ l₁₅ ∷ l₁₆ ∷ l₁₇ ∷ l₁₈ ∷ l₁₉ ∷ l₂₀ ∷ l₂₁ ∷ l₂₂ ∷ l₂₃ ∷ l₂₄ ∷ l₂₅ ∷ l₂₆ ∷ l₂₇ ∷ l₂₈ ∷ l₂₉ ∷ l₃₀ ∷ l₃₁ ∷ l₃₂ ∷ l₃₃ ∷ l₃₄ ∷ l₃₅ ∷ l₃₆ ∷ l₃₇ ∷ l₃₈ ∷ l₃₉ ∷ l₄₀ ∷ l₄₁ ∷ l₄₂ ∷ l₄₃ ∷ l₄₄ ∷ l₄₅ ∷ l₄₆ ∷ l₄₇ ∷ l₄₈ ∷ []) (none ∷ some (replicaE .val s) ∷ some (at frame) ∷ some (at log) ∷ some (at results) ∷ some (at totals) ∷ some (at acks) ∷ some (at stored) ∷ some (at table) ∷ some (at old) ∷ some (at out) ∷ some (at reps) ∷ some (checkedE .val z) ∷ some (latestE .val n) ∷ some (answeredE .val ans) ∷ none ∷ none ∷ none ∷ none ∷ none ∷ none ∷ none ∷ none ∷ none ∷ none ∷ none ∷ none ∷ none ∷ none ∷ none ∷ none ∷ none ∷ none ∷ none ∷ none ∷ none ∷ none ∷ none ∷ none ∷ none ∷ none ∷ none ∷ none ∷ none ∷ none ∷ none ∷ none ∷ none ∷ none ∷ []) []) (runs C Λ En piece.t-28 (atRet En Post))
       rest =
           -- [the slices, each with its token; _48; …; … _0; …]
           -- the table
@@ -205,16 +210,16 @@ module _ {M : Type 1} (𝓤 : URA M) (H : Heap 𝓤) (A : Atoms 𝓤) (W : Given
           assigns ! (agg ! (and-then ! (load ! (from ! (stop !)) (look ! 28 refl)) (and-then ! (load ! (from ! (fld ! refl (stop !))) (look-in ! 110 (sub ! 1 refl (whole !)))) (no-more !)))) (from ! (stop !)) (init ! 26 refl (tt, (tt, (record { fits = log .room .0 }, tt)))) $
           assigns ! (addr ! (from ! (fld ! refl (hop ! (look-in ! 108 (sub ! 0 refl (whole !))) (stop !))))) (from ! (stop !)) (init ! 24 refl (tt, tt)) $
           assigns ! (agg ! (and-then ! (load ! (from ! (stop !)) (look ! 24 refl)) (and-then ! (load ! (from ! (fld ! refl (stop !))) (look-in ! 108 (sub ! 1 refl (whole !)))) (no-more !)))) (from ! (stop !)) (init ! 22 refl (tt, (tt, (record { fits = results .room .0 }, tt)))) $
-          gives W [] (ChangeAfter 𝓤 H A mem run .pre (to-change 𝓤 H A mem run s ans)) (bare ! $ hands ! [] (arg replicaE s typed ∷ arg answerE ans is ∷ [])) $
-          calls-fn ! fm change-after.ended (change-after.clauses 𝓤 H A mem run) known-change (to-change 𝓤 H A mem run s ans) (and-then ! (load ! (from ! (stop !)) (look ! 115 refl)) (and-then ! (load ! (from ! (stop !)) (look ! 89 refl)) (no-more !))) (λ v₄ x ws₄.
-          heard ! (x ≡ changeAfter s ans) (λ e₁. told changeE ! [] 20 x v₄ refl refl (λ is₁.
-          gives-follow 𝓤 H A W mem run log results table old l r e-l e-r ! tt x is₁ (follow-needs s before ans (memory l r t k c o p) (core-of z n) e (message-ready s (length (table .xs)) (length (old .xs)) n (frame .xs) (before .core) z e-z) x e₁) (λ ν₂ δ₂ ν₃ δ₃.
+          gives W [] (ChangeAnswered 𝓤 H A mem run .pre (to-answered 𝓤 H A mem run s ans)) (bare ! $ hands ! [] (arg replicaE s typed ∷ arg answeredE ans is ∷ [])) $
+          calls-fn ! fm change-answered.ended (change-answered.clauses 𝓤 H A mem run) known-change (to-answered 𝓤 H A mem run s ans) (and-then ! (load ! (from ! (stop !)) (look ! 115 refl)) (and-then ! (load ! (from ! (stop !)) (look ! 89 refl)) (no-more !))) (λ v₄ x ws₄.
+          heard ! (x ≡ changeAfter s (ans .returned)) (λ e₁. told changeE ! [] 20 x v₄ refl refl (λ is₁.
+          gives-follow 𝓤 H A W mem run log results table old l r e-l e-r ! tt x is₁ (follow-needs s before (ans .returned) (memory l r t k c o p) (core-of z n) e (message-ready s (length (table .xs)) (length (old .xs)) n (frame .xs) (before .core) z e-z) x e₁) (λ ν₂ δ₂ ν₃ δ₃.
           calls-fn ! fm follow.ended (follow.clauses 𝓤 H A mem run) known-follow (to-follow 𝓤 H A mem run log results table old ν₂ δ₂ ν₃ δ₃ l r x) (and-then ! (load ! (from ! (stop !)) (look ! 29 refl)) (and-then ! (load ! (from ! (stop !)) (look ! 25 refl)) (and-then ! (load ! (from ! (stop !)) (look ! 21 refl)) (and-then ! (load ! (from ! (stop !)) (look ! 17 refl)) (and-then ! (load ! (from ! (stop !)) (look ! 15 refl)) (no-more !)))))) (λ v₅ y ws₅.
           heard ! ((ws₅ .0 ≡ followed structRow x (table .xs) (entries (x .to .0) l) (outcomes (x .done .0) r)) × (ws₅ .1 .0 ≡ oldRowsAfter x (table .xs) (old .xs))) (λ e₂. last-of ! (λ e-ts. last-of ! (λ e-os. told unitE ! (to-follow-all log results table old ν₂ δ₂ ν₃ δ₃ l r) 34 y v₅ refl refl (λ _.
           takes-follow 𝓤 H A W mem run log results table old l r e-l e-r ! tt (ws₅ .0) (ws₅ .1 .0) $
           move ! (8 ∷ 9 ∷ 0 ∷ 1 ∷ 2 ∷ 3 ∷ 10 ∷ 11 ∷ 12 ∷ 13 ∷ 14 ∷ 15 ∷ 4 ∷ 5 ∷ 6 ∷ 7 ∷ 16 ∷ 17 ∷ 18 ∷ 19 ∷ []) $
-          assigns ! (of-opd ! (load ! (from ! (stop !)) (look ! 88 refl))) (from ! (stop !)) (init ! 116 refl (answerE .lawful 𝓤 H A W ans is)) $
-          returns ! (look ! 116 refl) $ gone ! 116 refl refl $ gone ! 114 refl refl $ gone ! 112 refl refl $ gone ! 110 refl refl $ gone ! 108 refl refl $ gone ! 106 refl refl $ gone ! 104 refl refl $ gone ! 102 refl refl $ gone ! 100 refl refl $ gone ! 98 refl refl $ gone ! 96 refl refl $ gone ! 94 refl refl $ gone ! 92 refl refl $ gone ! 90 refl refl $ gone ! 88 refl refl $ gone-room ! 86 refl refl $ gone-room ! 84 refl refl $ gone-room ! 82 refl refl $ gone-room ! 80 refl refl $ gone-room ! 78 refl refl $ gone-room ! 76 refl refl $ gone-room ! 74 refl refl $ gone-room ! 72 refl refl $ gone-room ! 70 refl refl $ gone-room ! 68 refl refl $ gone-room ! 66 refl refl $ gone-room ! 64 refl refl $ gone-room ! 62 refl refl $ gone-room ! 60 refl refl $ gone-room ! 58 refl refl $ gone-room ! 56 refl refl $ gone-room ! 54 refl refl $ gone-room ! 52 refl refl $ gone-room ! 50 refl refl $ gone-room ! 48 refl refl $ gone-room ! 46 refl refl $ gone-room ! 44 refl refl $ gone-room ! 42 refl refl $ gone-room ! 40 refl refl $ gone ! 38 refl refl $ gone ! 36 refl refl $ gone ! 34 refl refl $ gone ! 32 refl refl $ gone ! 30 refl refl $ gone ! 28 refl refl $ gone ! 26 refl refl $ gone ! 24 refl refl $ gone ! 22 refl refl $ gone ! 20 refl refl $ free0 ! $ by ! (exits ans is l r t k c (ws₅ .0) (ws₅ .1 .0) o p (message-rows s before ans (memory l r t k c o p) (core-of z n) e (message-ready s (length (table .xs)) (length (old .xs)) n (frame .xs) (before .core) z e-z) x e₁ (e₂ .0) (e₂ .1) (frame .xs) z e-z i e-i n e-n refl) e-l e-r e-t e-k e-c e-ts e-os e-o e-p))))))))))
+          assigns ! (of-opd ! (load ! (from ! (stop !)) (look ! 88 refl))) (from ! (stop !)) (init ! 116 refl (answeredE .lawful 𝓤 H A W ans is)) $
+          returns ! (look ! 116 refl) $ gone ! 116 refl refl $ gone ! 114 refl refl $ gone ! 112 refl refl $ gone ! 110 refl refl $ gone ! 108 refl refl $ gone ! 106 refl refl $ gone ! 104 refl refl $ gone ! 102 refl refl $ gone ! 100 refl refl $ gone ! 98 refl refl $ gone ! 96 refl refl $ gone ! 94 refl refl $ gone ! 92 refl refl $ gone ! 90 refl refl $ gone ! 88 refl refl $ gone-room ! 86 refl refl $ gone-room ! 84 refl refl $ gone-room ! 82 refl refl $ gone-room ! 80 refl refl $ gone-room ! 78 refl refl $ gone-room ! 76 refl refl $ gone-room ! 74 refl refl $ gone-room ! 72 refl refl $ gone-room ! 70 refl refl $ gone-room ! 68 refl refl $ gone-room ! 66 refl refl $ gone-room ! 64 refl refl $ gone-room ! 62 refl refl $ gone-room ! 60 refl refl $ gone-room ! 58 refl refl $ gone-room ! 56 refl refl $ gone-room ! 54 refl refl $ gone-room ! 52 refl refl $ gone-room ! 50 refl refl $ gone-room ! 48 refl refl $ gone-room ! 46 refl refl $ gone-room ! 44 refl refl $ gone-room ! 42 refl refl $ gone-room ! 40 refl refl $ gone ! 38 refl refl $ gone ! 36 refl refl $ gone ! 34 refl refl $ gone ! 32 refl refl $ gone ! 30 refl refl $ gone ! 28 refl refl $ gone ! 26 refl refl $ gone ! 24 refl refl $ gone ! 22 refl refl $ gone ! 20 refl refl $ free0 ! $ by ! (exits ans is l r t k c (ws₅ .0) (ws₅ .1 .0) o p (message-rows s before (ans .returned) (memory l r t k c o p) (core-of z n) e (message-ready s (length (table .xs)) (length (old .xs)) n (frame .xs) (before .core) z e-z) x e₁ (e₂ .0) (e₂ .1) (frame .xs) z e-z i e-i n e-n refl, rows-points s (length (table .xs)) (length (old .xs)) n (frame .xs) (before .core) z e-z (ans .returned) (memory l r t k c o p) e (ans .offset) e-at) e-l e-r e-t e-k e-c e-ts e-os e-o e-p))))))))))
 
     walk : ent 𝓤 (onEntry 𝓤 H A on-message.signature lives (bound .0 .1) (bound .0 .3) (bound .0 .4)) (WpFn 𝓤 H C Λ code.function inputs Post)
     walk =
@@ -264,15 +269,15 @@ module _ {M : Type 1} (𝓤 : URA M) (H : Heap 𝓤) (A : Atoms 𝓤) (W : Given
         move ! (106 ∷ 107 ∷ []) $ lend-new u8 ! tt (named 1) (named 1) (log .γ) (log .b) (log .o) (log .xs) (at log ∷ []) (λ ν₀ δ₀.
         move ! (6 ∷ 10 ∷ 0 ∷ 1 ∷ 3 ∷ 4 ∷ 109 ∷ 110 ∷ 111 ∷ 112 ∷ 113 ∷ 114 ∷ 117 ∷ 118 ∷ 119 ∷ 120 ∷ []) $ gives W (slices (to-core-all ν₀ δ₀ ν₁ δ₁ z z-is n n-is)) (CoreMessage 𝓤 H A mem run .pre (to-core ν₀ δ₀ ν₁ δ₁ z n)) (says ! (gets z s (length (table .xs)) (length (old .xs)) (frame .xs) (before .core) e-z) $ hands-all ! (to-core-all ν₀ δ₀ ν₁ δ₁ z z-is n n-is)) $
         calls-fn ! fm core-message.ended (core-message.clauses 𝓤 H A mem run) known-core (to-core ν₀ δ₀ ν₁ δ₁ z n) (and-then ! (load ! (from ! (stop !)) (look ! 100 refl)) (and-then ! (load ! (from ! (stop !)) (look ! 78 refl)) (and-then ! (load ! (from ! (stop !)) (look ! 76 refl)) (and-then ! (load ! (from ! (stop !)) (look ! 98 refl)) (and-then ! (load ! (from ! (stop !)) (look ! 50 refl)) (and-then ! (load ! (from ! (stop !)) (look ! 46 refl)) (and-then ! (load ! (from ! (stop !)) (look ! 42 refl)) (and-then ! (load ! (from ! (stop !)) (look ! 38 refl)) (and-then ! (load ! (from ! (stop !)) (look ! 34 refl)) (and-then ! (load ! (from ! (stop !)) (look ! 30 refl)) (and-then ! (load ! (from ! (stop !)) (look ! 26 refl)) (no-more !)))))))))))) (λ v ans ws.
-        heard ! (Left z n ans (ws .1 .1 .1 .1 .0) (ws .1 .1 .1 .1 .1 .0) (ws .1 .1 .1 .1 .1 .1 .0) (ws .1 .1 .1 .1 .1 .1 .1 .0) (ws .1 .1 .1 .1 .1 .1 .1 .1 .0) (ws .1 .1 .1 .1 .1 .1 .1 .1 .1 .0) (ws .1 .1 .1 .1 .1 .1 .1 .1 .1 .1 .0)) (λ e. none-of ! $ none-of ! $ none-of ! $ none-of ! $ last-of ! (λ e-l. last-of ! (λ e-r. last-of ! (λ e-t. last-of ! (λ e-k. last-of ! (λ e-c. last-of ! (λ e-o. last-of ! (λ e-p. told answerE ! (slices (to-core-all ν₀ δ₀ ν₁ δ₁ z z-is n n-is)) 80 ans v refl refl (λ is.
+        heard ! (Left z n (ans .returned) (ws .1 .1 .1 .1 .0) (ws .1 .1 .1 .1 .1 .0) (ws .1 .1 .1 .1 .1 .1 .0) (ws .1 .1 .1 .1 .1 .1 .1 .0) (ws .1 .1 .1 .1 .1 .1 .1 .1 .0) (ws .1 .1 .1 .1 .1 .1 .1 .1 .1 .0) (ws .1 .1 .1 .1 .1 .1 .1 .1 .1 .1 .0) × (ans .offset ≡ checkedOffset z)) (λ e. none-of ! $ none-of ! $ none-of ! $ none-of ! $ last-of ! (λ e-l. last-of ! (λ e-r. last-of ! (λ e-t. last-of ! (λ e-k. last-of ! (λ e-c. last-of ! (λ e-o. last-of ! (λ e-p. told answeredE ! (slices (to-core-all ν₀ δ₀ ν₁ δ₁ z z-is n n-is)) 80 ans v refl refl (λ is.
         move ! (1 ∷ 14 ∷ 15 ∷ []) $ back-new u8 ! tt (named 1) (log .γ) δ₀ (log .b) (log .o) (log .xs) (ws .1 .1 .1 .1 .0) (at log ∷ []) e-l refl (log .room) $
         move ! (3 ∷ 14 ∷ 15 ∷ []) $ back-new u8 ! tt (named 2) (results .γ) δ₁ (results .b) (results .o) (results .xs) (ws .1 .1 .1 .1 .1 .0) (at results ∷ []) e-r refl (results .room) $
         forget ! 84 refl $ forget ! 82 refl $ forget ! 80 refl $ forget ! 78 refl $ forget ! 76 refl $ forget ! 74 refl $ forget ! 72 refl $ forget ! 70 refl $ forget ! 68 refl $ forget ! 66 refl $ forget ! 64 refl $ forget ! 62 refl $ forget ! 60 refl $ forget ! 58 refl $ forget ! 56 refl $ forget ! 54 refl $ forget ! 52 refl $ forget ! 50 refl $ forget ! 48 refl $ forget ! 46 refl $ forget ! 44 refl $ forget ! 42 refl $ forget ! 40 refl $ forget ! 38 refl $
         move ! (2 ∷ 3 ∷ 0 ∷ 1 ∷ 16 ∷ 17 ∷ 116 ∷ 117 ∷ 15 ∷ 4 ∷ 14 ∷ 5 ∷ 13 ∷ 6 ∷ 12 ∷ 7 ∷ 11 ∷ 8 ∷ 10 ∷ 9 ∷ []) $
-        rest l₀ l₁ l₂ l₃ l₄ l₅ l₆ l₇ l₈ l₉ l₁₀ l₁₁ l₁₂ l₁₃ l₁₄ l₁₅ l₁₆ l₁₇ l₁₈ l₁₉ l₂₀ l₂₁ l₂₂ l₂₃ l₂₄ l₂₅ l₂₆ l₂₇ l₂₈ l₂₉ l₃₀ l₃₁ l₃₂ l₃₃ l₃₄ l₃₅ l₃₆ l₃₇ l₃₈ l₃₉ l₄₀ l₄₁ l₄₂ l₄₃ l₄₄ l₄₅ l₄₆ l₄₇ l₄₈ z e-z i e-i n e-n ans is (ws .1 .1 .1 .1 .0) (ws .1 .1 .1 .1 .1 .0) (ws .1 .1 .1 .1 .1 .1 .0) (ws .1 .1 .1 .1 .1 .1 .1 .0) (ws .1 .1 .1 .1 .1 .1 .1 .1 .0) (ws .1 .1 .1 .1 .1 .1 .1 .1 .1 .0) (ws .1 .1 .1 .1 .1 .1 .1 .1 .1 .1 .0) e e-l e-r e-t e-k e-c e-o e-p)))))))))))))))))))))))))))))))))))))))))))))))))))))))))))))))))))))))
+        rest l₀ l₁ l₂ l₃ l₄ l₅ l₆ l₇ l₈ l₉ l₁₀ l₁₁ l₁₂ l₁₃ l₁₄ l₁₅ l₁₆ l₁₇ l₁₈ l₁₉ l₂₀ l₂₁ l₂₂ l₂₃ l₂₄ l₂₅ l₂₆ l₂₇ l₂₈ l₂₉ l₃₀ l₃₁ l₃₂ l₃₃ l₃₄ l₃₅ l₃₆ l₃₇ l₃₈ l₃₉ l₄₀ l₄₁ l₄₂ l₄₃ l₄₄ l₄₅ l₄₆ l₄₇ l₄₈ z e-z i e-i n e-n ans is (ws .1 .1 .1 .1 .0) (ws .1 .1 .1 .1 .1 .0) (ws .1 .1 .1 .1 .1 .1 .0) (ws .1 .1 .1 .1 .1 .1 .1 .0) (ws .1 .1 .1 .1 .1 .1 .1 .1 .0) (ws .1 .1 .1 .1 .1 .1 .1 .1 .1 .0) (ws .1 .1 .1 .1 .1 .1 .1 .1 .1 .1 .0) (e .0) (e .1) e-l e-r e-t e-k e-c e-o e-p)))))))))))))))))))))))))))))))))))))))))))))))))))))))))))))))))))))))
 
 on-message-meets : {M : Type 1} (𝓤 : URA M) (H : Heap 𝓤) (A : Atoms 𝓤) (W : Given 𝓤 H A) (mem : Memory → SProp 𝓤) (run : Routine → Fun 𝓤) (𝓣 : Tables 𝓤 H)
-    → Triple 𝓤 (𝓣 .C core-checked-def.name) (CoreChecked 𝓤 H A mem run) → Triple 𝓤 (𝓣 .C core-client-def.name) (CoreClient 𝓤 H A mem run) → Triple 𝓤 (𝓣 .C table-latest-def.name) (TableLatest 𝓤 H A mem run) → Triple 𝓤 (𝓣 .C core-message-def.name) (CoreMessage 𝓤 H A mem run) → Triple 𝓤 (𝓣 .C change-after-def.name) (ChangeAfter 𝓤 H A mem run) → Triple 𝓤 (𝓣 .C follow-def.name) (Follow 𝓤 H A mem run) → Meets 𝓤 H A on-message.signature (WpFn 𝓤 H (𝓣 .C) (𝓣 .Λ) code.function) (on-message.spec 𝓤 H A mem run)
+    → Triple 𝓤 (𝓣 .C core-checked-def.name) (CoreChecked 𝓤 H A mem run) → Triple 𝓤 (𝓣 .C core-client-def.name) (CoreClient 𝓤 H A mem run) → Triple 𝓤 (𝓣 .C table-latest-def.name) (TableLatest 𝓤 H A mem run) → Triple 𝓤 (𝓣 .C core-message-def.name) (CoreMessage 𝓤 H A mem run) → Triple 𝓤 (𝓣 .C change-answered-def.name) (ChangeAnswered 𝓤 H A mem run) → Triple 𝓤 (𝓣 .C follow-def.name) (Follow 𝓤 H A mem run) → Meets 𝓤 H A on-message.signature (WpFn 𝓤 H (𝓣 .C) (𝓣 .Λ) code.function) (on-message.spec 𝓤 H A mem run)
 on-message-meets 𝓤 H A W mem run 𝓣 known-checked known-client known-latest known-core known-change known-follow =
     met-by 𝓤 H A W on-message.ended stayed (on-message.clauses 𝓤 H A mem run) 𝓣 code.function
     (goes-none 𝓤 H A W 10 (λ _. replicaE .R) yes (λ κs x f. refl), (goes-none-slice 𝓤 H A W 10 (0 ∷ []) tt (plain (λ _. u8)) yes, (goes-gave-slice 𝓤 H A W 10 1 tt (plain (λ _. u8)), (goes-gave-slice 𝓤 H A W 10 2 tt (plain (λ _. u8)), (goes-gave-slice 𝓤 H A W 10 3 tt (plain (λ _. u8)), (goes-gave-slice 𝓤 H A W 10 4 tt (plain (λ _. u8)), (goes-gave-slice 𝓤 H A W 10 5 tt (plain (λ _. u8)), (goes-gave-slice 𝓤 H A W 10 6 tt (plain (λ _. R)), (goes-gave-slice 𝓤 H A W 10 7 tt (plain (λ _. R)), (goes-gave-slice 𝓤 H A W 10 8 tt (plain (λ _. u8)), (goes-gave-slice 𝓤 H A W 10 9 tt (plain (λ _. u8)), tt)))))))))))
@@ -293,5 +298,5 @@ on-message-spec 𝓤 H 𝓜 𝓖 𝓡 =
     (cited 𝓤 H (CoreClient 𝓤 H (𝓖 .A) (𝓜 .mem) (𝓡 .run)) 𝓜 𝓡 code.env core-client-def.name core-client-def.routine code.calls-replica-structs·core·client-in (core-client-thm.met 𝓤 H 𝓜 𝓖 𝓡))
     (cited 𝓤 H (TableLatest 𝓤 H (𝓖 .A) (𝓜 .mem) (𝓡 .run)) 𝓜 𝓡 code.env table-latest-def.name table-latest-def.routine code.calls-client-table-structs·latest (table-latest-thm.met 𝓤 H 𝓜 𝓖 𝓡))
     (cited 𝓤 H (CoreMessage 𝓤 H (𝓖 .A) (𝓜 .mem) (𝓡 .run)) 𝓜 𝓡 code.env core-message-def.name core-message-def.routine code.calls-replica-structs·core·on-message (core-message-thm.met 𝓤 H 𝓜 𝓖 𝓡))
-    (cited 𝓤 H (ChangeAfter 𝓤 H (𝓖 .A) (𝓜 .mem) (𝓡 .run)) 𝓜 𝓡 code.env change-after-def.name change-after-def.routine code.calls-replica-structs·core·change-after (change-after-thm.met 𝓤 H 𝓜 𝓖 𝓡))
+    (cited 𝓤 H (ChangeAnswered 𝓤 H (𝓖 .A) (𝓜 .mem) (𝓡 .run)) 𝓜 𝓡 code.env change-answered-def.name change-answered-def.routine code.calls-replica-structs·core·change-answered (change-answered-thm.met 𝓤 H 𝓜 𝓖 𝓡))
     (cited 𝓤 H (Follow 𝓤 H (𝓖 .A) (𝓜 .mem) (𝓡 .run)) 𝓜 𝓡 code.env follow-def.name follow-def.routine code.calls-client-table-structs·follow (follow-thm.met 𝓤 H 𝓜 𝓖 𝓡)))

@@ -1,4 +1,4 @@
--- `replay_structs::held::on_message` meets its contract: a walk of its MIR, by hand. All that it knows of `replica_structs::on_message` and of `with_rows` is that each meets its contract.
+-- `replay_structs::held::on_message` meets its contract: a walk of its MIR, by hand. All that it knows of `replica_structs::on_message` and of `answered_with_rows` is that each meets its contract.
 -- The first rows of its two arrays are lent to the call, which gets the other slices for good. Assumes nothing.
 use mathlib.Core.Path.{_≡_, refl}
 use Prim.Native.Nat.{ℕ, _≤_, zero-le}
@@ -39,15 +39,15 @@ use Rattle.walks.proofs.Mixed.{Part, part-of, at, as-ref, mut, shr, ended, Para
 use Rattle.client_table_structs.specs.declared.Row.{Row}
 use Rattle.client_table_structs.proofs.Rowed.{rowE}
 use Rattle.state.specs.declared.Replica.{Replica}
-use Rattle.replica_structs.proofs.Carried.{answerE, replicaE}
+use Rattle.replica_structs.proofs.Carried.{answeredE, replicaE}
 use Rattle.replica_structs.proofs.on_message as callee
 use Rattle.replica_structs.proofs.on_message.Symbol as callee-def
 use Rattle.replica_structs.proofs.on_message.Met as callee-thm
 use Rattle.replay_structs.specs.declared.held.Left.{Left}
-use Rattle.replay_structs.proofs.Rowed.{R, rowsE, leftE, WithRows, rows-room, rows-long, less-none, less-none-fits}
-use Rattle.replay_structs.proofs.held.with_rows as with-rows
-use Rattle.replay_structs.proofs.held.with_rows.Symbol as with-rows-def
-use Rattle.replay_structs.proofs.held.with_rows.Met as with-rows-thm
+use Rattle.replay_structs.proofs.Rowed.{R, rowsE, leftE, AnsweredWithRows, rows-room, rows-long, less-none, less-none-fits}
+use Rattle.replay_structs.proofs.held.answered_with_rows as with-rows
+use Rattle.replay_structs.proofs.held.answered_with_rows.Symbol as with-rows-def
+use Rattle.replay_structs.proofs.held.answered_with_rows.Met as with-rows-thm
 use Rattle.replay_structs.proofs.held.on_message as on-message
 use Rattle.replay_structs.proofs.held.on_message.Key as key
 use Rattle.replay_structs.proofs.held.on_message.Statement as stated
@@ -113,10 +113,10 @@ module _ {M : Type 1} (𝓤 : URA M) (H : Heap 𝓤) (A : Atoms 𝓤) (W : Given
   abbrev to-all : ℕ → GName → ℕ → GName → ℕ → ℕ → List Param
   to-all ν₀ δ₀ ν₁ δ₁ b₀ b₁ = passes (arg replicaE s s-is) ∷ lends (shr frame (named 0)) ∷ lends (mut log (named 1) (log .xs)) ∷ lends (mut results (named 2) (results .xs)) ∷ lends (mut totals (named 3) (totals .xs)) ∷ lends (mut acks (named 4) (acks .xs)) ∷ lends (mut stored (named 5) (stored .xs)) ∷ lends (lent (ν₀ ∷ []) fullShare (MutSlice (named 6) (ν₀ ∷ []) R .own (ref δ₀ b₀ 0 (take l table)) (sliceVal (b₀, 0) l ∷ []))) ∷ lends (lent (ν₁ ∷ []) fullShare (MutSlice (named 7) (ν₁ ∷ []) R .own (ref δ₁ b₁ 0 (take l old)) (sliceVal (b₁, 0) l ∷ []))) ∷ lends (mut out (named 8) (out .xs)) ∷ lends (mut reps (named 9) (reps .xs)) ∷ []
 
-  abbrev to-with-rows : (ans : answerE .R .Denot) (ts os : List Row) → WithRows 𝓤 H A mem run .Ghost
-  to-with-rows ans ts os = ((tt, tt, tt, (ans, (ts, (os, tt))), (answerE .val ans ∷ [], (rowsE .val ts ∷ [], (rowsE .val os ∷ [], tt)))), tt)
+  abbrev to-with-rows : (ans : answeredE .R .Denot) (ts os : List Row) → AnsweredWithRows 𝓤 H A mem run .Ghost
+  to-with-rows ans ts os = ((tt, tt, tt, (ans, (ts, (os, tt))), (answeredE .val ans ∷ [], (rowsE .val ts ∷ [], (rowsE .val os ∷ [], tt)))), tt)
 
-  module _ (C : Calls 𝓤 H) (Λ : Loops 𝓤 H) (fm : FmC 𝓤 H (W .laws) C) (known-call : Triple 𝓤 (C callee-def.name) (Call 𝓤 H A mem run)) (known-with-rows : Triple 𝓤 (C with-rows-def.name) (WithRows 𝓤 H A mem run)) where
+  module _ (C : Calls 𝓤 H) (Λ : Loops 𝓤 H) (fm : FmC 𝓤 H (W .laws) C) (known-call : Triple 𝓤 (C callee-def.name) (Call 𝓤 H A mem run)) (known-with-rows : Triple 𝓤 (C with-rows-def.name) (AnsweredWithRows 𝓤 H A mem run)) where
     walk : ent 𝓤 (onEntry 𝓤 H A on-message.signature lives (bound .0 .1) (bound .0 .3) (bound .0 .4)) (WpFn 𝓤 H C Λ code.function inputs Post)
     walk =
         qed W (raw (alive 𝓤 A (slices params)) ∷ ‵ (owned-all params) ∷ []) ∵ takes-all W params $ enter ! C Λ code.function inputs _ $
@@ -156,20 +156,20 @@ module _ {M : Type 1} (𝓤 : URA M) (H : Heap 𝓤) (A : Atoms 𝓤) (W : Given
         move ! (0 ∷ 90 ∷ 91 ∷ 92 ∷ 93 ∷ 94 ∷ 95 ∷ 96 ∷ 97 ∷ 98 ∷ 99 ∷ 100 ∷ 2 ∷ 3 ∷ 5 ∷ 6 ∷ 101 ∷ 102 ∷ 103 ∷ 104 ∷ []) $ gives W (slices (to-all ν₀ δ₀ ν₁ δ₁ l₁₃ l₁₄)) (Call 𝓤 H A mem run .pre (to-call ν₀ δ₀ ν₁ δ₁ l₁₃ l₁₄)) (bare ! $ hands-all ! (to-all ν₀ δ₀ ν₁ δ₁ l₁₃ l₁₄)) $
         calls-fn ! fm callee.ended (callee.clauses 𝓤 H A mem run) known-call (to-call ν₀ δ₀ ν₁ δ₁ l₁₃ l₁₄) (and-then ! (load ! (from ! (stop !)) (look ! 82 refl)) (and-then ! (load ! (from ! (stop !)) (look ! 80 refl)) (and-then ! (load ! (from ! (stop !)) (look ! 52 refl)) (and-then ! (load ! (from ! (stop !)) (look ! 48 refl)) (and-then ! (load ! (from ! (stop !)) (look ! 44 refl)) (and-then ! (load ! (from ! (stop !)) (look ! 40 refl)) (and-then ! (load ! (from ! (stop !)) (look ! 36 refl)) (and-then ! (load ! (from ! (stop !)) (look ! 26 refl)) (and-then ! (load ! (from ! (stop !)) (look ! 16 refl)) (and-then ! (load ! (from ! (stop !)) (look ! 12 refl)) (and-then ! (load ! (from ! (stop !)) (look ! 8 refl)) (no-more !)))))))))))) (λ v ans ws.
         drop ! $ none-of ! $ none-of ! $ last-of ! (λ e-log. last-of ! (λ e-results. last-of ! (λ e-totals. last-of ! (λ e-acks. last-of ! (λ e-stored. last-of ! (λ e-table. last-of ! (λ e-old. last-of ! (λ e-out. last-of ! (λ e-reps.
-        told answerE ! (slices (to-all ν₀ δ₀ ν₁ δ₁ l₁₃ l₁₄)) 64 ans v refl refl (λ ans-is.
+        told answeredE ! (slices (to-all ν₀ δ₀ ν₁ δ₁ l₁₃ l₁₄)) 64 ans v refl refl (λ ans-is.
         -- and come back
         move ! (6 ∷ 13 ∷ 20 ∷ []) $ back-first rowE 8 ! tt δ₀ l table (ws .1 .1 .1 .1 .1 .1 .1 .0) l₁₃ (table-is .1 .0 .1) e-table (λ table-is′.
         move ! (7 ∷ 12 ∷ 19 ∷ []) $ back-first rowE 8 ! tt δ₁ l old (ws .1 .1 .1 .1 .1 .1 .1 .1 .0) l₁₄ (old-is .1 .0 .1) e-old (λ old-is′.
         assigns ! (of-opd ! (load ! (from ! (stop !)) (look ! 1 refl))) (from ! (stop !)) (init ! 20 refl (rowsE .lawful 𝓤 H A W ((ws .1 .1 .1 .1 .1 .1 .1 .0) ++ (drop-list l table)) table-is′)) $
         assigns ! (of-opd ! (load ! (from ! (stop !)) (look ! 0 refl))) (from ! (stop !)) (init ! 18 refl (rowsE .lawful 𝓤 H A W ((ws .1 .1 .1 .1 .1 .1 .1 .1 .0) ++ (drop-list l old)) old-is′)) $
-        gives W [] (WithRows 𝓤 H A mem run .pre (to-with-rows ans ((ws .1 .1 .1 .1 .1 .1 .1 .0) ++ (drop-list l table)) ((ws .1 .1 .1 .1 .1 .1 .1 .1 .0) ++ (drop-list l old)))) (bare ! $ hands ! [] (arg answerE ans ans-is ∷ arg rowsE ((ws .1 .1 .1 .1 .1 .1 .1 .0) ++ (drop-list l table)) table-is′ ∷ arg rowsE ((ws .1 .1 .1 .1 .1 .1 .1 .1 .0) ++ (drop-list l old)) old-is′ ∷ [])) $
+        gives W [] (AnsweredWithRows 𝓤 H A mem run .pre (to-with-rows ans ((ws .1 .1 .1 .1 .1 .1 .1 .0) ++ (drop-list l table)) ((ws .1 .1 .1 .1 .1 .1 .1 .1 .0) ++ (drop-list l old)))) (bare ! $ hands ! [] (arg answeredE ans ans-is ∷ arg rowsE ((ws .1 .1 .1 .1 .1 .1 .1 .0) ++ (drop-list l table)) table-is′ ∷ arg rowsE ((ws .1 .1 .1 .1 .1 .1 .1 .1 .0) ++ (drop-list l old)) old-is′ ∷ [])) $
         calls-fn ! fm with-rows.ended (with-rows.clauses 𝓤 H A mem run) known-with-rows (to-with-rows ans ((ws .1 .1 .1 .1 .1 .1 .1 .0) ++ (drop-list l table)) ((ws .1 .1 .1 .1 .1 .1 .1 .1 .0) ++ (drop-list l old))) (and-then ! (load ! (from ! (stop !)) (look ! 71 refl)) (and-then ! (load ! (from ! (stop !)) (look ! 21 refl)) (and-then ! (load ! (from ! (stop !)) (look ! 19 refl)) (no-more !)))) (λ v′ r ws′.
         drop ! $ told leftE ! [] 98 r v′ refl refl (λ r-is.
         move ! (17 ∷ 2 ∷ 16 ∷ 3 ∷ 15 ∷ 4 ∷ 14 ∷ 5 ∷ 13 ∷ 6 ∷ 12 ∷ 7 ∷ 11 ∷ 8 ∷ 10 ∷ 9 ∷ 0 ∷ 72 ∷ 1 ∷ 73 ∷ []) $
         returns ! (look ! 98 refl) $ gone ! 98 refl refl $ gone ! 96 refl refl $ gone ! 94 refl refl $ gone ! 92 refl refl $ gone ! 90 refl refl $ gone ! 88 refl refl $ gone ! 86 refl refl $ gone ! 84 refl refl $ gone ! 82 refl refl $ gone ! 80 refl refl $ gone ! 78 refl refl $ gone ! 76 refl refl $ gone ! 74 refl refl $ gone ! 18 refl refl $ gone ! 16 refl refl $ gone ! 68 refl refl $ gone ! 66 refl refl $ gone ! 64 refl refl $ gone ! 62 refl refl $ gone ! 60 refl refl $ gone ! 58 refl refl $ gone ! 56 refl refl $ gone ! 54 refl refl $ gone ! 52 refl refl $ gone ! 50 refl refl $ gone ! 48 refl refl $ gone ! 46 refl refl $ gone ! 44 refl refl $ gone ! 42 refl refl $ gone ! 40 refl refl $ gone ! 38 refl refl $ gone ! 36 refl refl $ gone ! 34 refl refl $ gone ! 32 refl refl $ gone ! 30 refl refl $ gone ! 28 refl refl $ gone ! 26 refl refl $ gone ! 24 refl refl $ gone ! 22 refl refl $ gone ! 20 refl refl $ gone ! 18 refl refl $ gone ! 16 refl refl $ free0 ! $ by ! (exits r r-is (ws .1 .1 .0) (ws .1 .1 .1 .0) (ws .1 .1 .1 .1 .0) (ws .1 .1 .1 .1 .1 .0) (ws .1 .1 .1 .1 .1 .1 .0) (ws .1 .1 .1 .1 .1 .1 .1 .1 .1 .0) (ws .1 .1 .1 .1 .1 .1 .1 .1 .1 .1 .0) e-log e-results e-totals e-acks e-stored e-out e-reps))))))))))))))))))))))))))))))))))))))))))))))))))))))))))))
 
 on-message-meets : {M : Type 1} (𝓤 : URA M) (H : Heap 𝓤) (A : Atoms 𝓤) (W : Given 𝓤 H A) (mem : Memory → SProp 𝓤) (run : Routine → Fun 𝓤) (𝓣 : Tables 𝓤 H)
-    → Triple 𝓤 (𝓣 .C callee-def.name) (Call 𝓤 H A mem run) → Triple 𝓤 (𝓣 .C with-rows-def.name) (WithRows 𝓤 H A mem run) → Meets 𝓤 H A on-message.signature (WpFn 𝓤 H (𝓣 .C) (𝓣 .Λ) code.function) (on-message.spec 𝓤 H A mem run)
+    → Triple 𝓤 (𝓣 .C callee-def.name) (Call 𝓤 H A mem run) → Triple 𝓤 (𝓣 .C with-rows-def.name) (AnsweredWithRows 𝓤 H A mem run) → Meets 𝓤 H A on-message.signature (WpFn 𝓤 H (𝓣 .C) (𝓣 .Λ) code.function) (on-message.spec 𝓤 H A mem run)
 on-message-meets 𝓤 H A W mem run 𝓣 known-call known-with-rows =
     met-by 𝓤 H A W on-message.ended stayed (on-message.clauses 𝓤 H A mem run) 𝓣 code.function
     (goes-none 𝓤 H A W 8 (λ _. replicaE .R) yes (λ κs x f. refl), (goes-none-slice 𝓤 H A W 8 (0 ∷ []) tt (plain (λ _. u8)) yes, (goes-gave-slice 𝓤 H A W 8 1 tt (plain (λ _. u8)), (goes-gave-slice 𝓤 H A W 8 2 tt (plain (λ _. u8)), (goes-gave-slice 𝓤 H A W 8 3 tt (plain (λ _. u8)), (goes-gave-slice 𝓤 H A W 8 4 tt (plain (λ _. u8)), (goes-gave-slice 𝓤 H A W 8 5 tt (plain (λ _. u8)), (goes-gave-slice 𝓤 H A W 8 6 tt (plain (λ _. u8)), (goes-gave-slice 𝓤 H A W 8 7 tt (plain (λ _. u8)), (goes-none 𝓤 H A W 8 (λ _. (uintE w64) .R) yes (λ κs x f. refl), (goes-none 𝓤 H A W 8 (λ _. rowsE .R) yes (λ κs x f. refl), (goes-none 𝓤 H A W 8 (λ _. rowsE .R) yes (λ κs x f. refl), tt))))))))))))
@@ -186,4 +186,4 @@ on-message-spec 𝓤 H 𝓜 𝓖 𝓡 =
     (tables 𝓤 H 𝓜 𝓡 code.env .C) (tables 𝓤 H 𝓜 𝓡 code.env .Λ) key.name code.function (code.unfolded 𝓤 H 𝓜 𝓡)
     (on-message-meets 𝓤 H (𝓖 .A) (givenOf 𝓤 H 𝓜 𝓖) (𝓜 .mem) (𝓡 .run) (tablesOf 𝓤 H 𝓜 (tables 𝓤 H 𝓜 𝓡 code.env))
     (cited 𝓤 H (Call 𝓤 H (𝓖 .A) (𝓜 .mem) (𝓡 .run)) 𝓜 𝓡 code.env callee-def.name callee-def.routine code.calls-replica-structs·on-message (callee-thm.met 𝓤 H 𝓜 𝓖 𝓡))
-    (cited 𝓤 H (WithRows 𝓤 H (𝓖 .A) (𝓜 .mem) (𝓡 .run)) 𝓜 𝓡 code.env with-rows-def.name with-rows-def.routine code.calls-replay-structs·held·with-rows (with-rows-thm.met 𝓤 H 𝓜 𝓖 𝓡)))
+    (cited 𝓤 H (AnsweredWithRows 𝓤 H (𝓖 .A) (𝓜 .mem) (𝓡 .run)) 𝓜 𝓡 code.env with-rows-def.name with-rows-def.routine code.calls-replay-structs·held·answered-with-rows (with-rows-thm.met 𝓤 H 𝓜 𝓖 𝓡)))
