@@ -55,6 +55,15 @@
  *     return whitherhaul_client_new(&desk, N, DESK) == WHITHERHAUL_DONE;
  * }
  *
+ * // A line for the developers: why a frame was refused, and at which of its bytes.
+ * static void log_refusal(uint8_t number, const struct whitherhaul_replica *r, size_t length)
+ * {
+ *     fprintf(stderr, "replica %u refused: %s", (unsigned)r->id, whitherhaul_words(number));
+ *     if (number == WHITHERHAUL_REFUSED_MALFORMED)
+ *         fprintf(stderr, " (byte %u of %u)", (unsigned)r->offset, (unsigned)length);
+ *     fprintf(stderr, "\n");
+ * }
+ *
  * int main(void)
  * {
  *     const uint8_t *frame, *next = network;
@@ -68,7 +77,7 @@
  *         struct whitherhaul_replica *r = &replicas[whitherhaul_addressee(frame)];
  *         uint8_t number = whitherhaul_replica_on_message(r, frame, length);
  *         if (number != WHITHERHAUL_DONE)
- *             fprintf(stderr, "refused: %s\n", whitherhaul_words(number));
+ *             log_refusal(number, r, length);
  *         // Who wants to recover after a crash keeps whitherhaul_replica_view(r) before this.
  *         post(r->out.bytes, r->counts.messages);
  *         if (answered(r, &said)) {
@@ -85,12 +94,18 @@
  * It prints: total of member 3: 45.00
  *
  * Every call returns document 01's number: 0 where it is done, else a refusal
- * (WHITHERHAUL_REFUSED_..). What it answers besides goes to one struct of numbers, to which the
- * last argument points; a creation has none. A refused call leaves every byte of the lent runs as
- * it was and writes zeros to the struct. No call keeps a pointer, allocates memory, blocks or ends
- * the program, whatever the bytes: what a caller owes is only that each pointer points to as many
- * bytes as the length behind it says, that neither two runs of a call nor a run and the struct
- * share a byte, and that every pointer is valid also for a length of 0 (never NULL).
+ * (WHITHERHAUL_REFUSED_..). What it answers besides goes to one struct of numbers, to which an
+ * argument behind the runs points; a creation has none. A refused call leaves every byte of the
+ * lent runs as it was and writes zeros to the struct. The two calls that read a frame say last
+ * where in it refusal 2 is (`offset`, below). No call keeps a pointer, allocates memory, blocks or
+ * ends the program, whatever the bytes: what a caller owes is only that each pointer points to as
+ * many bytes as the length behind it says, that no two of a call's runs, struct and offset share a
+ * byte, and that every pointer is valid also for a length of 0 (never NULL).
+ *
+ * `offset`, with 2, counts a frame's bytes from 0: the first byte at which no well-formed frame
+ * begins with the bytes up to and including it, whatever follows. Where there is none the frame is
+ * cut short, and the offset is the length that was handed over. With every other answer it is 0. So
+ * the number says whether there is one: 2 with offset 0 is possible, an empty frame.
  *
  * A run is a pointer, then its length. Runs marked const are only read. The runs of a replica are
  * its owner's memory: he hands the same ones to each call and doesn't change them between calls.
@@ -122,7 +137,7 @@ extern "C" {
  * another length.
  */
 #define WHITHERHAUL_REFUSED_SIZES 1
-/* 2: frame malformed; client: operation or cents outside the entry rules. */
+/* 2: frame malformed, with an offset; client: operation or cents outside the entry rules. */
 #define WHITHERHAUL_REFUSED_MALFORMED 2
 /* 3: addressee isn't this replica, or sender not below n. */
 #define WHITHERHAUL_REFUSED_REPLICA 3
@@ -296,7 +311,10 @@ uint8_t whitherhaul_recover(uint32_t n, uint32_t id, uint32_t timeout, uint32_t 
                             uint8_t *out, size_t out_length,
                             struct whitherhaul_counts *counts);
 
-/* A frame has arrived, with its 4-byte length. 0 to 10. */
+/*
+ * A frame has arrived, with its 4-byte length. 0 to 10; with 2 *offset is the frame's first wrong
+ * byte, or its length where only bytes are missing, else 0.
+ */
 uint8_t whitherhaul_on_message(uint8_t *state, size_t state_length,
                                const uint8_t *frame, size_t frame_length,
                                uint8_t *log, size_t log_length,
@@ -308,10 +326,11 @@ uint8_t whitherhaul_on_message(uint8_t *state, size_t state_length,
                                uint8_t *old, size_t old_length,
                                uint8_t *out, size_t out_length,
                                uint8_t *reps, size_t reps_length,
-                               struct whitherhaul_counts *counts);
+                               struct whitherhaul_counts *counts, uint64_t *offset);
 
 /*
- * Time has passed: a tick, to be called at a regular interval. Answers as whitherhaul_on_message.
+ * Time has passed: a tick, to be called at a regular interval. Answers as whitherhaul_on_message,
+ * but there is no frame, and so no 2 and no offset.
  */
 uint8_t whitherhaul_on_idle(uint8_t *state, size_t state_length,
                             uint8_t *log, size_t log_length,
@@ -352,13 +371,17 @@ uint8_t whitherhaul_client_reply(uint8_t *record, size_t record_length, uint64_t
 uint8_t whitherhaul_client_idle(const uint8_t *record, size_t record_length,
                                 uint8_t *area, size_t area_length, struct whitherhaul_idled *answers);
 
-/* A Reply, read. 0, or 2 where the bytes are no well-formed one. */
-uint8_t whitherhaul_read_reply(const uint8_t *frame, size_t frame_length, struct whitherhaul_said *answers);
+/*
+ * A Reply, read. 0, or 2 where the bytes are no well-formed one; then *offset is the first wrong
+ * byte, or the length where only bytes are missing, else 0.
+ */
+uint8_t whitherhaul_read_reply(const uint8_t *frame, size_t frame_length,
+                               struct whitherhaul_said *answers, uint64_t *offset);
 
 /*
  * Helpers, written over the calls above; the calls are proved, these are tested. They answer by the
  * same numbers. A refused one leaves every byte as it was, but for counts and answers, which are
- * then 0; a refused creation leaves these too.
+ * then 0, and the offset, which is that of the call; a refused creation leaves these too.
  */
 
 /* What a number says, in plain words; never NULL. */
@@ -441,6 +464,7 @@ struct whitherhaul_run {
 /*
  * A replica: its setup, and where in its block the runs and the two areas stand. What the last call
  * sent is counts.messages bytes of `out` and counts.replies bytes of `reps`, until the next call.
+ * Where that call refused a frame by 2, `offset` is its first wrong byte; after any other it is 0.
  */
 struct whitherhaul_replica {
     uint32_t n;
@@ -459,6 +483,7 @@ struct whitherhaul_replica {
     struct whitherhaul_run out;
     struct whitherhaul_run reps;
     struct whitherhaul_counts counts;
+    uint64_t offset;
 };
 
 /* A run as two arguments, and in the calls' order those that follow the state of a replica. */
@@ -521,6 +546,7 @@ static inline struct whitherhaul_replica whitherhaul_lay_out(uint32_t n, uint32_
     r.reps = whitherhaul_take(&rest, WHITHERHAUL_REPS_BYTES(room));
     r.counts.messages = 0;
     r.counts.replies = 0;
+    r.offset = 0;
     return r;
 }
 
@@ -571,18 +597,20 @@ static inline uint8_t whitherhaul_replica_recover(struct whitherhaul_replica *r,
 
 /*
  * A frame has arrived, with its 4-byte length; it mustn't stand in this replica's own block. 0 to
- * 8: the areas are long enough for any call.
+ * 8: the areas are long enough for any call. With 2 r->offset says which byte is wrong.
  */
 static inline uint8_t whitherhaul_replica_on_message(struct whitherhaul_replica *r,
                                                      const uint8_t *frame, size_t length)
 {
     return whitherhaul_on_message(WHITHERHAUL_RUN(r->state), frame, length, WHITHERHAUL_RUNS(r),
-                                  WHITHERHAUL_RUN(r->out), WHITHERHAUL_RUN(r->reps), &r->counts);
+                                  WHITHERHAUL_RUN(r->out), WHITHERHAUL_RUN(r->reps), &r->counts,
+                                  &r->offset);
 }
 
-/* Time has passed: a tick, to be called at a regular interval. 0 to 8. */
+/* Time has passed: a tick, to be called at a regular interval. 0 to 8, without an offset. */
 static inline uint8_t whitherhaul_replica_on_idle(struct whitherhaul_replica *r)
 {
+    r->offset = 0;
     return whitherhaul_on_idle(WHITHERHAUL_RUN(r->state), WHITHERHAUL_RUNS(r),
                                WHITHERHAUL_RUN(r->out), WHITHERHAUL_RUN(r->reps), &r->counts);
 }
@@ -627,12 +655,15 @@ static inline uint64_t whitherhaul_replica_total(const struct whitherhaul_replic
 /*
  * A client: its record, which is all that an owner keeps of it, and an area for n Requests. The
  * area holds what the last on_request (requested.written bytes) or on_idle (idled.written) gave.
+ * Where the last call refused a Reply by 2, `offset` is its first wrong byte; else it is 0, as with
+ * the 2 of on_request, which has no frame.
  */
 struct whitherhaul_client {
     uint8_t record[WHITHERHAUL_CLIENT_BYTES];
     uint8_t area[WHITHERHAUL_MOST_REPLICAS * WHITHERHAUL_REQUEST_BYTES];
     struct whitherhaul_requested requested;
     struct whitherhaul_idled idled;
+    uint64_t offset;
 };
 
 /* A new client of n replicas. Its id must be its own for ever. 0, or 1 and *c as it was. */
@@ -643,6 +674,7 @@ static inline uint8_t whitherhaul_client_new(struct whitherhaul_client *c, uint3
         c->requested.number = 0;
         c->requested.written = 0;
         c->idled.written = 0;
+        c->offset = 0;
     }
     return number;
 }
@@ -651,6 +683,7 @@ static inline uint8_t whitherhaul_client_new(struct whitherhaul_client *c, uint3
 static inline uint8_t whitherhaul_client_on_request(struct whitherhaul_client *c, uint8_t operation,
                                                     uint32_t member, uint64_t cents)
 {
+    c->offset = 0;
     return whitherhaul_client_request(c->record, sizeof c->record, operation, member, cents,
                                       c->area, sizeof c->area, &c->requested);
 }
@@ -658,6 +691,7 @@ static inline uint8_t whitherhaul_client_on_request(struct whitherhaul_client *c
 /* No reply came for a while: the request that waits, for every replica, in the area. 0 or 1. */
 static inline uint8_t whitherhaul_client_on_idle(struct whitherhaul_client *c)
 {
+    c->offset = 0;
     return whitherhaul_client_idle(c->record, sizeof c->record, c->area, sizeof c->area, &c->idled);
 }
 
@@ -665,7 +699,8 @@ static inline uint8_t whitherhaul_client_on_idle(struct whitherhaul_client *c)
  * A Reply has arrived: what it says, and whether it answers the request that waits (1 or 0). One
  * for another client leaves the record as it was: its number and view are none of this client's,
  * and whitherhaul_client_reply, which sees no client id, would take a charge for answered that
- * isn't. 0, 1, or 2 where the bytes are no well-formed Reply; where refused, all it says is 0.
+ * isn't. 0, 1, or 2 where the bytes are no well-formed Reply, and c->offset says which is wrong;
+ * where refused, all it says is 0.
  */
 static inline uint8_t whitherhaul_client_on_reply_frame(struct whitherhaul_client *c,
                                                         const uint8_t *frame, size_t length,
@@ -678,9 +713,10 @@ static inline uint8_t whitherhaul_client_on_reply_frame(struct whitherhaul_clien
     uint8_t number = whitherhaul_client_idle(c->record, sizeof c->record, c->area, 0, &idled);
     *said = nothing;
     *done = 0;
+    c->offset = 0;
     if (number == WHITHERHAUL_REFUSED_SIZES)
         return number;
-    number = whitherhaul_read_reply(frame, length, said);
+    number = whitherhaul_read_reply(frame, length, said, &c->offset);
     if (number != WHITHERHAUL_DONE ||
         said->client != whitherhaul_u64_at(c->record + WHITHERHAUL_CLIENT_ID_AT))
         return number;

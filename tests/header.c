@@ -1,8 +1,8 @@
 /*
  * Keeps include/whitherhaul.h true: document 01's marked examples, refusals that change no byte, a
- * recovery, the places of the state, the client's calls, and each helper, through the archive.
- * With the word `words` it prints the words of the refusals, one a line. host/c-check builds and
- * runs it.
+ * recovery, the places of the state, which byte of a frame is wrong, the client's calls, and each
+ * helper, through the archive. With the word `words` it prints the words of the refusals, one a
+ * line. host/c-check builds and runs it.
  */
 #include "whitherhaul.h"
 
@@ -49,16 +49,22 @@ static void fresh(struct owned *o, uint32_t id)
     }
 }
 
-static void clear_counts(struct owned *o)
+static void clear_answers(struct owned *o)
 {
-    o->r.counts.messages = o->r.counts.replies = 0;
+    o->r.counts.messages = o->r.counts.replies = o->r.offset = 0;
 }
 
-/* What stands there, to be compared after a refused call, which leaves counts of 0. */
+/* Numbers that a call has to write over. */
+static void spoil_answers(struct owned *o)
+{
+    o->r.counts.messages = o->r.counts.replies = o->r.offset = 77;
+}
+
+/* What stands there, to be compared after a refused call: counts and, but for 2, offset are 0. */
 static void keep(struct owned *before, const struct owned *o)
 {
     memcpy(before, o, sizeof *o);
-    clear_counts(before);
+    clear_answers(before);
 }
 
 static int same(const struct owned *before, const struct owned *o)
@@ -68,9 +74,10 @@ static int same(const struct owned *before, const struct owned *o)
 
 /* The runs of a replica as arguments of the calls, said apart from the helpers' own list. */
 #define RUN(run) (run).bytes, (run).length
-#define RUNS(r)                                                                              \
-    RUN((r)->state), RUN((r)->log), RUN((r)->results), RUN((r)->totals), RUN((r)->acks),     \
-        RUN((r)->stored), RUN((r)->table), RUN((r)->old)
+#define LENT(r)                                                                              \
+    RUN((r)->log), RUN((r)->results), RUN((r)->totals), RUN((r)->acks), RUN((r)->stored),    \
+        RUN((r)->table), RUN((r)->old)
+#define RUNS(r) RUN((r)->state), LENT(r)
 
 static uint8_t bare_create(struct owned *o, uint32_t n, uint32_t id, uint32_t timeout)
 {
@@ -115,7 +122,7 @@ static void first_ticks(void)
     expect(o.r.counts.messages == 0 && o.r.counts.replies == 0, "it sent nothing");
 
     o.r.out.length = 29;
-    o.r.counts.messages = o.r.counts.replies = 77;
+    spoil_answers(&o);
     keep(&before, &o);
     expect(whitherhaul_replica_on_idle(&o.r) == WHITHERHAUL_REFUSED_MESSAGES,
            "an area one byte short");
@@ -160,7 +167,7 @@ static void refusals(void)
     static struct owned o, before;
     uint8_t frame[16];
     fresh(&o, 0);
-    o.r.counts.messages = o.r.counts.replies = 77;
+    spoil_answers(&o);
     keep(&before, &o);
     expect(message(&o, request, 0) == WHITHERHAUL_REFUSED_MALFORMED, "an empty frame");
     memcpy(frame, prepare_ok, sizeof frame);
@@ -173,6 +180,80 @@ static void refusals(void)
     o.r.state.bytes[WHITHERHAUL_STATE_STATUS_AT] = 4;
     expect(whitherhaul_replica_on_idle(&o.r) == WHITHERHAUL_REFUSED_SIZES,
            "a byte of the state without meaning");
+}
+
+/* A call answers a frame by this number, with this offset, and changes nothing where it refuses. */
+static void expect_offset(struct owned *o, const uint8_t *frame, size_t length, uint8_t number,
+                          uint64_t offset, const char *what)
+{
+    static struct owned before;
+    uint64_t given = 77;
+    keep(&before, o);
+    spoil_answers(o);
+    expect(message(o, frame, length) == number, what);
+    expect(o->r.offset == offset, what);
+    o->r.offset = 0;
+    expect(number == WHITHERHAUL_DONE || same(&before, o), what);
+    if (number == WHITHERHAUL_DONE)
+        return;
+    expect(whitherhaul_on_message(RUN(o->r.state), frame, length, LENT(&o->r), RUN(o->r.out),
+                                  RUN(o->r.reps), &o->r.counts, &given) == number,
+           what);
+    expect(given == offset, what);
+}
+
+/* The request with another byte at a place. */
+static void expect_byte(struct owned *o, size_t place, uint8_t byte, uint64_t offset,
+                        const char *what)
+{
+    uint8_t frame[sizeof request];
+    memcpy(frame, request, sizeof frame);
+    frame[place] = byte;
+    expect_offset(o, frame, sizeof frame, WHITHERHAUL_REFUSED_MALFORMED, offset, what);
+}
+
+/* Frames with a wrong byte, which is named. */
+static void wrong_bytes(void)
+{
+    static struct owned o;
+    uint8_t longer[sizeof request + 1] = {0};
+    size_t length;
+    fresh(&o, 0);
+    expect_byte(&o, 3, 32, 3, "a length that no kind has");
+    expect_byte(&o, 4, 2, 4, "version 2");
+    expect_byte(&o, 5, 3, 5, "a kind of another length");
+    expect_byte(&o, 5, 12, 5, "no kind of a replica");
+    expect_byte(&o, 23, 4, 23, "an operation that isn't there");
+    expect_byte(&o, 25, 1, 25, "a byte that has to be zero");
+    expect_byte(&o, 36, 16, 36, "cents past 1,000,000");
+    expect_byte(&o, 0, 1, 3, "a length that goes wrong at its last byte");
+    for (length = 0; length < sizeof request; length++)
+        expect_offset(&o, request, length, WHITHERHAUL_REFUSED_MALFORMED, length, "a cut frame");
+    memcpy(longer, request, sizeof request);
+    expect_offset(&o, longer, sizeof longer, WHITHERHAUL_REFUSED_MALFORMED, sizeof request,
+                  "a byte behind the frame");
+    longer[4] = 2;
+    expect_offset(&o, longer, 5, WHITHERHAUL_REFUSED_MALFORMED, 4, "a wrong byte of a cut frame");
+}
+
+/* Every other answer has offset 0. */
+static void no_offsets(void)
+{
+    static struct owned o;
+    uint8_t frame[sizeof request];
+    fresh(&o, 0);
+    memcpy(frame, request, sizeof frame);
+    frame[WHITHERHAUL_FRAME_ADDRESSEE_AT] = 1;
+    expect_offset(&o, frame, sizeof frame, WHITHERHAUL_REFUSED_REPLICA, 0, "for another replica");
+    o.r.out.length = 0;
+    expect_offset(&o, request, sizeof request, WHITHERHAUL_REFUSED_MESSAGES, 0, "no area");
+    o.r.log.length--;
+    expect_offset(&o, request, 5, WHITHERHAUL_REFUSED_SIZES, 0, "1 goes before 2");
+    fresh(&o, 0);
+    expect_offset(&o, request, sizeof request, WHITHERHAUL_DONE, 0, "a Request");
+    spoil_answers(&o);
+    expect(whitherhaul_replica_on_idle(&o.r) == WHITHERHAUL_DONE, "a tick");
+    expect(o.r.offset == 0, "has no offset");
 }
 
 /* Each run a byte short. */
@@ -202,13 +283,13 @@ static void short_runs(void)
 static void refused_creations(struct owned *o, uint32_t n, uint32_t id, uint32_t timeout)
 {
     static struct owned before;
-    o->r.counts.messages = o->r.counts.replies = 77;
+    spoil_answers(o);
     memcpy(&before, o, sizeof before);
     expect(create(o, n, id, timeout) == WHITHERHAUL_REFUSED_SIZES, "new, outside the sizes");
     expect(recover(o, n, id, timeout) == WHITHERHAUL_REFUSED_SIZES, "recover, outside the sizes");
     expect(bare_create(o, n, id, timeout) == WHITHERHAUL_REFUSED_SIZES, "a creation outside them");
     expect(same(&before, o), "a refused creation changes nothing");
-    clear_counts(&before);
+    before.r.counts.messages = before.r.counts.replies = 0;
     expect(bare_recover(o, n, id, timeout) == WHITHERHAUL_REFUSED_SIZES, "a recovery outside them");
     expect(same(&before, o), "a refused recovery changes nothing but the counts");
 }
@@ -430,6 +511,7 @@ static void new_client(struct whitherhaul_client *c)
     expect(whitherhaul_client_new(c, N, 7) == WHITHERHAUL_DONE, "a client");
     expect(c->requested.number == 0 && c->requested.written == 0 && c->idled.written == 0,
            "a new client has nothing to send");
+    expect(c->offset == 0, "nor was it given a frame");
 }
 
 /* 4,500 cents are charged to member 3. */
@@ -443,9 +525,10 @@ static void client_requests(void)
     struct whitherhaul_client c;
     size_t i;
     new_client(&c);
-    c.idled.written = 5;
+    c.idled.written = c.offset = 5;
     expect(whitherhaul_client_on_idle(&c) == WHITHERHAUL_DONE && c.idled.written == 0,
            "a client that waits for nothing");
+    expect(c.offset == 0, "its idle call has no offset");
     charge(&c);
     expect(c.requested.number == 0 && c.requested.written == 39, "its number and length");
     expect(memcmp(c.area, request, 39) == 0 && c.area[39] == 0x5A, "its bytes");
@@ -468,9 +551,9 @@ static void client_refusals(void)
 {
     struct whitherhaul_client c, before;
     new_client(&c);
-    c.requested.number = c.requested.written = 5;
+    c.requested.number = c.requested.written = c.offset = 5;
     memcpy(&before, &c, sizeof c);
-    before.requested.number = before.requested.written = 0;
+    before.requested.number = before.requested.written = before.offset = 0;
     expect(whitherhaul_client_on_request(&c, WHITHERHAUL_FEE, 3, 0) ==
                WHITHERHAUL_REFUSED_MALFORMED,
            "a fee of nothing");
@@ -497,15 +580,20 @@ static void client_replies(void)
     struct whitherhaul_client c;
     struct whitherhaul_said said = {5, 5, 5, 5, 5};
     struct whitherhaul_replied heard = {5};
+    uint64_t offset = 77;
     new_client(&c);
     charge(&c);
-    expect(whitherhaul_read_reply(reply, sizeof reply, &said) == WHITHERHAUL_DONE, "a Reply");
+    expect(whitherhaul_read_reply(reply, sizeof reply, &said, &offset) == WHITHERHAUL_DONE &&
+               offset == 0,
+           "a Reply");
     expect(said.view == 0 && said.client == 7 && said.request == 0 &&
                said.outcome == WHITHERHAUL_OUTCOME_FEE && said.total == 4500,
            "what it says");
-    expect(whitherhaul_read_reply(request, sizeof request, &said) == WHITHERHAUL_REFUSED_MALFORMED,
+    expect(whitherhaul_read_reply(request, sizeof request, &said, &offset) ==
+               WHITHERHAUL_REFUSED_MALFORMED,
            "a Request is no Reply");
     expect(memcmp(&said, &nothing, sizeof said) == 0, "and says nothing");
+    expect(offset == 3, "its length is no Reply's");
     expect(whitherhaul_client_reply(c.record, sizeof c.record, 1, 4, &heard) == WHITHERHAUL_DONE &&
                heard.done == 0,
            "another number");
@@ -523,6 +611,7 @@ static void expect_reply(struct whitherhaul_client *c, uint8_t view, uint8_t cli
     uint8_t frame[sizeof reply];
     struct whitherhaul_said said;
     int done = 5;
+    c->offset = 77;
     memcpy(frame, reply, sizeof frame);
     frame[10] = view;
     frame[18] = client;
@@ -534,6 +623,7 @@ static void expect_reply(struct whitherhaul_client *c, uint8_t view, uint8_t cli
                said.request == number && said.outcome == WHITHERHAUL_OUTCOME_FEE &&
                said.total == 4500,
            what);
+    expect(c->offset == 0, what);
 }
 
 static void reply_frames(void)
@@ -554,13 +644,15 @@ static void reply_frames(void)
 
 /* Frames that are refused leave the client as it was; a record without meaning is judged first. */
 static void refused_reply(struct whitherhaul_client *c, const uint8_t *frame, size_t length,
-                          uint8_t number, const char *what)
+                          uint8_t number, uint64_t offset, const char *what)
 {
     static const struct whitherhaul_said nothing;
     struct whitherhaul_client before;
     struct whitherhaul_said said = {5, 5, 5, 5, 5};
     int done = 5;
     memcpy(&before, c, sizeof before);
+    before.offset = offset;
+    c->offset = 77;
     expect(whitherhaul_client_on_reply_frame(c, frame, length, &said, &done) == number, what);
     expect(done == 0 && memcmp(&said, &nothing, sizeof said) == 0, what);
     expect(memcmp(c, &before, sizeof before) == 0, what);
@@ -568,14 +660,31 @@ static void refused_reply(struct whitherhaul_client *c, const uint8_t *frame, si
 
 static void refused_replies(void)
 {
+    static const struct {
+        size_t place;
+        uint8_t byte;
+    } wrong[] = {{3, 33}, {4, 0}, {5, 11}, {6, 1}, {27, 0}, {27, 7}};
     struct whitherhaul_client c;
+    uint8_t frame[sizeof reply + 1] = {0};
+    size_t i;
     new_client(&c);
     charge(&c);
-    refused_reply(&c, request, sizeof request, WHITHERHAUL_REFUSED_MALFORMED, "no Reply");
-    refused_reply(&c, reply, sizeof reply - 1, WHITHERHAUL_REFUSED_MALFORMED, "a cut Reply");
+    refused_reply(&c, request, sizeof request, WHITHERHAUL_REFUSED_MALFORMED, 3, "no Reply");
+    for (i = 0; i < sizeof reply; i++)
+        refused_reply(&c, reply, i, WHITHERHAUL_REFUSED_MALFORMED, i, "a cut Reply");
+    for (i = 0; i < sizeof wrong / sizeof wrong[0]; i++) {
+        memcpy(frame, reply, sizeof reply);
+        frame[wrong[i].place] = wrong[i].byte;
+        refused_reply(&c, frame, sizeof reply, WHITHERHAUL_REFUSED_MALFORMED, wrong[i].place,
+                      "a Reply with a wrong byte");
+    }
+    memcpy(frame, reply, sizeof reply);
+    refused_reply(&c, frame, sizeof frame, WHITHERHAUL_REFUSED_MALFORMED, sizeof reply,
+                  "a byte behind a Reply");
     c.record[WHITHERHAUL_CLIENT_PENDING_AT] = 2;
-    refused_reply(&c, reply, sizeof reply, WHITHERHAUL_REFUSED_SIZES, "a record without meaning");
-    refused_reply(&c, request, sizeof request, WHITHERHAUL_REFUSED_SIZES, "1 goes before 2");
+    refused_reply(&c, reply, sizeof reply, WHITHERHAUL_REFUSED_SIZES, 0,
+                  "a record without meaning");
+    refused_reply(&c, request, sizeof request, WHITHERHAUL_REFUSED_SIZES, 0, "1 goes before 2");
 }
 
 static int print_words(void)
@@ -593,6 +702,8 @@ int main(int count, char **arguments)
     first_ticks();
     marked_examples();
     refusals();
+    wrong_bytes();
+    no_offsets();
     short_runs();
     outside_numbers();
     block_lengths();
