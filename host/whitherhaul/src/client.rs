@@ -49,8 +49,8 @@ impl Client {
         Ok(Client { record, area })
     }
 
-    /// A new request, in place of one that waits. Refusal 2 where operation or cents are outside
-    /// the entry rules, 11 where the numbers are used up.
+    /// A new request, in place of one that waits. Refusal 2 ([`Refusal::OutsideEntryRules`]) where
+    /// operation or cents are outside the entry rules, 11 where the numbers are used up.
     pub fn on_request(
         &mut self,
         operation: Operation,
@@ -76,8 +76,8 @@ impl Client {
     ///
     /// None where it is another client's, which leaves this one exactly as it was; and none where
     /// it is for another request of this client, an older one, whose view is followed as by
-    /// [`Client::on_reply`]. Refusal 2 where the frame is no well-formed Reply: then nothing
-    /// changes.
+    /// [`Client::on_reply`]. Refusal 2 ([`Refusal::Malformed`]) where the frame is no well-formed
+    /// Reply, with the offset of its first wrong byte: then nothing changes.
     ///
     /// A desk that takes frames should use this: a Reply that went to the wrong desk does no harm.
     ///
@@ -98,12 +98,18 @@ impl Client {
     /// frame[18] = 7;
     /// assert_eq!(desk.on_reply_frame(&frame)?.map(|reply| reply.total), Some(4_500));
     /// assert_eq!(desk.pending(), None);
-    /// assert_eq!(desk.on_reply_frame(&frame[..35]), Err(Refusal::Malformed));
+    ///
+    /// let cut = Refusal::Malformed { offset: 35, length: 35 };
+    /// assert_eq!(desk.on_reply_frame(&frame[..35]), Err(cut));
+    /// assert_eq!(
+    ///     cut.to_string(),
+    ///     "refusal 2: malformed frame: it ends after 35 bytes, and more are missing"
+    /// );
     /// # Ok(())
     /// # }
     /// ```
     pub fn on_reply_frame(&mut self, frame: &[u8]) -> Result<Option<Reply>, Refusal> {
-        let reply = Reply::read(frame).ok_or(Refusal::Malformed)?;
+        let reply = Reply::read(frame)?;
         if reply.client != self.id() {
             return Ok(None);
         }

@@ -1,5 +1,7 @@
 //! What frames carry: entries, what they gave, and Replies, read from document 01's bytes.
 
+use crate::{raw, Refusal};
+
 /// What an entry asks for.
 #[derive(Clone, Copy, Debug, PartialEq, Eq, Hash)]
 pub enum Operation {
@@ -91,14 +93,16 @@ pub struct Reply {
 }
 
 impl Reply {
-    /// Reads a Reply; none where the bytes are no well-formed one.
-    pub fn read(frame: &[u8]) -> Option<Reply> {
-        let (view, client, request, outcome, total) = crate::raw::read_reply(frame)?;
-        Some(Reply {
-            view,
+    /// Reads a Reply. [`Refusal::Malformed`] where the bytes are no well-formed one.
+    pub fn read(frame: &[u8]) -> Result<Reply, Refusal> {
+        let (number, said, offset) = raw::read_reply(frame);
+        Refusal::check_frame(number, offset, frame)?;
+        let [view, client, request, outcome, total] = said;
+        Ok(Reply {
+            view: view as u32,
             client,
             request,
-            outcome: Outcome::from_number(outcome)?,
+            outcome: Outcome::from_number(outcome as u8).expect("a Reply's outcome is 1 to 6"),
             total,
         })
     }

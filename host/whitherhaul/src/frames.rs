@@ -70,7 +70,7 @@ impl Iterator for Replies<'_> {
     type Item = Reply;
 
     fn next(&mut self) -> Option<Reply> {
-        self.0.find_map(Reply::read)
+        self.0.find_map(|frame| Reply::read(frame).ok())
     }
 }
 

@@ -44,7 +44,8 @@
 //!
 //! # A refusal
 //!
-//! A refused call says why, and leaves everything as it was:
+//! A refused call says why, and leaves everything as it was. Of a frame that is malformed it says
+//! which byte is wrong, counted from 0, so that its line in a log is enough to find it:
 //!
 //! ```
 //! use whitherhaul::{Refusal, Replica, Setup};
@@ -52,7 +53,10 @@
 //! let setup = Setup { replicas: 3, id: 0, timeout: 3, room: 8, members: 8 };
 //! let mut replica = Replica::new(&setup).expect("inside the sizes");
 //! let before = replica.parts().clone();
-//! assert_eq!(replica.on_message(&[]).unwrap_err(), Refusal::Malformed);
+//! let commit = [0, 0, 0, 11, 1, 3, 0, 0, 0, 0, 0, 0, 0, 0, 0]; // a Commit's kind is 4
+//! let refusal = replica.on_message(&commit).unwrap_err();
+//! assert_eq!(refusal, Refusal::Malformed { offset: 5, length: 15 });
+//! assert_eq!(refusal.to_string(), "refusal 2: malformed frame: byte 5 of 15 is wrong");
 //! assert_eq!(*replica.parts(), before);
 //!
 //! let two = Setup { replicas: 2, ..setup };

@@ -239,6 +239,7 @@ extern "C" {
         reps: *mut u8,
         reps_length: usize,
         counts: *mut [u64; 2],
+        offset: *mut u64,
     ) -> u8;
     fn whitherhaul_on_idle(
         state: *mut u8,
@@ -288,7 +289,12 @@ extern "C" {
         area_length: usize,
         answers: *mut [u64; 1],
     ) -> u8;
-    fn whitherhaul_read_reply(frame: *const u8, frame_length: usize, answers: *mut [u64; 5]) -> u8;
+    fn whitherhaul_read_reply(
+        frame: *const u8,
+        frame_length: usize,
+        answers: *mut [u64; 5],
+        offset: *mut u64,
+    ) -> u8;
 }
 
 /// `new`: a replica's memory for the first time. 0 or 1.
@@ -367,15 +373,18 @@ pub fn recover(
     (number, counts[0] as usize)
 }
 
-/// A frame arrives. The number, and how many bytes stand in the two areas.
+/// A frame arrives. The number, how many bytes stand in the two areas, and the offset: with 2 that
+/// of the frame's first wrong byte, counted from 0, or its length where only bytes are missing; 0
+/// with every other number.
 pub fn on_message(
     memory: &mut Memory,
     frame: &[u8],
     out: &mut [u8],
     reps: &mut [u8],
-) -> (u8, Counts) {
+) -> (u8, Counts, usize) {
     let m = memory;
     let mut counts = [UNWRITTEN; 2];
+    let mut offset = UNWRITTEN;
     // Safety: as in `recover`.
     let number = unsafe {
         whitherhaul_on_message(
@@ -402,9 +411,10 @@ pub fn on_message(
             reps.as_mut_ptr(),
             reps.len(),
             &mut counts,
+            &mut offset,
         )
     };
-    (number, Counts::of(counts))
+    (number, Counts::of(counts), offset as usize)
 }
 
 /// Time has passed: a tick. The number, and how many bytes stand in the two areas.
@@ -506,11 +516,13 @@ pub fn client_idle(record: &[u8], area: &mut [u8]) -> (u8, usize) {
     (number, answers[0] as usize)
 }
 
-/// What a Reply says: view, client, request, outcome, total; none where the bytes are malformed.
-pub fn read_reply(frame: &[u8]) -> Option<(u32, u64, u64, u8, u64)> {
+/// What a Reply says. The number (0 or 2), then view, client, request, outcome and total, all 0
+/// where it is refused, then the offset, as [`on_message`] gives it.
+pub fn read_reply(frame: &[u8]) -> (u8, [u64; 5], usize) {
     let mut answers = [UNWRITTEN; 5];
+    let mut offset = UNWRITTEN;
     // Safety: as in `client_request`.
-    let number = unsafe { whitherhaul_read_reply(frame.as_ptr(), frame.len(), &mut answers) };
-    let [view, client, request, outcome, total] = answers;
-    (number == 0).then_some((view as u32, client, request, outcome as u8, total))
+    let number =
+        unsafe { whitherhaul_read_reply(frame.as_ptr(), frame.len(), &mut answers, &mut offset) };
+    (number, answers, offset as usize)
 }

@@ -2,8 +2,11 @@
 
 use std::fmt;
 
-/// Document 01's refusals, by number. A refused call left the replica, or the client, and every
-/// lent byte as they were.
+/// Document 01's refusals. A refused call left the replica, or the client, and every lent byte as
+/// they were.
+///
+/// Each has a number ([`Refusal::number`]), and 2 is two of them: a frame that is malformed, which
+/// says where, and a client's own request outside the entry rules, where there is no frame.
 ///
 /// A later release may add numbers, so a `match` outside this crate needs an arm for those that it
 /// doesn't name:
@@ -14,7 +17,7 @@ use std::fmt;
 /// fn advice(refusal: Refusal) -> &'static str {
 ///     match refusal {
 ///         Refusal::PastRoom => "the log is full",
-///         Refusal::Malformed => "drop the frame",
+///         Refusal::Malformed { .. } => "drop the frame",
 ///         _ => "write it down",
 ///     }
 /// }
@@ -27,8 +30,40 @@ pub enum Refusal {
     /// 1: the setup is outside the sizes, the own id isn't below n, a number of the state is out of
     /// range, or a lent run has another length than the setup gives it.
     OutsideSizes,
-    /// 2: the frame is malformed. Of a client: operation or cents outside the entry rules.
-    Malformed,
+    /// 2 on a frame, a replica's or a Reply: it is malformed.
+    ///
+    /// A desk's line for its log, with the byte itself:
+    ///
+    /// ```
+    /// use whitherhaul::{Client, Refusal};
+    ///
+    /// fn line(refusal: Refusal, frame: &[u8]) -> String {
+    ///     match refusal {
+    ///         Refusal::Malformed { offset, length } if offset < length => {
+    ///             format!("{refusal}: {:#04x}", frame[offset])
+    ///         }
+    ///         _ => refusal.to_string(),
+    ///     }
+    /// }
+    ///
+    /// let mut desk = Client::new(3, 7).expect("3 to 7 replicas");
+    /// let frame = [0, 0, 0, 32, 2, 12, 0]; // version 2, and bytes are missing too
+    /// let refusal = desk.on_reply_frame(&frame).expect_err("no Reply");
+    /// assert_eq!(
+    ///     line(refusal, &frame),
+    ///     "refusal 2: malformed frame: byte 4 of 7 is wrong: 0x02"
+    /// );
+    /// ```
+    Malformed {
+        /// Which byte is wrong, counted from 0: the first at which no well-formed frame begins with
+        /// the bytes up to and including it, whatever follows. It is `length` where only bytes are
+        /// missing, so of an empty frame 0.
+        offset: usize,
+        /// How many bytes were handed over as the frame.
+        length: usize,
+    },
+    /// 2 of a client's request: operation or cents outside the entry rules.
+    OutsideEntryRules,
     /// 3: the frame is for another replica, or its sender isn't below n.
     WrongReplica,
     /// 4: an op number above the log's room, or an append to a full log.
@@ -51,62 +86,92 @@ pub enum Refusal {
 }
 
 impl Refusal {
-    /// All that this release has, in the order of their numbers, from 1 on without a gap.
-    pub const ALL: &'static [Refusal] = &[
-        Refusal::OutsideSizes,
-        Refusal::Malformed,
-        Refusal::WrongReplica,
-        Refusal::PastRoom,
-        Refusal::CommitPastLog,
-        Refusal::NotRising,
-        Refusal::CommittedAltered,
-        Refusal::PastLastView,
-        Refusal::MessagesDontFit,
-        Refusal::RepliesDontFit,
-        Refusal::NumbersUsedUp,
-    ];
-
     /// Document 01's number: 1 to 11 in this release.
     pub fn number(self) -> u8 {
-        self as u8 + 1
-    }
-
-    /// The refusal with this number; none where this release has no such number.
-    pub fn from_number(number: u8) -> Option<Refusal> {
-        let place = usize::from(number).checked_sub(1)?;
-        Refusal::ALL.get(place).copied()
-    }
-
-    /// What a call's number says: 0 is done.
-    pub(crate) fn check(number: u8) -> Result<(), Refusal> {
-        match number {
-            0 => Ok(()),
-            _ => Err(Refusal::from_number(number).expect("a number of document 01")),
+        match self {
+            Refusal::OutsideSizes => 1,
+            Refusal::Malformed { .. } | Refusal::OutsideEntryRules => 2,
+            Refusal::WrongReplica => 3,
+            Refusal::PastRoom => 4,
+            Refusal::CommitPastLog => 5,
+            Refusal::NotRising => 6,
+            Refusal::CommittedAltered => 7,
+            Refusal::PastLastView => 8,
+            Refusal::MessagesDontFit => 9,
+            Refusal::RepliesDontFit => 10,
+            Refusal::NumbersUsedUp => 11,
         }
     }
 
-    fn words(self) -> &'static str {
-        match self {
-            Refusal::OutsideSizes => {
-                "setup or state outside the sizes, or a lent run of another length"
-            }
-            Refusal::Malformed => "malformed frame, or operation or cents outside the entry rules",
-            Refusal::WrongReplica => "for another replica, or from one that isn't there",
-            Refusal::PastRoom => "past the room of the log",
-            Refusal::CommitPastLog => "a commit number past the log",
-            Refusal::NotRising => "request numbers of a client that don't rise along the log",
-            Refusal::CommittedAltered => "committed entries would be shortened or altered",
-            Refusal::PastLastView => "past the last view, 4294967295",
-            Refusal::MessagesDontFit => "the messages don't fit their area",
-            Refusal::RepliesDontFit => "the replies don't fit their area",
-            Refusal::NumbersUsedUp => "the next request number is 2^64-1",
+    /// What a number alone says; none where this release has no such number. The refusal itself
+    /// says more of 2: which of its two cases it is, and where in the frame.
+    pub fn words(number: u8) -> Option<&'static str> {
+        Some(match number {
+            1 => "setup or state outside the sizes, or a lent run of another length",
+            2 => "malformed frame, or operation or cents outside the entry rules",
+            3 => "for another replica, or from one that isn't there",
+            4 => "past the room of the log",
+            5 => "a commit number past the log",
+            6 => "request numbers of a client that don't rise along the log",
+            7 => "committed entries would be shortened or altered",
+            8 => "past the last view, 4294967295",
+            9 => "the messages don't fit their area",
+            10 => "the replies don't fit their area",
+            11 => "the next request number is 2^64-1",
+            _ => return None,
+        })
+    }
+
+    /// What the number of a call that reads no frame says: 0 is done.
+    pub(crate) fn check(number: u8) -> Result<(), Refusal> {
+        Err(match number {
+            0 => return Ok(()),
+            1 => Refusal::OutsideSizes,
+            2 => Refusal::OutsideEntryRules,
+            3 => Refusal::WrongReplica,
+            4 => Refusal::PastRoom,
+            5 => Refusal::CommitPastLog,
+            6 => Refusal::NotRising,
+            7 => Refusal::CommittedAltered,
+            8 => Refusal::PastLastView,
+            9 => Refusal::MessagesDontFit,
+            10 => Refusal::RepliesDontFit,
+            11 => Refusal::NumbersUsedUp,
+            _ => panic!("{number} is no number of document 01"),
+        })
+    }
+
+    /// The same of a call that reads a frame, with the offset that it gave.
+    pub(crate) fn check_frame(number: u8, offset: usize, frame: &[u8]) -> Result<(), Refusal> {
+        match number {
+            2 => Err(Refusal::Malformed {
+                offset,
+                length: frame.len(),
+            }),
+            _ => Refusal::check(number),
         }
     }
 }
 
+/// The number and the words, in one line.
 impl fmt::Display for Refusal {
     fn fmt(&self, f: &mut fmt::Formatter<'_>) -> fmt::Result {
-        write!(f, "refusal {}: {}", self.number(), self.words())
+        let number = self.number();
+        write!(f, "refusal {number}: ")?;
+        match *self {
+            Refusal::Malformed { offset, length } if offset < length => {
+                write!(f, "malformed frame: byte {offset} of {length} is wrong")
+            }
+            Refusal::Malformed { length, .. } => {
+                let bytes = if length == 1 { "byte" } else { "bytes" };
+                write!(
+                    f,
+                    "malformed frame: it ends after {length} {bytes}, and more are missing"
+                )
+            }
+            Refusal::OutsideEntryRules => f.write_str("operation or cents outside the entry rules"),
+            _ => f.write_str(Refusal::words(number).expect("a number of document 01")),
+        }
     }
 }
 

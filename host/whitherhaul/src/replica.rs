@@ -100,13 +100,14 @@ impl Replica {
         }
     }
 
-    /// A frame has arrived, with its 4-byte length. The replica's areas are long enough for what
-    /// any call sends, so refusals 9 and 10 don't come.
+    /// A frame has arrived, with its 4-byte length. Where it is malformed, refusal 2 says at which
+    /// byte ([`Refusal::Malformed`]). The replica's areas are long enough for what any call sends,
+    /// so refusals 9 and 10 don't come.
     pub fn on_message(&mut self, frame: &[u8]) -> Result<Sent<'_>, Refusal> {
-        let (number, counts) =
+        let (number, counts, offset) =
             raw::on_message(&mut self.memory, frame, &mut self.out, &mut self.reps);
         self.counts = counts;
-        Refusal::check(number)?;
+        Refusal::check_frame(number, offset, frame)?;
         Ok(self.sent())
     }
 
@@ -129,8 +130,8 @@ impl Replica {
         reps: &mut [u8],
     ) -> Result<Counts, Refusal> {
         self.counts = Counts::default();
-        let (number, counts) = raw::on_message(&mut self.memory, frame, out, reps);
-        Refusal::check(number).map(|()| counts)
+        let (number, counts, offset) = raw::on_message(&mut self.memory, frame, out, reps);
+        Refusal::check_frame(number, offset, frame).map(|()| counts)
     }
 
     /// As [`Replica::on_idle`], with lent areas.

@@ -215,7 +215,11 @@ fn a_part_of_a_frame_is_not_handed_out() {
     assert_eq!(Frames::new(&bytes).collect::<Vec<_>>(), [request()]);
     assert_eq!(Frames::new(&bytes[..3]).count(), 0);
     assert_eq!((kind(&bytes[..5]), addressee(&bytes[..6])), (None, None));
-    assert_eq!(Reply::read(&request()), None);
+    let no_reply = Refusal::Malformed {
+        offset: 3,
+        length: 39,
+    };
+    assert_eq!(Reply::read(&request()), Err(no_reply));
 }
 
 /// Every call is lent the same areas, and what it sent is handed out where it stands.
@@ -238,7 +242,7 @@ fn replies_are_read_and_their_frames_are_there() {
     let sent = replica.on_message(&prepare_ok(1, 1)).unwrap();
     let frames: Vec<_> = Frames::new(sent.reply_bytes()).collect();
     let read: Vec<_> = frames.iter().map(|frame| Reply::read(frame)).collect();
-    assert_eq!(read, sent.replies().map(Some).collect::<Vec<_>>());
+    assert_eq!(read, sent.replies().map(Ok).collect::<Vec<_>>());
     assert_eq!(
         (frames.len(), frames[0].len(), kind(frames[0])),
         (1, 36, Some(12))

@@ -27,7 +27,7 @@ fn requests_and_their_numbers() {
     assert_eq!(client.on_idle().unwrap().count(), 0);
     assert_eq!(
         client.on_request(Operation::Fee, 1, 0).unwrap_err(),
-        Refusal::Malformed
+        Refusal::OutsideEntryRules
     );
     let asked = client.on_request(Operation::Ask, 1, 0).unwrap();
     assert_eq!((asked.number, asked.to, asked.frame.len()), (0, 0, 39));
@@ -115,14 +115,14 @@ fn a_malformed_reply() {
     let with = |place: usize, byte| {
         let mut frame = good.to_vec();
         frame[place] = byte;
-        frame
+        (frame, place)
     };
     let mut longer = good.to_vec();
     longer.push(0);
     let bad = [
-        vec![],
-        good[..35].to_vec(),
-        longer,
+        (vec![], 0),
+        (good[..35].to_vec(), 35),
+        (longer, 36),
         with(3, 33),
         with(4, 2),
         with(5, 11),
@@ -130,9 +130,14 @@ fn a_malformed_reply() {
         with(27, 0),
         with(27, 7),
     ];
-    for frame in bad {
+    for (frame, offset) in bad {
+        let length = frame.len();
         let answer = client.on_reply_frame(&frame);
-        assert_eq!(answer, Err(Refusal::Malformed), "{frame:?}");
+        assert_eq!(
+            answer,
+            Err(Refusal::Malformed { offset, length }),
+            "{frame:?}"
+        );
         assert_eq!(*client.record(), before, "{frame:?}");
     }
     assert!(client.on_reply_frame(&good).unwrap().is_some());

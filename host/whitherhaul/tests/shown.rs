@@ -28,17 +28,52 @@ fn charged() -> Replica {
     replica
 }
 
+/// One of each refusal, in the order of their numbers; 2 is two of them.
+const REFUSALS: [Refusal; 12] = [
+    Refusal::OutsideSizes,
+    Refusal::Malformed {
+        offset: 14,
+        length: 51,
+    },
+    Refusal::OutsideEntryRules,
+    Refusal::WrongReplica,
+    Refusal::PastRoom,
+    Refusal::CommitPastLog,
+    Refusal::NotRising,
+    Refusal::CommittedAltered,
+    Refusal::PastLastView,
+    Refusal::MessagesDontFit,
+    Refusal::RepliesDontFit,
+    Refusal::NumbersUsedUp,
+];
+
 #[test]
 fn refusals_have_numbers_and_words() {
-    for (place, &refusal) in Refusal::ALL.iter().enumerate() {
-        assert_eq!(usize::from(refusal.number()), place + 1);
-        assert_eq!(Refusal::from_number(refusal.number()), Some(refusal));
-        let words = refusal.to_string();
-        assert!(words.starts_with(&format!("refusal {}: ", place + 1)));
+    let numbers = REFUSALS.map(Refusal::number);
+    assert_eq!(numbers, [1, 2, 2, 3, 4, 5, 6, 7, 8, 9, 10, 11]);
+    for refusal in REFUSALS.into_iter().filter(|r| r.number() != 2) {
+        let number = refusal.number();
+        let words = Refusal::words(number).unwrap();
+        assert_eq!(refusal.to_string(), format!("refusal {number}: {words}"));
     }
-    assert_eq!(Refusal::ALL.last(), Some(&Refusal::NumbersUsedUp));
-    assert_eq!(Refusal::from_number(0), None);
-    assert_eq!(Refusal::from_number(12), None);
+    assert_eq!((Refusal::words(0), Refusal::words(12)), (None, None));
+}
+
+/// Both refusals with the number 2 in words, and where in the frame.
+#[test]
+fn refusals_with_number_2() {
+    let malformed = |offset, length| Refusal::Malformed { offset, length }.to_string();
+    let frame = "refusal 2: malformed frame: ";
+    assert_eq!(malformed(14, 51), format!("{frame}byte 14 of 51 is wrong"));
+    assert_eq!(malformed(0, 1), format!("{frame}byte 0 of 1 is wrong"));
+    let ends = |after| format!("{frame}it ends after {after}, and more are missing");
+    assert_eq!(malformed(14, 14), ends("14 bytes"));
+    assert_eq!(malformed(1, 1), ends("1 byte"));
+    assert_eq!(malformed(0, 0), ends("0 bytes"));
+    assert_eq!(
+        Refusal::OutsideEntryRules.to_string(),
+        "refusal 2: operation or cents outside the entry rules"
+    );
 }
 
 /// The last arm is for refusals of a later release. Were none allowed for, it could never be
@@ -48,7 +83,8 @@ fn refusals_have_numbers_and_words() {
 fn a_later_refusal_breaks_no_caller() {
     let number = |refusal: Refusal| match refusal {
         Refusal::OutsideSizes
-        | Refusal::Malformed
+        | Refusal::Malformed { .. }
+        | Refusal::OutsideEntryRules
         | Refusal::WrongReplica
         | Refusal::PastRoom
         | Refusal::CommitPastLog
@@ -60,9 +96,9 @@ fn a_later_refusal_breaks_no_caller() {
         | Refusal::NumbersUsedUp => Some(refusal.number()),
         _ => None,
     };
-    let all: &'static [Refusal] = Refusal::ALL;
-    let numbers: Vec<_> = all.iter().filter_map(|&refusal| number(refusal)).collect();
-    assert_eq!(numbers, (1..=11).collect::<Vec<_>>());
+    assert!(REFUSALS
+        .into_iter()
+        .all(|refusal| number(refusal).is_some()));
 }
 
 #[test]
