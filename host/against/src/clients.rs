@@ -2,6 +2,7 @@
 //! below the last one, where the Rust's can't: there the Rust counts from 0, and its numbers are moved.
 
 use crate::counts::Counts;
+use crate::parse::offset_fits;
 use crate::play::{Fault, Found};
 use schedules::client::sent;
 use schedules::inside::client_inside;
@@ -369,13 +370,18 @@ fn read(bytes: &[u8]) -> Result<u8, String> {
     let well =
         bytes.len() == 36 && bytes[..7] == [0, 0, 0, 32, 1, 12, 0] && (1..=6).contains(&bytes[27]);
     let eight = |at: usize| u64::from_be_bytes(*bytes[at..].first_chunk().expect("eight bytes"));
-    let due = well.then(|| {
-        let view = u32::from_be_bytes(*bytes[7..].first_chunk().expect("four bytes"));
-        (view, eight(11), eight(19), bytes[27], eight(28))
-    });
-    let given = raw::read_reply(bytes);
-    if given != due {
-        return Err(format!("a Reply is read as {given:?}, due is {due:?}"));
+    let due = match well {
+        true => {
+            let view = u32::from_be_bytes(*bytes[7..].first_chunk().expect("four bytes"));
+            let outcome = u64::from(bytes[27]);
+            (0, [view.into(), eight(11), eight(19), outcome, eight(28)])
+        }
+        false => (2, [0; 5]),
+    };
+    let (number, said, offset) = raw::read_reply(bytes);
+    offset_fits(number, offset, bytes)?;
+    if (number, said) != due {
+        return Err(format!("a Reply gives {number}, {said:?}, due is {due:?}"));
     }
-    Ok(if given.is_some() { 0 } else { 2 })
+    Ok(number)
 }

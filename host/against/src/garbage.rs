@@ -4,6 +4,7 @@
 use crate::counts::Counts;
 use crate::damage::damaged;
 use crate::pair::lent_setup;
+use crate::parse::offset_fits;
 use crate::play::{clients, sizes, Fault, Found};
 use crate::wrongs::runs;
 use schedules::adversary::Adversary;
@@ -121,7 +122,11 @@ fn called(
     let mut out = vec![0xa5; random.pick(&[0, 15, 40, 1000, 20_000])];
     let mut reps = vec![0xa5; random.pick(&[0, 36, 1000])];
     let (number, counts) = match frame {
-        Some(frame) => raw::on_message(memory, frame, &mut out, &mut reps),
+        Some(frame) => {
+            let (number, counts, offset) = raw::on_message(memory, frame, &mut out, &mut reps);
+            offset_fits(number, offset, frame)?;
+            (number, counts)
+        }
         None => raw::on_idle(memory, &mut out, &mut reps),
     };
     if number == 1 {

@@ -12,7 +12,7 @@ use crate::case::{Area, Case, Lends, Step};
 use crate::counts::Counts;
 use crate::deep;
 use crate::facts::{number, Facts};
-use crate::parse::parse;
+use crate::parse::{offset_fits, parse};
 use crate::wrongs::{self, Wrong};
 use schedules::run::hex;
 use schedules::rust::{status_number, Answer, Rust, Setup, Start};
@@ -238,7 +238,12 @@ impl Pair {
     ) -> Result<(), String> {
         let areas = (self.out.lend(out), self.reps.lend(reps));
         let (number, counts) = match frame {
-            Some(frame) => raw::on_message(&mut self.memory, frame, areas.0, areas.1),
+            Some(frame) => {
+                let (number, counts, offset) =
+                    raw::on_message(&mut self.memory, frame, areas.0, areas.1);
+                offset_fits(number, offset, frame)?;
+                (number, counts)
+            }
             None => raw::on_idle(&mut self.memory, areas.0, areas.1),
         };
         if usize::from(number) != due {

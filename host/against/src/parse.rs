@@ -205,6 +205,15 @@ fn recovery(kind: usize, rest: &mut Rest) -> Option<Fees> {
     })
 }
 
+/// What holds of every offset: with 2 it is at most the frame's length, with every other number it is 0.
+pub fn offset_fits(number: u8, offset: usize, frame: &[u8]) -> Result<(), String> {
+    let most = if number == 2 { frame.len() } else { 0 };
+    match offset <= most {
+        true => Ok(()),
+        false => Err(format!("the library gives {number} with offset {offset}")),
+    }
+}
+
 #[cfg(test)]
 mod tests {
     use super::*;

@@ -3,6 +3,7 @@
 
 use crate::deep;
 use crate::facts::{number, Facts};
+use crate::parse::offset_fits;
 use schedules::run::hex;
 use schedules::rust::Setup;
 use std::collections::BTreeMap;
@@ -174,7 +175,12 @@ impl Replay {
         let mut reps = vec![0xa5; number_of::<usize>(words[2])?.min(most)];
         let before = replica.memory.clone();
         let (code, counts) = match frame {
-            Some(frame) => raw::on_message(&mut replica.memory, frame, &mut out, &mut reps),
+            Some(frame) => {
+                let (code, counts, offset) =
+                    raw::on_message(&mut replica.memory, frame, &mut out, &mut reps);
+                offset_fits(code, offset, frame)?;
+                (code, counts)
+            }
             None => raw::on_idle(&mut replica.memory, &mut out, &mut reps),
         };
         kept(code, &replica.memory, &before, &out[counts.messages..])?;

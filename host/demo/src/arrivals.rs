@@ -38,6 +38,7 @@ impl<L: Library> Day<'_, L> {
         }
         match taken {
             Ok(Taken::Done(answer)) => self.give(id, before, answer),
+            Ok(Taken::Refused { why, unchanged }) if unchanged => self.tally.refused(why),
             Ok(_) => {}
             Err(why) => self.stop(id, Some(damage), &why),
         }

@@ -2,8 +2,6 @@
 
 use crate::damage::Damage;
 use crate::tally::{Did, Tally};
-use std::collections::BTreeSet;
-use whitherhaul::Refusal;
 
 /// What a panic is told by that no damaged frame was given to.
 const LATER: &str = "later, at a good call";
@@ -49,19 +47,12 @@ pub fn lines(ours: &Tally, theirs: Option<&Tally>) -> Vec<String> {
     lines
 }
 
-/// The refusals in words.
+/// The first refusal of each number, in words.
 fn refusals(ours: &Tally) -> Vec<String> {
-    let numbers: BTreeSet<u8> = ours
-        .did
-        .keys()
-        .filter_map(|(_, did)| match did {
-            Did::Refused(number) => Some(*number),
-            _ => None,
-        })
-        .collect();
-    let mut lines = vec![String::from("Whitherhaul's answers, which change no byte:")];
-    let refusals = numbers.into_iter().filter_map(Refusal::from_number);
-    lines.extend(refusals.map(|refusal| format!("  {refusal}")));
+    let mut lines = vec![String::from(
+        "Whitherhaul's answers, which change no byte, the first of each number:",
+    )];
+    lines.extend(ours.refusals.values().map(|why| format!("  {why}")));
     lines
 }
 
@@ -89,6 +80,7 @@ fn panics(theirs: &Tally) -> Vec<String> {
 #[cfg(test)]
 mod tests {
     use super::*;
+    use whitherhaul::Refusal;
 
     #[test]
     fn no_line_is_wider_than_eighty() {
@@ -103,9 +95,16 @@ mod tests {
             theirs.stopped(Some(damage), &"why ".repeat(40));
         }
         theirs.stopped(None, "why");
+        ours.refused(Refusal::NotRising);
+        ours.refused(Refusal::Malformed {
+            offset: 131_090,
+            length: 131_090,
+        });
         let lines = lines(&ours, Some(&theirs));
         let widest = lines.iter().map(|line| line.chars().count()).max();
         assert_eq!(widest, Some(80));
         assert_eq!(lines.iter().filter(|line| line.contains(LATER)).count(), 2);
+        let answers = lines.iter().filter(|line| line.starts_with("  refusal "));
+        assert_eq!(answers.count(), 2);
     }
 }

@@ -3,6 +3,7 @@
 use crate::damage::Damage;
 use crate::words::count;
 use std::collections::BTreeMap;
+use whitherhaul::Refusal;
 
 /// What a damaged frame did.
 #[derive(Clone, Copy, Debug, PartialEq, Eq, PartialOrd, Ord)]
@@ -39,6 +40,8 @@ pub struct Tally {
     pub did: BTreeMap<(Damage, Did), u64>,
     /// Calls that panicked though nothing was wrong with what they were given.
     pub later: u64,
+    /// The first refusal of each number that changed no byte. One of a malformed frame says which byte is wrong.
+    pub refusals: BTreeMap<u8, Refusal>,
     /// What the first panic of each damage said, and the first of the later ones.
     pub panics: BTreeMap<Option<Damage>, String>,
 }
@@ -49,6 +52,11 @@ impl Tally {
         let times = self.did.entry((damage, did)).or_default();
         *times += 1;
         *times == 1
+    }
+
+    /// Notes why a damaged frame was refused.
+    pub fn refused(&mut self, why: Refusal) {
+        self.refusals.entry(why.number()).or_insert(why);
     }
 
     /// Notes why a machine stopped: at a damaged frame, or later.

@@ -81,6 +81,7 @@ fn a_good_frame_is_not_refused() {
     }
 }
 
+/// Where a malformed frame names the byte, it is the one that was damaged, or the end of what is left.
 #[test]
 fn every_damage_is_refused_by_its_number() {
     for (frame, able) in good() {
@@ -91,8 +92,14 @@ fn every_damage_is_refused_by_its_number() {
             let Some(bytes) = bytes else { continue };
             let mut replica = replica();
             let before = replica.parts().clone();
-            let number = replica.on_message(&bytes).map_err(Refusal::number).err();
-            assert_eq!(number, Some(damage.refusal()), "{damage:?} of a {name}");
+            let why = replica.on_message(&bytes).expect_err("a refusal");
+            assert_eq!(why.number(), damage.refusal(), "{damage:?} of a {name}");
+            if why.number() == 2 {
+                let length = bytes.len();
+                let other = frame.iter().zip(&bytes).position(|(good, bad)| good != bad);
+                let offset = other.unwrap_or(length);
+                assert_eq!(why, Refusal::Malformed { offset, length }, "{name}");
+            }
             assert_eq!(*replica.parts(), before, "{damage:?} of a {name}");
         }
     }
