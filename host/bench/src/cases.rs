@@ -16,6 +16,8 @@ pub enum Case {
     StartView { entries: usize, clients: usize },
     /// The same with a log whose last entry breaks the rising rule, refused by 6: what the frame's check alone takes.
     Refused { entries: usize, clients: usize },
+    /// The same with a log that breaks the entry rules in the frame's last byte, refused by 2: what finding that byte takes.
+    Malformed { entries: usize },
     /// Two DoViewChanges of so many entries: the new primary's view begins.
     Quorum { entries: usize },
     /// A recovery: both others answer, one with a log of so many entries, which is installed.
@@ -23,7 +25,7 @@ pub enum Case {
 }
 
 /// All cases, each with its name.
-pub const CASES: [(&str, Case); 18] = [
+pub const CASES: [(&str, Case); 20] = [
     ("request, 1 client", requests(1, false)),
     ("request, 16 clients", requests(16, false)),
     ("request, 256 clients", requests(256, false)),
@@ -52,6 +54,14 @@ pub const CASES: [(&str, Case); 18] = [
     (
         "StartView refused, 4,096 entries of 4,096 clients",
         refused(4_096, 4_096),
+    ),
+    (
+        "StartView malformed, 64 entries",
+        Case::Malformed { entries: 64 },
+    ),
+    (
+        "StartView malformed, 4,096 entries",
+        Case::Malformed { entries: 4_096 },
     ),
     (
         "DoViewChange quorum, 64 entries",
@@ -99,6 +109,16 @@ pub fn broken_log(entries: usize, clients: usize) -> Vec<LogEntry<Charge>> {
     if let [.., before, last] = log.as_mut_slice() {
         last.client_id = before.client_id;
         last.request_number = before.request_number;
+    }
+    log
+}
+
+/// The log of 16 clients, with a last fee of 0 cents. The first seven bytes of its cents can still go on to a fee's, so the last
+/// byte of all is the first wrong one, and no reader that goes from left to right finds it sooner.
+pub fn malformed_log(entries: usize) -> Vec<LogEntry<Charge>> {
+    let mut log = log(entries, 16);
+    if let Some(last) = log.last_mut() {
+        last.op.cents = 0;
     }
     log
 }

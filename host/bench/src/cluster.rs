@@ -1,10 +1,11 @@
 //! So many replicas of a side, and how they play a round of a case.
 
-use crate::cases::{broken_log, log, Case};
+use crate::cases::{broken_log, log, malformed_log, Case};
 use crate::sides::{setup, Side, Standing};
 use crate::stopwatch::took;
 use std::time::Duration;
 use vsr_rs::{LogEntry, Message};
+use whitherhaul::Refusal;
 use wire::fees::Charge;
 use wire::frames::{frame, request, write_frame};
 
@@ -41,7 +42,8 @@ impl<S: Side> Cluster<S> {
             Case::Tick { uncommitted } => self.ticks(uncommitted),
             Case::Heartbeat => (100, self.heartbeats()),
             Case::StartView { entries, clients } => (1, self.start_views(entries, clients)),
-            Case::Refused { entries, clients } => (1, self.refusals(entries, clients)?),
+            Case::Refused { entries, clients } => (1, self.not_rising(entries, clients)?),
+            Case::Malformed { entries } => (1, self.malformed(entries)?),
             Case::Quorum { entries } => (1, self.quorums(entries)),
             Case::Recovery { entries } => (1, self.recoveries(entries)),
         };
@@ -164,20 +166,31 @@ impl<S: Side> Cluster<S> {
         pieces
     }
 
-    /// A StartView that is refused, again and again; none where this side knows no refusals.
-    fn refusals(&mut self, entries: usize, clients: usize) -> Option<Vec<Duration>> {
-        let times = times(entries);
+    fn not_rising(&mut self, entries: usize, clients: usize) -> Option<Vec<Duration>> {
+        let frame = start_view_frame(broken_log(entries, clients));
+        self.refusals(&frame, times(entries), Refusal::NotRising)
+    }
+
+    fn malformed(&mut self, entries: usize) -> Option<Vec<Duration>> {
+        let frame = start_view_frame(malformed_log(entries));
+        let length = frame.len();
+        let offset = length - 1;
+        self.refusals(
+            &frame,
+            times(entries),
+            Refusal::Malformed { offset, length },
+        )
+    }
+
+    /// A frame that is refused just so, again and again; none where this side knows no refusals.
+    fn refusals(&mut self, frame: &[u8], times: usize, due: Refusal) -> Option<Vec<Duration>> {
         self.renew();
-        S::load(
-            &mut self.wire,
-            &start_view_frame(broken_log(entries, clients)),
-        );
         let deliver = |_| {
-            let mut number = None;
+            let mut refusal = None;
             let piece = took(times == 1, || {
-                number = S::refused(&mut self.replicas, &self.wire);
+                refusal = S::refused(&mut self.replicas, frame);
             });
-            assert_eq!(number?, 6);
+            assert_eq!(refusal?, due);
             Some(piece)
         };
         (0..times).map(deliver).collect()

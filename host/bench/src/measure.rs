@@ -67,12 +67,16 @@ mod tests {
     }
 
     #[test]
-    fn only_ours_refuses_a_log_that_does_not_rise() {
+    fn only_ours_refuses() {
         let (entries, clients) = (64, 16);
-        let case = Case::Refused { entries, clients };
-        let [ours, as_it_is, framed] = compared(3, case, 1);
-        assert!(ours.is_some());
-        assert_eq!((as_it_is, framed), (None, None));
+        for case in [
+            Case::Refused { entries, clients },
+            Case::Malformed { entries },
+        ] {
+            let [ours, as_it_is, framed] = compared(3, case, 1);
+            assert!(ours.is_some());
+            assert_eq!((as_it_is, framed), (None, None));
+        }
     }
 
     #[test]

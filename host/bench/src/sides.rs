@@ -2,7 +2,7 @@
 
 use std::marker::PhantomData;
 use vsr_rs::Message;
-use whitherhaul::{addressee, raw, Frames, Setup};
+use whitherhaul::{addressee, raw, Frames, Refusal, Setup};
 use wire::fees::{Charge, Outcome, Totals};
 use wire::frames::{read, write_frame, write_reply};
 
@@ -39,9 +39,8 @@ pub trait Side {
     fn load(wire: &mut Self::Wire, frames: &[u8]);
     /// Delivers all that is on the wire; what comes of it is on `next`, which is cleared first.
     fn pass(replicas: &mut [Self::Replica], wire: &mut Self::Wire, next: &mut Self::Wire);
-    /// Delivers the one frame on the wire: the number by which it is refused, 0 where it isn't; none on a side that knows no
-    /// refusals, which leaves it.
-    fn refused(replicas: &mut [Self::Replica], wire: &Self::Wire) -> Option<u8>;
+    /// Delivers a frame that has to be refused; none on a side that knows no refusals, which leaves it.
+    fn refused(replicas: &mut [Self::Replica], frame: &[u8]) -> Option<Refusal>;
     /// A tick of a replica; what it sends is on `next`, which is cleared first.
     fn tick(replica: &mut Self::Replica, next: &mut Self::Wire);
     /// How many messages and replies are on the wire.
@@ -95,10 +94,10 @@ impl Side for Ours {
         }
     }
 
-    fn refused(replicas: &mut [Self::Replica], wire: &Bytes) -> Option<u8> {
-        let to = usize::from(addressee(&wire.messages).expect("a whole frame"));
-        let refusal = replicas[to].on_message(&wire.messages).err();
-        Some(refusal.map_or(0, |refusal| refusal.number()))
+    fn refused(replicas: &mut [Self::Replica], frame: &[u8]) -> Option<Refusal> {
+        let to = usize::from(addressee(frame).expect("a whole frame"));
+        let taken = replicas[to].on_message(frame);
+        Some(taken.expect_err("a frame that is refused"))
     }
 
     fn tick(replica: &mut Self::Replica, next: &mut Bytes) {
@@ -177,7 +176,7 @@ impl<P: Parcels> Side for Theirs<P> {
         wire.pass(replicas, next);
     }
 
-    fn refused(_: &mut [Vsr], _: &P) -> Option<u8> {
+    fn refused(_: &mut [Vsr], _: &[u8]) -> Option<Refusal> {
         None
     }
 
