@@ -124,8 +124,33 @@ impl Refusal {
 
     /// What the number of a call that reads no frame says: 0 is done.
     pub(crate) fn check(number: u8) -> Result<(), Refusal> {
-        Err(match number {
-            0 => return Ok(()),
+        match number {
+            0 => Ok(()),
+            _ => Err(Refusal::of(number)),
+        }
+    }
+
+    /// The same of a call that reads a frame, with the offset that it gave.
+    pub(crate) fn check_frame(number: u8, offset: usize, frame: &[u8]) -> Result<(), Refusal> {
+        match number {
+            0 => Ok(()),
+            _ => Err(Refusal::of_frame(number, offset, frame.len())),
+        }
+    }
+
+    /// The refusal with this number, of a frame. Most calls are done, and don't come here.
+    #[cold]
+    fn of_frame(number: u8, offset: usize, length: usize) -> Refusal {
+        match number {
+            2 => Refusal::Malformed { offset, length },
+            _ => Refusal::of(number),
+        }
+    }
+
+    /// The refusal with this number, where there is no frame.
+    #[cold]
+    fn of(number: u8) -> Refusal {
+        match number {
             1 => Refusal::OutsideSizes,
             2 => Refusal::OutsideEntryRules,
             3 => Refusal::WrongReplica,
@@ -138,17 +163,6 @@ impl Refusal {
             10 => Refusal::RepliesDontFit,
             11 => Refusal::NumbersUsedUp,
             _ => panic!("{number} is no number of document 01"),
-        })
-    }
-
-    /// The same of a call that reads a frame, with the offset that it gave.
-    pub(crate) fn check_frame(number: u8, offset: usize, frame: &[u8]) -> Result<(), Refusal> {
-        match number {
-            2 => Err(Refusal::Malformed {
-                offset,
-                length: frame.len(),
-            }),
-            _ => Refusal::check(number),
         }
     }
 }
