@@ -55,7 +55,7 @@
  *     return whitherhaul_client_new(&desk, N, DESK) == WHITHERHAUL_DONE;
  * }
  *
- * // A line for the developers: why a frame was refused, and at which of its bytes.
+ * // A line for the developers: why a frame was refused, and at which byte, counted from 0.
  * static void log_refusal(uint8_t number, const struct whitherhaul_replica *r, size_t length)
  * {
  *     fprintf(stderr, "replica %u refused: %s", (unsigned)r->id, whitherhaul_words(number));
