@@ -90,6 +90,8 @@ fn recorded_offsets() {
             assert_eq!((number, offset), (2, due), "{frame:02x?}");
             let refusal = Refusal::Malformed { offset, length };
             assert_eq!(safe, Some(refusal), "{frame:02x?}");
+            let lent = replica.clone().on_message_into(frame, &mut [], &mut []);
+            assert_eq!(lent, Err(refusal), "{frame:02x?}");
         }
     }
 }
