@@ -192,3 +192,18 @@ fn help_has_examples_that_are_true() {
         assert!(help.contains(&format!("\n  --{option} ")), "{option}");
     }
 }
+
+#[test]
+fn the_readme_shows_what_it_prints() {
+    let readme = include_str!("../../../README.md");
+    let (_, sample) = readme.split_once("\n    $ ./explain ").expect("a sample");
+    let (frame, sample) = sample.split_once('\n').expect("lines");
+    let lines = sample.lines();
+    let lines = lines.take_while(|line| line.is_empty() || line.starts_with("    "));
+    let lines = lines.map(|line| format!("{}\n", line.get(4..).unwrap_or_default()));
+    let lines: String = lines.collect();
+    let (status, text, _) = outcome(&[frame], b"");
+    assert_eq!(status, Some(1));
+    assert!(lines.lines().count() > 5, "{lines}");
+    assert!(text.trim_end().ends_with(lines.trim_end()), "{text}");
+}
