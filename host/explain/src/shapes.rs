@@ -191,11 +191,12 @@ impl Shape {
     /// Whether it has one of these lengths.
     pub fn has_length(&self, least: u32, most: u32) -> bool {
         let own = self.length();
-        if own >= least || self.entries != Entries::Log {
-            return (least..=most).contains(&own);
+        match self.entries {
+            Entries::Log => most.checked_sub(own).is_some_and(|above| {
+                let longest = most - above % ENTRY_BYTES as u32;
+                longest >= least
+            }),
+            Entries::None | Entries::One => (least..=most).contains(&own),
         }
-        let each = ENTRY_BYTES as u64;
-        let above = u64::from(least - own).div_ceil(each) * each;
-        u64::from(own) + above <= u64::from(most)
     }
 }

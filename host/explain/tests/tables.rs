@@ -2,7 +2,7 @@
 
 mod common;
 
-use common::{bytes, good, start_view};
+use common::{bytes, good, start_view, REPLY};
 use explain::shapes::Reader;
 use explain::show::Shown;
 
@@ -34,6 +34,50 @@ fn every_byte_is_shown_at_its_place() {
     }
 }
 
+/// The names in a table, from the fourth on; those before are the same in each frame.
+fn names(reader: Reader, frame: &[u8]) -> String {
+    let table = Shown::new(reader, frame, true).table();
+    let lines = table.lines().skip(4);
+    let names = lines.map(|line| line[32..].split("  ").next().unwrap_or_default().trim());
+    let names = names.map(|name| {
+        if name.starts_with("entry 1 ") {
+            "entry:"
+        } else {
+            name
+        }
+    });
+    let names: Vec<&str> = names.collect();
+    names.join(", ")
+}
+
+/// The table of frames, written once more.
+#[test]
+fn each_kind_has_its_fields() {
+    let entry = "entry:, client, request, operation, three zero bytes, member, cents";
+    let shown = good()
+        .into_iter()
+        .map(|frame| names(Reader::Replica, &frame));
+    // Of the frames with a log the empty ones.
+    let shown: Vec<String> = shown.filter(|names| !names.contains("entry 2")).collect();
+    let expected = [
+        format!("addressee, {entry}"),
+        format!("addressee, view, op number o, commit number c, {entry}"),
+        String::from("addressee, view, op number o, sender"),
+        String::from("addressee, view, commit number c"),
+        String::from("addressee, sender, view, op number o"),
+        String::from("addressee, view, start, end, commit number c"),
+        String::from("addressee, view, sender"),
+        String::from("addressee, view, sender, last normal view, op number o, commit number c"),
+        String::from("addressee, view, op number o, commit number c"),
+        String::from("addressee, sender, nonce, view"),
+        String::from("addressee, view, nonce, sender, mark"),
+        String::from("addressee, view, nonce, sender, mark, op number o, commit number c"),
+    ];
+    assert_eq!(shown, expected);
+    let reply = "addressee, view, client, request, outcome, total";
+    assert_eq!(names(Reader::Desk, &bytes(REPLY)), reply);
+}
+
 #[test]
 fn the_mark_stands_under_the_wrong_byte() {
     let frame = bytes("0000002F 010900 00000000 00000002 00000000");
@@ -50,6 +94,43 @@ fn the_mark_stands_under_the_wrong_byte() {
         "   15  00 00 00 00              commit number c   0",
     ];
     assert_eq!(lines, expected);
+}
+
+/// The values in a table.
+fn values(reader: Reader, frame: &[u8]) -> Vec<String> {
+    let table = Shown::new(reader, frame, true).table();
+    let values = table.lines().filter_map(|line| line.get(50..));
+    values.skip(1).map(String::from).collect()
+}
+
+#[test]
+fn values_are_said() {
+    let answer = "00000039 010B01 00000102 FFFFFFFFFFFFFFFF 02 01 00000001 00000000";
+    let entry = "0000000000000007 0000000000000100 02000000 00000003 00000000000003E9";
+    let said = [
+        "57",
+        "1",
+        "11 RecoveryResponse",
+        "replica 1",
+        "258",
+        "18446744073709551615",
+        "replica 2",
+        "1, with a log",
+        "1",
+        "0",
+        "7",
+        "256",
+        "2 Refund",
+        "0",
+        "3",
+        "1001 (10.01)",
+    ];
+    let frame = bytes(&format!("{answer} {entry}"));
+    assert_eq!(values(Reader::Replica, &frame), said);
+    let said = "32|1|12 Reply|0|0|7|0|1 Fee|4500 (45.00)";
+    assert_eq!(values(Reader::Desk, &bytes(REPLY)).join("|"), said);
+    let wrong = bytes("0000000C 0104 00");
+    assert_eq!(values(Reader::Replica, &wrong).join("|"), "12|1|4 Commit");
 }
 
 #[test]
