@@ -94,9 +94,11 @@ impl<'a> Shown<'a> {
         self.all || last < FEW || entry < FIRST || entry >= last || is_marked
     }
 
+    /// The first entry behind this one that is shown.
     fn next_shown(&self, entry: usize) -> usize {
-        let marked = self.marked_entry().filter(|&marked| marked > entry);
-        self.last_entry().min(marked.unwrap_or(usize::MAX))
+        let mut behind = entry + 1..self.last_entry();
+        let next = behind.find(|&entry| self.is_shown(entry));
+        next.unwrap_or(self.last_entry().max(entry + 1))
     }
 
     /// The last entry of which there is a byte.
