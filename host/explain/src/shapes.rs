@@ -68,9 +68,6 @@ impl Name {
     }
 }
 
-/// What every frame begins with. The length counts what follows it.
-pub const HEAD: [Name; 4] = [Length, Version, Kind, Addressee];
-
 /// An entry's fields.
 pub const ENTRY: [Name; 6] = [Client, Request, Operation, Zeros, Member, Cents];
 

@@ -1,7 +1,7 @@
 //! A frame as a table of its fields, with a mark under the first wrong byte.
 
 use crate::rules::{judge, number, Field, Layout, Verdict};
-use crate::shapes::{Name, Reader, ENTRY, ENTRY_BYTES, HEAD, REPLY};
+use crate::shapes::{Name, Reader, ENTRY, ENTRY_BYTES, REPLY};
 use crate::words::{counted, hex, kind, operation_words, outcome_words};
 
 /// The first entries of a log that are always shown.
@@ -74,10 +74,10 @@ impl<'a> Shown<'a> {
             return None;
         }
         let (name, entry) = match (place, self.verdict) {
-            (0, _) => (HEAD[0], None),
+            (0, _) => (Name::Length, None),
             (4 | 5, Verdict::Wrong(wrong)) if wrong < place => return None,
-            (4, _) => (HEAD[1], None),
-            (5, _) => (HEAD[2], None),
+            (4, _) => (Name::Version, None),
+            (5, _) => (Name::Kind, None),
             _ => return self.layout?.field(place),
         };
         Some(Field { name, place, entry })

@@ -39,7 +39,11 @@ fn size(frame: &[u8]) -> String {
     let there = counted(frame.len() as u64, "byte", "bytes");
     match announced(frame) {
         Some(whole) if whole != frame.len() as u64 => {
-            format!("{there}; the length says {}.", grouped(whole))
+            let length = grouped(whole - 4);
+            format!(
+                "{there}; with length {length} a frame has {}.",
+                grouped(whole)
+            )
         }
         _ => format!("{there}."),
     }
@@ -146,7 +150,7 @@ fn part(set: &Allowed, place: usize) -> String {
     }
 }
 
-/// What may be meant by a malformed frame. Each is tried by the rules before it is said.
+/// What may be meant by a malformed frame, as the rules have it.
 fn hints(shown: &Shown) -> Vec<String> {
     if shown.verdict == Verdict::WellFormed {
         return Vec::new();

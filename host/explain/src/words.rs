@@ -88,7 +88,7 @@ pub fn outcome_words(number: u8) -> String {
     }
 }
 
-/// Why a field holds what it has to. `before` are the good bytes before the place that is asked for.
+/// Why a field holds what it has to. `before` are the good bytes before the place in question.
 pub fn why(reader: Reader, allowed: &Allowed, before: &[u8]) -> String {
     let Some(field) = allowed.field else {
         return String::from("nothing stands behind a whole frame");

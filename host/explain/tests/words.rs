@@ -87,6 +87,23 @@ fn each_rule_has_a_frame() {
 }
 
 #[test]
+fn the_first_line_says_how_many_bytes_there_are() {
+    for (frame, line) in [
+        ("", "0 bytes."),
+        ("00", "1 byte."),
+        ("0000000B", "4 bytes; with length 11 a frame has 15."),
+        (
+            "FFFFFFFF",
+            "4 bytes; with length 4,294,967,295 a frame has 4,294,967,299.",
+        ),
+        ("00000008 010701 00000004 02", "12 bytes."),
+    ] {
+        let text = tell(&Shown::new(Reader::Replica, &bytes(frame), false));
+        assert_eq!(text.lines().next(), Some(line));
+    }
+}
+
+#[test]
 fn a_good_frame_is_named() {
     for frame in good() {
         let said = said(Reader::Replica, &frame);
