@@ -2,7 +2,8 @@
 //! below the last one, where the Rust's can't: there the Rust counts from 0, and its numbers are moved.
 
 use crate::counts::Counts;
-use crate::parse::offset_fits;
+use crate::offset;
+use crate::parse;
 use crate::play::{Fault, Found};
 use schedules::client::sent;
 use schedules::inside::client_inside;
@@ -92,9 +93,31 @@ pub fn play(random: &mut Random, counts: &mut Counts) -> Result<(), Fault> {
         let deep = random.chance(4);
         let numbers = both.step(step, deep).map_err(|text| fault(text, &case))?;
         counts.client += 1;
+        counts.replies += u64::from(matches!(step.call, Call::Read(_)) && numbers == [2]);
         for number in numbers.into_iter().filter(|number| *number != 0) {
             counts.numbers[usize::from(number)] += 1;
         }
+    }
+    Ok(())
+}
+
+/// Reads these bytes as a Reply, as the one call of a client.
+pub fn read_alone(bytes: &[u8], counts: &mut Counts) -> Result<(), Fault> {
+    let case = || Case {
+        n: 3,
+        id: 0,
+        first: 0,
+        steps: vec![Step {
+            call: Call::Read(bytes.to_vec()),
+            more: 0,
+            wrong: None,
+        }],
+    };
+    let number = read(bytes).map_err(|text| fault(text, &case()))?;
+    counts.client += 1;
+    if number != 0 {
+        counts.numbers[usize::from(number)] += 1;
+        counts.replies += 1;
     }
     Ok(())
 }
@@ -367,21 +390,16 @@ fn any_reply(random: &mut Random) -> Vec<u8> {
 
 /// Bytes read as a Reply, by document 01 and by the library; the library's number.
 fn read(bytes: &[u8]) -> Result<u8, String> {
-    let well =
-        bytes.len() == 36 && bytes[..7] == [0, 0, 0, 32, 1, 12, 0] && (1..=6).contains(&bytes[27]);
-    let eight = |at: usize| u64::from_be_bytes(*bytes[at..].first_chunk().expect("eight bytes"));
-    let due = match well {
-        true => {
-            let view = u32::from_be_bytes(*bytes[7..].first_chunk().expect("four bytes"));
-            let outcome = u64::from(bytes[27]);
-            (0, [view.into(), eight(11), eight(19), outcome, eight(28)])
-        }
-        false => (2, [0; 5]),
-    };
+    let due = parse::reply(bytes).ok_or_else(|| offset::of_reply(bytes));
     let (number, said, offset) = raw::read_reply(bytes);
-    offset_fits(number, offset, bytes)?;
-    if (number, said) != due {
-        return Err(format!("a Reply gives {number}, {said:?}, due is {due:?}"));
+    let given = match number {
+        0 => Ok(said),
+        _ => Err(offset),
+    };
+    if given != due || number != 0 && number != 2 || number == 0 && offset != 0 {
+        return Err(format!(
+            "a Reply is read as {number}, {said:?}, offset {offset}; due is {due:?}"
+        ));
     }
     Ok(number)
 }

@@ -1,5 +1,6 @@
 //! What was met: calls by status and kind, refusals by number, later causes by kind and status.
 
+use crate::offset::{self, PLACES};
 use std::collections::BTreeMap;
 use std::fmt::Write;
 use wire::frames::KINDS;
@@ -37,6 +38,8 @@ const STORED: [&str; 2] = ["DoViewChanges", "RecoveryResponses"];
 pub struct Counts {
     /// Schedules by their kind.
     pub schedules: BTreeMap<&'static str, u64>,
+    /// Byte strings of the sweep over bad input.
+    pub swept: u64,
     /// Calls of a replica that were compared, by whether they were done.
     pub done: u64,
     pub refused: u64,
@@ -53,6 +56,9 @@ pub struct Counts {
     pub stored: [(u64, u64); 2],
     /// Refusals by number; place 0 isn't used.
     pub numbers: [u64; 12],
+    /// Malformed frames given to a replica, by the place of their offset; and malformed Replies that were read.
+    pub offsets: [u64; PLACES.len()],
+    pub replies: u64,
     /// Done and refused calls by status and kind.
     pub met: [[(u64, u64); ROWS]; 4],
     /// Later causes: number, kind, status.
@@ -80,6 +86,11 @@ impl Counts {
         }
     }
 
+    /// A malformed frame came back with this offset.
+    pub fn offset(&mut self, frame: &[u8], offset: usize) {
+        self.offsets[offset::place(frame, offset)] += 1;
+    }
+
     /// A try that was refused by this number.
     pub fn tried(&mut self, number: usize) {
         self.tries += 1;
@@ -104,6 +115,7 @@ impl Counts {
         for (kind, count) in other.schedules {
             *self.schedules.entry(kind).or_default() += count;
         }
+        self.swept += other.swept;
         self.done += other.done;
         self.refused += other.refused;
         self.tries += other.tries;
@@ -114,6 +126,10 @@ impl Counts {
         for (mine, its) in self.stored.iter_mut().zip(other.stored) {
             mine.0 += its.0;
             mine.1 += its.1;
+        }
+        self.replies += other.replies;
+        for (mine, its) in self.offsets.iter_mut().zip(other.offsets) {
+            *mine += its;
         }
         for (mine, its) in self.numbers.iter_mut().zip(other.numbers) {
             *mine += its;
@@ -135,8 +151,8 @@ impl Counts {
         }
     }
 
-    /// What a run has to have met and didn't: stored messages with entries, refusal numbers, calls of each kind in each status, and
-    /// later causes.
+    /// What a run has to have met and didn't: stored messages with entries, refusal numbers, places of offsets, calls of each kind
+    /// in each status, and later causes.
     pub fn missing(&self) -> Vec<String> {
         let mut missing = Vec::new();
         for (name, (_, entries)) in STORED.iter().zip(self.stored) {
@@ -147,6 +163,11 @@ impl Counts {
         for (number, count) in self.numbers.iter().enumerate().skip(1) {
             if *count == 0 {
                 missing.push(format!("refusal {number}"));
+            }
+        }
+        for (place, count) in PLACES.iter().zip(self.offsets) {
+            if count == 0 {
+                missing.push(format!("an offset of {place}"));
             }
         }
         for (status, cells) in self.met.iter().enumerate() {
@@ -172,6 +193,7 @@ impl Counts {
     pub fn text(&self) -> String {
         let mut text = String::new();
         self.heads(&mut text);
+        self.numbers(&mut text);
         self.causes(&mut text);
         self.table(&mut text);
         text
@@ -182,6 +204,13 @@ impl Counts {
         line(
             text,
             format_args!("schedules {schedules}: {}", listed(&self.schedules)),
+        );
+        line(
+            text,
+            format_args!(
+                "bad input swept {}, each given to a fresh replica and read as a Reply",
+                self.swept
+            ),
         );
         line(
             text,
@@ -201,11 +230,27 @@ impl Counts {
                 stored.join(", ")
             ),
         );
+    }
+
+    /// Refusals by number, malformed frames by the place of their offset, entries by outcome.
+    fn numbers(&self, text: &mut String) {
         let numbers = (1..12).map(|number| format!("{number}: {}", self.numbers[number]));
         let numbers: Vec<String> = numbers.collect();
         line(
             text,
             format_args!("refusals by number: {}", numbers.join(", ")),
+        );
+        let places = PLACES.iter().zip(self.offsets);
+        let places = places.map(|(place, count)| format!("{place} {count}"));
+        let places: Vec<String> = places.collect();
+        line(
+            text,
+            format_args!(
+                "malformed frames by the place of their offset {}: {}; malformed Replies {}",
+                self.offsets.iter().sum::<u64>(),
+                places.join(", "),
+                self.replies
+            ),
         );
         let outcomes = (1..7).map(|code| format!("{code}: {}", self.outcomes[code]));
         let outcomes: Vec<String> = outcomes.collect();

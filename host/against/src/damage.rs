@@ -3,7 +3,7 @@
 use wire::random::Random;
 
 /// Where a kind's count of entries stands: o, or end of a NewState.
-fn count_place(kind: u8) -> Option<usize> {
+pub fn count_place(kind: u8) -> Option<usize> {
     match kind {
         2 | 3 | 9 => Some(11),
         5 => Some(12),
@@ -37,7 +37,7 @@ fn commit_place(kind: u8) -> Option<usize> {
 }
 
 /// Adds to the big-endian number of 4 bytes at a place, if it is there.
-fn add(frame: &mut [u8], at: usize, more: u32) {
+pub fn add(frame: &mut [u8], at: usize, more: u32) {
     if let Some(bytes) = frame.get_mut(at..at + 4) {
         let number = u32::from_be_bytes([bytes[0], bytes[1], bytes[2], bytes[3]]);
         bytes.copy_from_slice(&number.wrapping_add(more).to_be_bytes());

@@ -1,10 +1,11 @@
-//! Memory that passes refusal 1 and that no call produced: safety and ending are promised of it, and that a refused call changes
-//! nothing. The Rust has no such state, so nothing is compared with it.
+//! Memory that passes refusal 1 and that no call produced: safety and ending are promised of it, that a refused call changes
+//! nothing, and 2 with its offset exactly for a malformed frame. The Rust has no such state, so nothing is compared with it.
 
 use crate::counts::Counts;
 use crate::damage::damaged;
-use crate::pair::lent_setup;
-use crate::parse::offset_fits;
+use crate::offset;
+use crate::pair::{answered, lent_setup};
+use crate::parse::parse;
 use crate::play::{clients, sizes, Fault, Found};
 use crate::wrongs::runs;
 use schedules::adversary::Adversary;
@@ -121,16 +122,14 @@ fn called(
 ) -> Result<(), String> {
     let mut out = vec![0xa5; random.pick(&[0, 15, 40, 1000, 20_000])];
     let mut reps = vec![0xa5; random.pick(&[0, 36, 1000])];
-    let (number, counts) = match frame {
-        Some(frame) => {
-            let (number, counts, offset) = raw::on_message(memory, frame, &mut out, &mut reps);
-            offset_fits(number, offset, frame)?;
-            (number, counts)
-        }
-        None => raw::on_idle(memory, &mut out, &mut reps),
-    };
+    let (number, counts, offset) = answered(memory, frame, &mut out, &mut reps);
     if number == 1 {
         return Err("is refused by 1, so nothing was tried".into());
+    }
+    let malformed = frame.filter(|frame| parse(frame).is_none());
+    let due = malformed.map_or(0, offset::of_frame);
+    if (number == 2) != malformed.is_some() || offset != due {
+        return Err(format!("gives {number} with offset {offset}, {due} is due"));
     }
     if number > 10 || counts.messages > out.len() || counts.replies > reps.len() {
         return Err(format!("gives {number} and {counts:?}"));

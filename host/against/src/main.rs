@@ -7,8 +7,8 @@
 //!
 //! Plays random schedules for S seconds (60), or K of them, on T threads (1). Schedule k of a run has the seed N + k; N is taken
 //! from the clock where it isn't given. `--seed N --schedules 1` plays one again. Where the two sides differ, the seed is printed
-//! with the shortest calls that lead there. A run by time in which a refusal number, a kind in a status or a later cause never occurred
-//! fails.
+//! with the shortest calls that lead there. A run by time begins with a sweep over bad input (`sweep`), and fails where a refusal
+//! number, a place of an offset, a kind in a status or a later cause never occurred.
 //!
 //! `replay` gives the calls of a recorded trace to the library, and compares its answers.
 
@@ -23,6 +23,7 @@ mod facts;
 mod garbage;
 mod lone;
 mod making;
+mod offset;
 mod pair;
 mod parse;
 mod patience;
@@ -30,6 +31,7 @@ mod play;
 mod plots;
 mod replay;
 mod shrink;
+mod sweep;
 mod wrongs;
 
 use counts::Counts;
@@ -112,6 +114,12 @@ fn run(plan: Plan) -> ExitCode {
     let (next, stop) = (AtomicU64::new(0), AtomicBool::new(false));
     let mut counts = Counts::default();
     let mut faults = Vec::new();
+    if plan.schedules.is_none() {
+        if let Err(fault) = sweep::play(&mut counts) {
+            stop.store(true, Ordering::Relaxed);
+            faults.push(format!("bad input: {}", shrink::told(fault)));
+        }
+    }
     std::thread::scope(|scope| {
         let thread = || scope.spawn(|| work(plan, &next, &stop, start));
         let threads: Vec<_> = (0..plan.threads).map(|_| thread()).collect();

@@ -6,13 +6,15 @@
 //! compared whole, not only what changed. The Rust's own totals change only where its ledger applies an entry, so those of the
 //! entries that were applied by the call are compared, and the number of applied entries each time.
 //!
-//! After a refused call: number, counts of 0, and every byte of the state, of all runs and of both areas is as before.
+//! After a refused call: number, counts of 0, and every byte of the state, of all runs and of both areas is as before. A malformed
+//! frame comes back with its offset, as `offset` has it, and every other answer with 0.
 
 use crate::case::{Area, Case, Lends, Step};
 use crate::counts::Counts;
 use crate::deep;
 use crate::facts::{number, Facts};
-use crate::parse::{offset_fits, parse};
+use crate::offset;
+use crate::parse::parse;
 use crate::wrongs::{self, Wrong};
 use schedules::run::hex;
 use schedules::rust::{status_number, Answer, Rust, Setup, Start};
@@ -48,6 +50,7 @@ struct Lent {
 /// What a call has to give.
 struct Due {
     number: usize,
+    offset: usize,
     status: usize,
     kind: usize,
     later: bool,
@@ -85,6 +88,32 @@ impl Lent {
         }
         self.bytes[..due].fill(fill);
         Ok(())
+    }
+}
+
+impl Due {
+    /// The call gave it.
+    fn count(&self, frame: Option<&[u8]>, counts: &mut Counts) {
+        counts.call(self.status, self.kind, self.number, self.later);
+        if let (2, Some(frame)) = (self.number, frame) {
+            counts.offset(frame, self.offset);
+        }
+    }
+}
+
+/// The library is given a frame, or a tick where there is none: number, counts, and the offset, which a tick hasn't.
+pub fn answered(
+    memory: &mut Memory,
+    frame: Option<&[u8]>,
+    out: &mut [u8],
+    reps: &mut [u8],
+) -> (u8, raw::Counts, usize) {
+    match frame {
+        Some(frame) => raw::on_message(memory, frame, out, reps),
+        None => {
+            let (number, counts) = raw::on_idle(memory, out, reps);
+            (number, counts, 0)
+        }
     }
 }
 
@@ -185,8 +214,8 @@ impl Pair {
             self.out.needed.len() + usize::from(lends.more.0),
             self.reps.needed.len() + usize::from(lends.more.1),
         );
-        self.lent_call(frame, due.number, lengths)?;
-        counts.call(due.status, due.kind, due.number, due.later);
+        self.lent_call(frame, (due.number, due.offset), lengths)?;
+        due.count(frame, counts);
         if due.number == 0 {
             self.same()?;
             let after = status_number(self.rust.replica.status());
@@ -206,6 +235,10 @@ impl Pair {
             None => Some(schedules::rust::Call::Tick),
             Some(bytes) => parse(bytes),
         };
+        let offset = match (&call, frame) {
+            (None, Some(bytes)) => offset::of_frame(bytes),
+            _ => 0,
+        };
         let (number, later, kind, answer) = match &call {
             None => (2, false, 12, Answer::default()),
             Some(call) => match call.refused_alone(self.rust.setup) {
@@ -222,32 +255,28 @@ impl Pair {
         answer.write_replies(&mut self.reps.needed);
         Due {
             number,
+            offset,
             status,
             kind,
             later,
         }
     }
 
-    /// The call with areas of these lengths. It has to give this number, and its messages and replies where that is 0; else to
-    /// leave everything as it was.
+    /// The call with areas of these lengths. It has to give this number with this offset, and its messages and replies where the
+    /// number is 0; else to leave everything as it was.
     fn lent_call(
         &mut self,
         frame: Option<&[u8]>,
-        due: usize,
+        (due, due_offset): (usize, usize),
         (out, reps): (usize, usize),
     ) -> Result<(), String> {
         let areas = (self.out.lend(out), self.reps.lend(reps));
-        let (number, counts) = match frame {
-            Some(frame) => {
-                let (number, counts, offset) =
-                    raw::on_message(&mut self.memory, frame, areas.0, areas.1);
-                offset_fits(number, offset, frame)?;
-                (number, counts)
-            }
-            None => raw::on_idle(&mut self.memory, areas.0, areas.1),
-        };
+        let (number, counts, offset) = answered(&mut self.memory, frame, areas.0, areas.1);
         if usize::from(number) != due {
             return Err(format!("the library gives {number}, {due} is due"));
+        }
+        if offset != due_offset {
+            return Err(format!("{due} with offset {offset}, {due_offset} is due"));
         }
         let messages = self.out.hold(due == 0, counts.messages, out);
         messages.map_err(|fault| format!("messages: {fault}"))?;
@@ -277,7 +306,7 @@ impl Pair {
         if number == 0 {
             return Ok(());
         }
-        self.lent_call(frame, number, lengths)
+        self.lent_call(frame, (number, due.offset), lengths)
             .map_err(|fault| format!("areas of {} and {} bytes: {fault}", lengths.0, lengths.1))?;
         counts.tried(number);
         Ok(())
@@ -294,7 +323,7 @@ impl Pair {
         std::mem::swap(&mut self.before, &mut self.right);
         self.before.clone_from(&self.memory);
         let lengths = (self.out.needed.len(), self.reps.needed.len());
-        let result = self.lent_call(frame, 1, lengths);
+        let result = self.lent_call(frame, (1, 0), lengths);
         std::mem::swap(&mut self.before, &mut self.right);
         wrongs::put_right(&mut self.memory, &self.before, wrong);
         result.map_err(|fault| format!("with {wrong:?}: {fault}"))?;

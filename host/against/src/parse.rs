@@ -1,18 +1,29 @@
 //! Document 01's frames, read: a frame is malformed (refusal 2) exactly where this gives none. Written from the document's table
-//! alone, with no look at the library's parser.
+//! alone, with no look at the library's parser. A Reply, which a desk reads, has a reader of its own.
 
 use schedules::rust::Call;
 use vsr_rs::{LogEntry, Message, RecoveryState};
 use wire::fees::{Entry, ASK, FEE, MOST_CENTS, REFUND};
 use wire::frames::Fees;
 
-/// What is left of a frame.
-struct Rest<'a>(&'a [u8]);
+/// How long an entry is.
+pub const ENTRY: usize = 32;
+
+/// What is left of a frame: bytes, and behind them so many entries that aren't written out and keep the entry rules.
+struct Rest<'a> {
+    bytes: &'a [u8],
+    more: usize,
+}
 
 impl<'a> Rest<'a> {
+    /// How many bytes that is.
+    fn length(&self) -> usize {
+        self.bytes.len() + ENTRY * self.more
+    }
+
     fn bytes<const K: usize>(&mut self) -> Option<&'a [u8; K]> {
-        let (front, rest) = self.0.split_first_chunk()?;
-        self.0 = rest;
+        let (front, rest) = self.bytes.split_first_chunk()?;
+        self.bytes = rest;
         Some(front)
     }
 
@@ -49,12 +60,13 @@ impl<'a> Rest<'a> {
         })
     }
 
-    /// All that is left, as just so many entries.
+    /// All that is left, as just so many entries; those that are written out.
     fn log(&mut self, entries: usize) -> Option<Vec<LogEntry<Entry>>> {
-        if self.0.len() != 32 * entries {
+        if self.length() != ENTRY * entries {
             return None;
         }
-        (0..entries).map(|_| self.entry().map(logged)).collect()
+        let written = entries - std::mem::take(&mut self.more);
+        (0..written).map(|_| self.entry().map(logged)).collect()
     }
 }
 
@@ -69,9 +81,21 @@ fn logged(op: Entry) -> LogEntry<Entry> {
 
 /// The call that a frame is, if it is well formed.
 pub fn parse(frame: &[u8]) -> Option<Call> {
-    let mut rest = Rest(frame);
+    read(Rest {
+        bytes: frame,
+        more: 0,
+    })
+}
+
+/// Whether these bytes with so many entries behind them are a well-formed frame. The entries aren't written out: a length may call
+/// for 134,217,727 of them.
+pub fn is_frame(bytes: &[u8], more: usize) -> bool {
+    read(Rest { bytes, more }).is_some()
+}
+
+fn read(mut rest: Rest) -> Option<Call> {
     let length = rest.four()?;
-    if length != rest.0.len() || rest.one()? != 1 {
+    if length != rest.length() || rest.one()? != 1 {
         return None;
     }
     let kind = rest.one()?;
@@ -83,9 +107,24 @@ pub fn parse(frame: &[u8]) -> Option<Call> {
         10..=11 => recovery(kind, &mut rest)?,
         _ => return None,
     };
-    rest.0
-        .is_empty()
-        .then_some(Call::Frame { addressee, message })
+    (rest.length() == 0).then_some(Call::Frame { addressee, message })
+}
+
+/// What a Reply says, if it is well formed: view, client, request, outcome, total.
+pub fn reply(frame: &[u8]) -> Option<[u64; 5]> {
+    let mut rest = Rest {
+        bytes: frame,
+        more: 0,
+    };
+    if rest.bytes()? != &[0, 0, 0, 32, 1, 12, 0] {
+        return None;
+    }
+    let view = rest.four()? as u64;
+    let (client, request) = (rest.eight()?, rest.eight()?);
+    let outcome = rest.one()? as u64;
+    let total = rest.eight()?;
+    let well = (1..=6).contains(&outcome) && rest.length() == 0;
+    well.then_some([view, client, request, outcome, total])
 }
 
 /// Request, Prepare, PrepareOk, Commit.
@@ -203,15 +242,6 @@ fn recovery(kind: usize, rest: &mut Rest) -> Option<Fees> {
         replica_id,
         state,
     })
-}
-
-/// What holds of every offset: with 2 it is at most the frame's length, with every other number it is 0.
-pub fn offset_fits(number: u8, offset: usize, frame: &[u8]) -> Result<(), String> {
-    let most = if number == 2 { frame.len() } else { 0 };
-    match offset <= most {
-        true => Ok(()),
-        false => Err(format!("the library gives {number} with offset {offset}")),
-    }
 }
 
 #[cfg(test)]

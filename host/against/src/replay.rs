@@ -1,9 +1,11 @@
 //! A recorded trace (`../shared/vectors/FORMAT.md`; host/README.md for the line `+`), given to the library through the C calls:
-//! numbers, message and reply bytes, the lines of the state, and after a refusal every lent byte.
+//! numbers, message and reply bytes, the lines of the state, and after a refusal every lent byte. A trace has no offsets: those of
+//! malformed frames are judged as `offset` has them.
 
 use crate::deep;
 use crate::facts::{number, Facts};
-use crate::parse::offset_fits;
+use crate::offset;
+use crate::pair::answered;
 use schedules::run::hex;
 use schedules::rust::Setup;
 use std::collections::BTreeMap;
@@ -87,7 +89,7 @@ fn number_of<T: TryFrom<u64>>(word: &str) -> Result<T, String> {
     T::try_from(number).map_err(|_| format!("no argument of the C call: {word}"))
 }
 
-fn bytes_of(word: &str) -> Result<Vec<u8>, String> {
+pub fn bytes_of(word: &str) -> Result<Vec<u8>, String> {
     if word == "-" {
         return Ok(Vec::new());
     }
@@ -174,15 +176,12 @@ impl Replay {
         let mut out = vec![0xa5; number_of::<usize>(words[1])?.min(most)];
         let mut reps = vec![0xa5; number_of::<usize>(words[2])?.min(most)];
         let before = replica.memory.clone();
-        let (code, counts) = match frame {
-            Some(frame) => {
-                let (code, counts, offset) =
-                    raw::on_message(&mut replica.memory, frame, &mut out, &mut reps);
-                offset_fits(code, offset, frame)?;
-                (code, counts)
-            }
-            None => raw::on_idle(&mut replica.memory, &mut out, &mut reps),
-        };
+        let (code, counts, offset) = answered(&mut replica.memory, frame, &mut out, &mut reps);
+        let malformed = frame.filter(|_| code == 2);
+        let due = malformed.map_or(0, offset::of_frame);
+        if offset != due {
+            return Err(format!("{code} with offset {offset}, {due} is due"));
+        }
         kept(code, &replica.memory, &before, &out[counts.messages..])?;
         kept(code, &replica.memory, &before, &reps[counts.replies..])?;
         replica.facts.hold(&replica.memory)?;

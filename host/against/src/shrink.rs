@@ -4,6 +4,7 @@
 use crate::case::{Case, Lends};
 use crate::clients;
 use crate::counts::Counts;
+use crate::offset;
 use crate::pair::Pair;
 use crate::parse::parse;
 use crate::play::{Fault, Found};
@@ -124,7 +125,7 @@ fn lines(case: &Case) -> String {
                         said.truncate(600);
                         said
                     }
-                    _ => String::from("malformed"),
+                    _ => format!("malformed, offset {}", offset::of_frame(frame)),
                 };
                 let mut bytes = hex(frame);
                 bytes.truncate(4000);

@@ -1,7 +1,7 @@
 //! What the comparisons have to notice.
 
 use super::*;
-use schedules::directed::{back, do_view_change, fee, response, NEW};
+use schedules::directed::{back, commit, do_view_change, fee, response, NEW};
 use vsr_rs::Message;
 use wire::fees::{Entry, FEE};
 use wire::frames::{frame, Fees};
@@ -139,6 +139,19 @@ fn every_changed_byte_of_a_report_is_noticed() {
                 noticed_in(with_reports(recovering), change),
                 "byte {place} of the stored logs"
             );
+        }
+    }
+}
+
+#[test]
+fn another_offset_is_noticed() {
+    let mut pair = pair();
+    pair.before.clone_from(&pair.memory);
+    let for_another = frame(1, &commit(0, 0));
+    for (bytes, number, offset) in [(&[0, 0, 0, 10, 1][..], 2, 3), (&for_another[..], 3, 0)] {
+        for due in 0..6 {
+            let held = pair.lent_call(Some(bytes), (number, due), (0, 0));
+            assert_eq!(held.is_ok(), due == offset, "{number} with {due}");
         }
     }
 }
