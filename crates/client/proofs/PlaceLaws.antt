@@ -4,7 +4,7 @@
 use mathlib.Core.Path.{_≡_, ap, _∙_}
 use mathlib.Core.Bool.{true}
 use mathlib.Core.List.{List}
-use Prim.Native.Nat.{ℕ, _+_, _^_, _≤_, _<_}
+use Prim.Native.Nat.{ℕ, _+_, _≤_, _<_}
 use native.Mathlib.Omega.{arith}
 use lib.Dec.{eqb, lit<, lit≤}
 use lib.ListN.{length, drop}
@@ -15,7 +15,7 @@ use Rattle.numbers.proofs.WordLaws.{and-both, and-true}
 use Rattle.numbers.proofs.NumberLaws.{within-both, both-within}
 use Rattle.offsets.specs.Rules.{Rule, end, reach, takes, free, between, numberReach}
 use Rattle.offsets.proofs.RuleLaws.{Lives}
-use Rattle.offsets.proofs.FieldLaws.{lives-free, lives-between}
+use Rattle.offsets.proofs.FieldLaws.{lives-end, lives-free, lives-between, lives-just}
 use Rattle.offsets.proofs.PlaceLaws.{end-at, at-end, free-at, at-free, between-at, at-between, just-at, at-just}
 use Rattle.offsets.proofs.OffsetLaws.{Rules}
 use Rattle.offsets.proofs.ReadLaws.{free-field, past-field, short-field, past-number, short-number, number-le, place-le}
@@ -39,13 +39,6 @@ abbrev pub from-version : Rule
 from-version = between 1 0 1 1 (λ x. from-kind)
 
 -- ---- it never gets stuck
-
-lives-end : Lives end
-unfolding Lives
-lives-end = tt
-
-lives-just : (n v : ℕ) (r : Rule) → v < 256 ^ n → Lives r → Lives (between n 0 v v (λ x. r))
-lives-just n v r h l = lives-between n v v (λ x. r) (omega arith) h (λ x a b. l)
 
 lives : Lives replyRule
 unfolding replyRule

@@ -6,7 +6,7 @@
 use mathlib.Core.Path.{_≡_, refl, sym}
 use mathlib.Core.Bool.{Bool, true, false, false≢true}
 use mathlib.Core.Logic.{_⊎_, inl, inr, ⊎-elim}
-use Prim.Native.Nat.{ℕ, zero, suc, _+_, _-_, _*_, _/_, _^_, _≤_, _<_}
+use Prim.Native.Nat.{ℕ, zero, suc, _+_, _-_, _*_, _/_, _≤_, _<_}
 use native.Mathlib.Omega.{arith}
 use borrow.Author.Tests.{eqb-true, eq-eqb}
 use lib.Dec.{lit<, lit≤, eqb}
@@ -18,7 +18,7 @@ use Rattle.frames.proofs.KindLaws.{each-kind}
 use Rattle.offsets.specs.Rules.{Rule, end, byte, free, between}
 use Rattle.frames.specs.FrameRules.{carriesLog, entriesFrom, countFor, fits, someFits, centsRule, entryRule, entriesRule, logRule, partRule, stateRule, boundFrom, boundRule, bodyRule, kindRule, frameRule}
 use Rattle.offsets.proofs.RuleLaws.{Lives}
-use Rattle.offsets.proofs.FieldLaws.{lives-free, lives-between}
+use Rattle.offsets.proofs.FieldLaws.{lives-end, lives-free, lives-between, lives-just}
 
 -- ---- tests of the kinds
 
@@ -89,13 +89,6 @@ count-lt k n h =
     split (λ (c : ℕ). c < 4294967296) (carriesLog k) ((n + 4 - entriesFrom k n) / 32) 0 (λ e. omega arith) (λ e. lit< tt)))
 
 -- ---- it never gets stuck
-
-lives-end : Lives end
-unfolding Lives
-lives-end = tt
-
-lives-just : (n v : ℕ) (r : Rule) → v < 256 ^ n → Lives r → Lives (between n 0 v v (λ x. r))
-lives-just n v r h l = lives-between n v v (λ x. r) (omega arith) h (λ x a b. l)
 
 lives-cents : (k : ℕ) (r : Rule) → Lives r → Lives (centsRule k r)
 unfolding centsRule

@@ -191,7 +191,7 @@ fn part(s: &[u8], at: usize, count: usize) -> usize
 }
 
 // Of a RecoveryResponse whose length is n: the mark, and what it says that follows.
-fn state(s: &[u8], at: usize, n: u32, count: usize) -> usize
+fn from_mark(s: &[u8], at: usize, n: u32, count: usize) -> usize
     requires { ⌜ at ≤ length (now s) ⌝ }
     ensures { λ r. ⌜ r ≡ at + reach (stateRule n count) (drop at (was s)) ⌝ }
 {
@@ -229,7 +229,7 @@ fn bound(s: &[u8], at: usize, kind: u8, n: u32) -> usize
         6 => part(s, at, count),
         8 => log(s, at, count),
         9 => log(s, at, count),
-        11 => state(s, at, n, count),
+        11 => from_mark(s, at, n, count),
         _ => entries(s, at, count),
     }
 }

@@ -1,5 +1,5 @@
 -- Laws of the two fields, n free bytes and a number between two bounds: they never get stuck, and the bytes that keep them are those whose number lies there.
---     lives-free, lives-between     at each place some byte may come
+--     lives-end, lives-free, lives-between, lives-just     at each place some byte may come
 --     takes-free, takes-between     what the bytes say that a field takes: `Got`
 --     free-takes, between-takes     and how to see that it takes them
 -- Assumes nothing.
@@ -18,7 +18,7 @@ use Rattle.numbers.specs.Words.{_and_}
 use Rattle.numbers.specs.Numbers.{beFrom, be, within, Bytes}
 use Rattle.numbers.proofs.WordLaws.{and-both, and-true}
 use Rattle.numbers.proofs.NumberLaws.{pow-pos256, beFrom-acc, be-lt, take-bytes, within-both, both-within, le-or-lt}
-use Rattle.offsets.specs.Rules.{Rule, takes, free, between}
+use Rattle.offsets.specs.Rules.{Rule, end, takes, free, between}
 use Rattle.offsets.proofs.RuleLaws.{Lives}
 
 -- ---- numbers
@@ -45,6 +45,10 @@ front-of n x s h l =
     rw (← beFrom-acc (take n s) x, e) at d
 
 -- ---- free bytes
+
+pub lives-end : Lives end
+unfolding Lives
+lives-end = tt
 
 pub lives-free : (n : ℕ) (r : Rule) → Lives r → Lives (free n r)
 unfolding free Lives
@@ -114,6 +118,9 @@ low-zero n low h = rw (div-eq-of-lt h) (omega arith)
 pub lives-between : (n low high : ℕ) (next : ℕ → Rule) → low ≤ high → low < 256 ^ n
     → ((v : ℕ) → low ≤ v → v ≤ high → Lives (next v)) → Lives (between n 0 low high next)
 lives-between n low high next h g f = lives-from n 0 low high next h (low-zero n low g) (omega arith) f
+
+pub lives-just : (n v : ℕ) (r : Rule) → v < 256 ^ n → Lives r → Lives (between n 0 v v (λ x. r))
+lives-just n v r h l = lives-between n v v (λ x. r) (omega arith) h (λ x a b. l)
 
 pub takes-between : (n low high : ℕ) (next : ℕ → Rule) (s : List ℕ) → low < 256 ^ n → takes (between n 0 low high next) s ≡ true → Got n 0 low high next s
 takes-between n low high next s g h = takes-from n 0 low high next s (low-zero n low g) (omega arith) h

@@ -13,7 +13,7 @@ use mathlib.Core.List.{List, [], _∷_}
 use mathlib.Core.Logic.{⊎-elim}
 use Prim.Native.Nat.{ℕ, zero, suc, _+_, _-_, _*_, _/_, _^_, _≤_, _<_}
 use native.Mathlib.Omega.{arith}
-use lib.ListN.{length, getD, take, drop, length-drop}
+use lib.ListN.{length, getD, take, drop, length-drop, drop-of-length-le}
 use lib.Seq.{drop-drop, drop-cons}
 use Rattle.numbers.specs.Words.{if_then_else_}
 use Rattle.numbers.specs.Numbers.{beFrom, be, num, within}
@@ -185,12 +185,6 @@ module _ (a : ℕ) (s : List ℕ) (p : ℕ) where
 
 -- ---- byte by byte
 
-drop-past : (a : ℕ) (s : List ℕ) → length s ≤ a → drop a s ≡ []
-drop-past zero [] h = refl
-drop-past zero (b ∷ s) h = absurd (omega arith)
-drop-past (suc a) [] h = refl
-drop-past (suc a) (b ∷ s) h = drop-past a s (omega arith)
-
 -- a number's next byte, at place a
 pub number-next : (m x low high a : ℕ) (s : List ℕ) → a < length s
     → numberReach (suc m) x low high (drop a s)
@@ -202,14 +196,14 @@ number-next m x low high a s h = rw (drop-cons s a 0 h)
 pub number-none : (n x low high a : ℕ) (s : List ℕ) → length s ≤ a → numberReach n x low high (drop a s) ≡ 0
 unfolding numberReach reach between
 number-none zero x low high a s h = refl
-number-none (suc n) x low high a s h = rw (drop-past a s h)
+number-none (suc n) x low high a s h = rw (drop-of-length-le s {i = a} h)
 
 -- ---- one byte, at place a
 
 module _ (ok : ℕ → Bool) (next : ℕ → Rule) (a : ℕ) (s : List ℕ) where
   pub byte-none : length s ≤ a → a + reach (byte ok next) (drop a s) ≡ a
   unfolding reach
-  byte-none h = let e : reach (byte ok next) (drop a s) ≡ 0 = rw (drop-past a s h) in omega (arith, e)
+  byte-none h = let e : reach (byte ok next) (drop a s) ≡ 0 = rw (drop-of-length-le s {i = a} h) in omega (arith, e)
 
   module _ (h : a < length s) where
     is : reach (byte ok next) (drop a s) ≡ (if ok (num 1 a s) then suc (reach (next (num 1 a s)) (drop (suc a) s)) else 0)

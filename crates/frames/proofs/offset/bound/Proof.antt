@@ -19,7 +19,7 @@ returns-3 c = let k = c .before .match .keys3 in rw (k, ← rw k at (c .before .
 
 returns-4 : tie.Need-returns-4
 unfolding boundRule if_then_else_
-returns-4 c = let k = c .before .match .keys4 in rw (k, ← rw k at (c .before .before .count-for .ensures .0)) (c .state .ensures)
+returns-4 c = let k = c .before .match .keys4 in rw (k, ← rw k at (c .before .before .count-for .ensures .0)) (c .from-mark .ensures)
 
 returns-5 : tie.Need-returns-5
 unfolding boundRule if_then_else_

@@ -1,4 +1,4 @@
--- `frames::offset::state` meets its contract. Assumes nothing.
+-- `frames::offset::from_mark` meets its contract. Assumes nothing.
 use mathlib.Core.Path.{sym, _∙_}
 use Prim.Native.Nat.{_≤_}
 use native.Mathlib.Omega.{arith}
@@ -9,8 +9,8 @@ use Rattle.numbers.specs.Words.{if_then_else_}
 use Rattle.offsets.specs.Rules.{end, between, numberReach}
 use Rattle.offsets.proofs.ReadLaws.{past-number, short-number, place-le}
 use Rattle.frames.specs.FrameRules.{logRule, stateRule}
-use Rattle.frames.proofs.offset.state.Statement.{statement}
-use Rattle.frames.proofs.offset.state.Tie as tie
+use Rattle.frames.proofs.offset.from_mark.Statement.{statement}
+use Rattle.frames.proofs.offset.from_mark.Tie as tie
 
 returns : tie.Need-returns
 unfolding stateRule numberReach if_then_else_
@@ -40,8 +40,8 @@ returns-3 c =
     (c .log .ensures
     ∙ sym (past-number (a .at) (a .s .now) _ 1 1 1 (λ x. logRule (a .count)) (d .before .number2 .ensures) (omega (arith, d .before .number2 .ensures, d .if2 .left))))
 
-pub state-spec : {M : Type 1} → statement M
-state-spec =
+pub from-mark-spec : {M : Type 1} → statement M
+from-mark-spec =
     tie.close
     (tie.spec
     (λ c κs. (c .before .before .pre, lit≤ tt))
