@@ -1,9 +1,11 @@
 // Which byte of a frame is wrong: readers along the rules of its places, each from a place on. A reader answers the place where it stopped.
 ghost use mathlib.Core.Path.{_≡_};
-ghost use mathlib.Core.Bool.{true};
 ghost use Prim.Native.Nat.{_+_, _*_, _≤_, _<_};
+ghost use lib.Dec.{leb};
 ghost use lib.ListN.{length, drop};
+ghost use Rattle.numbers.specs.Words.{_and_};
 ghost use Rattle.numbers.specs.Lending.{was};
+ghost use Rattle.entries.specs.Entries.{entryOk};
 ghost use Rattle.offsets.specs.Rules.{end, reach};
 ghost use Rattle.frames.specs.FrameRules.{carriesLog, entriesFrom, countFor, fits, someFits, centsRule, entryRule, entriesRule, logRule, partRule, stateRule, boundFrom, boundRule, bodyRule, offsetOf};
 use crate::shape;
@@ -118,7 +120,7 @@ fn entry_slowly(s: &[u8], at: usize) -> usize
 // Whether a whole entry that keeps the entry rules stands here: as fast as they are tested in a well-formed frame.
 fn is_good(s: &[u8], at: usize) -> bool
     requires { ⌜ at ≤ length (now s) ⌝ }
-    ensures { λ r. ⌜ (r ≡ true → reach (entryRule end) (drop at (was s)) ≡ 32) ⌝ }
+    ensures { λ r. ⌜ r ≡ (leb 32 (length (drop at (was s))) and entryOk (drop at (was s))) ⌝ }
 {
     if s.len() - at < 32 {
         return false;

@@ -12,14 +12,11 @@ use Prim.Native.Nat.{ℕ, zero, suc, _≤_, _<_}
 use native.Mathlib.Omega.{arith}
 use lib.ListN.{length, take, drop}
 use Rattle.numbers.specs.Numbers.{Bytes}
+use Rattle.numbers.proofs.RunLaws.{append-bytes}
 use Rattle.numbers.proofs.NumberLaws.{take-bytes, drop-bytes, le-or-lt, eq-or-not}
 use Rattle.offsets.specs.Rules.{Rule, takes, reach}
 use Rattle.offsets.specs.Offsets.{Begins, OffsetIs, Points}
-use Rattle.offsets.proofs.RuleLaws.{Lives, cons-bytes, reach-le, reach-good, reach-bad, reach-whole}
-
-join-bytes : (x y : List ℕ) → Bytes x → Bytes y → Bytes (x ++ y)
-join-bytes [] y h g = g
-join-bytes (b ∷ x) y h g = cons-bytes b (x ++ y) (h 0) (join-bytes x y (λ i. h (suc i)) g)
+use Rattle.offsets.proofs.RuleLaws.{Lives, reach-le, reach-good, reach-bad, reach-whole}
 
 -- a rule that takes just the well-formed runs
 pub record Rules (formed : List ℕ → Bool) (r : Rule) : Type 0 where
@@ -36,11 +33,11 @@ module _ (formed : List ℕ → Bool) where
         let g = reach-good r s (rules .lives) b in
         record {
           there = reach-le r s;
-          good = (g .0, g .1, rules .formed-by (take p s ++ g .0) (join-bytes (take p s) (g .0) (take-bytes p s b) (g .1)) (g .2));
+          good = (g .0, g .1, rules .formed-by (take p s ++ g .0) (append-bytes (take p s) (g .0) (take-bytes p s b) (g .1)) (g .2));
           bad = λ l w.
               false≢true
               (sym (reach-bad r s (w .0) l)
-              ∙ rules .taken-by (take (suc p) s ++ w .0) (join-bytes (take (suc p) s) (w .0) (take-bytes (suc p) s b) (w .1)) (w .2));
+              ∙ rules .taken-by (take (suc p) s ++ w .0) (append-bytes (take (suc p) s) (w .0) (take-bytes (suc p) s b) (w .1)) (w .2));
         }
 
     pub offset-formed : formed s ≡ true → reach r s ≡ length s
@@ -55,7 +52,7 @@ module _ (formed : List ℕ → Bool) where
     begins-less p q b h w =
         let e : take p s ++ (drop p (take q s) ++ w .0) ≡ take q s ++ w .0 = more p q s (w .0) h in (
           drop p (take q s) ++ w .0,
-          join-bytes (drop p (take q s)) (w .0) (drop-bytes p (take q s) (take-bytes q s b)) (w .1),
+          append-bytes (drop p (take q s)) (w .0) (drop-bytes p (take q s) (take-bytes q s b)) (w .1),
           rw e (w .2),
         )
       where
