@@ -10,13 +10,15 @@
 --     with-in, with-other      after `withMember s k`: k is in, and each other id is in as before
 --     with-new, with-old       a new id raises the count by one; one that was in leaves the set as it was
 --     with-lt          ids below n stay below n
+--     another-in, another-out  after `withAnother s own k`: who is in was in, or is k; own is out where it was
+--     another-lt, another-count    ids below n stay below n; no count falls
 --     or-with, one-bit `s | 1 << k` is `withMember s k`; `1 << k` is 2 ^ k at any width above k
 -- Assumes nothing.
 use mathlib.Core.Path.{_≡_, refl, sym, ap, ap₂, _∙_, subst}
 use mathlib.Core.Logic.{_⊎_, inl, inr}
 use mathlib.Core.List.{List, [], _∷_, _++_}
 use Prim.Native.Nat.{ℕ, zero, suc, _+_, _*_, _/_, _%_, _^_, _≤_, _<_, max}
-use native.Mathlib.Nat.{zero-lt-suc, mod-lt, div-one, pow-suc, pow-succ', div-div-eq-div-mul, div-lt-iff-lt-mul, div-add-mod', max-zero, mul-div-cancel, mul-mod-left, zero-div, mod-eq-of-lt}
+use native.Mathlib.Nat.{le-refl, zero-lt-suc, mod-lt, div-one, pow-suc, pow-succ', div-div-eq-div-mul, div-lt-iff-lt-mul, div-add-mod', max-zero, mul-div-cancel, mul-mod-left, zero-div, mod-eq-of-lt}
 use native.Mathlib.Omega.{arith}
 use lib.Arith.{lt-one, bin-ind}
 use lib.Pow.{pow-mono, pow-pos, field, mod-mod-pow}
@@ -24,9 +26,11 @@ use lib.Bits.{bitOr, or-step, or-zero-r, or-lt}
 use lib.Count.{ones, ones-step, ones-le}
 use lib.Dec.{eqb}
 use lib.ListN.{length, length-append}
-use borrow.Author.Tests.{eq-eqb, ne-eqb}
+use mathlib.Core.Bool.{Bool, true, false}
+use borrow.Author.Tests.{eq-eqb, ne-eqb, eqb-true, eqb-false}
 use Rattle.numbers.specs.Words.{if_then_else_}
-use Rattle.config.specs.Replicas.{bit, Member, members, countBelow, withMember, quorumOf}
+use Rattle.numbers.proofs.WordLaws.{split}
+use Rattle.config.specs.Replicas.{bit, Member, members, countBelow, withMember, withAnother, quorumOf}
 
 two-pos : zero < 2
 two-pos = zero-lt-suc 1
@@ -245,3 +249,43 @@ pub below-quorums-meet : (n s t : ℕ) → quorumOf n ≤ countBelow n s → quo
 below-quorums-meet n s t hs ht =
     quorums-meet n (s % 2 ^ n) (t % 2 ^ n) (mod-lt s (pow-pos n)) (mod-lt t (pow-pos n)) (omega (arith, count-low n s))
     (omega (arith, count-low n t))
+
+-- ---- one id more, unless it is our own
+
+with-among : (s k j : ℕ) → Member j (withMember s k) → Member j s ⊎ (j ≡ k)
+with-among s k j h = go (eqb j k) refl
+  where
+    go : (b : Bool) → eqb j k ≡ b → Member j s ⊎ (j ≡ k)
+    go true e = inr (eqb-true j k e)
+    go false e = inl (sym (with-other s k j (eqb-false j k e)) ∙ h)
+
+pub another-in : (s own k j : ℕ) → Member j (withAnother s own k) → Member j s ⊎ (j ≡ k)
+unfolding withAnother
+another-in s own k j = split (λ (t : ℕ). Member j t → Member j s ⊎ (j ≡ k)) _ _ _ (λ _ h. inl h) (λ _. with-among s k j)
+
+pub another-out : (s own k : ℕ) → bit s own ≡ 0 → bit (withAnother s own k) own ≡ 0
+unfolding withAnother
+another-out s own k h =
+    split (λ (t : ℕ). bit t own ≡ 0) _ _ _ (λ _. h) (λ ne. with-other s k own (λ e. eqb-false k own ne (sym e)) ∙ h)
+
+pub another-lt : (n s own k : ℕ) → s < 2 ^ n → k < n → withAnother s own k < 2 ^ n
+unfolding withAnother
+another-lt n s own k hs hk = split (λ (t : ℕ). t < 2 ^ n) _ _ _ (λ _. hs) (λ _. with-lt n s k hs hk)
+
+with-digit : (s k j : ℕ) → bit s j ≤ bit (withMember s k) j
+with-digit s k j = go (eqb j k) refl
+  where
+    go : (b : Bool) → eqb j k ≡ b → bit s j ≤ bit (withMember s k) j
+    go true e =
+        let in-it : bit (withMember s k) j ≡ 1 = subst (λ (i : ℕ). Member i (withMember s k)) (sym (eqb-true j k e)) (with-in s k) in
+        omega (arith, in-it, mod-lt (s / 2 ^ j) two-pos)
+    go false e = omega (arith, with-other s k j (eqb-false j k e))
+
+with-count : (n s k : ℕ) → countBelow n s ≤ countBelow n (withMember s k)
+unfolding countBelow
+with-count zero s k = omega (arith, none s, none (withMember s k))
+with-count (suc n) s k = omega (arith, members-step n s, members-step n (withMember s k), with-count n s k, with-digit s k n)
+
+pub another-count : (n s own k : ℕ) → countBelow n s ≤ countBelow n (withAnother s own k)
+unfolding withAnother
+another-count n s own k = split (λ (t : ℕ). countBelow n s ≤ countBelow n t) _ _ _ (λ _. le-refl _) (λ _. with-count n s k)

@@ -28,6 +28,10 @@ countBelow n s = length (members n s)
 unfoldable pub withMember : ℕ → ℕ → ℕ
 withMember s k = if eqb (bit s k) 1 then s else s + 2 ^ k
 
+-- s with k in it, unless k is the own id: no replica joins the set of those who ask it for a view
+unfoldable pub withAnother : (s own k : ℕ) → ℕ
+withAnother s own k = if eqb k own then s else withMember s k
+
 -- more than half of n
 abbrev pub quorumOf : ℕ → ℕ
 quorumOf n = n / 2 + 1

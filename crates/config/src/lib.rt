@@ -4,7 +4,7 @@ ghost use mathlib.Core.Bool.{true};
 ghost use Prim.Native.Nat.{_<_};
 ghost use lib.Dec.{eqb};
 ghost use Rattle.config.specs.Setup.{replicasOk, timeoutOk, roomOk, setupOk, primaryOf};
-ghost use Rattle.config.specs.Replicas.{bit, withMember, countBelow, quorumOf};
+ghost use Rattle.config.specs.Replicas.{bit, withMember, withAnother, countBelow, quorumOf};
 use numbers::View;
 
 // What is chosen at creation: n replicas, the own id, `primary_timeout` T, log room L and members M.
@@ -98,6 +98,17 @@ pub fn insert(set: u8, id: u8) -> u8
     ensures { λ r. ⌜ r ≡ withMember set id ⌝ }
 {
     set | (1u8 << id)
+}
+
+// The set with id in it, unless that is our own.
+pub fn insert_another(set: u8, own: u8, id: u8) -> u8
+    requires { ⌜ id < 8 ⌝ }
+    ensures { λ r. ⌜ r ≡ withAnother set own id ⌝ }
+{
+    if id == own {
+        return set;
+    }
+    insert(set, id)
 }
 
 // Whether id is in the set.

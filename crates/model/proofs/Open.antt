@@ -11,7 +11,7 @@ use Rattle.numbers.specs.Cells.{packed, cells}
 use Rattle.config.specs.Setup.{primaryOf, setupOk}
 use Rattle.writers.specs.Writers.{header, encode, reply, stateSize, sizeOf}
 use Rattle.model.specs.Sending.{sentBytes, replyBytes, messagesOut, repliesOut, send, primary, isPrimary, toOthersBelow, toOthers, toPrimary, sendPrepare, sendPrepares, sendPrepareOk, sendCommit, sendGetState, sendNewState, sendStartViewChange, doViewChangeToPrimary, startViewOf, sendStartView, startViewToOthers, sendRecoveryResponse, sendRecovery}
-use Rattle.config.specs.Replicas.{members, countBelow, withMember}
+use Rattle.config.specs.Replicas.{members, countBelow, withMember, withAnother}
 use Rattle.clock.specs.Clock.{startOf, limitOf, waitedOf, stableTick, waitTick, tickOf}
 use Rattle.model.specs.ViewChange.{filled, better, chosen, greatestCommit, heldBy, ourReport, clearedVotes, markSent, votedFor, reportNoted, noReports, noAcks, ownVote, clearedStore, enterNormal, catchingUpWith, catchUpWithView, acksFrom, startedWith, startView, startChosen, recordDoViewChange, sendDoViewChange, enough, maybeSendDoViewChange, changingTo, startViewChange, onStartViewChange, onDoViewChange, joined, onStartView}
 use Rattle.model.specs.Normal.{heardFromPrimary, committed, resend, ackRow, acked, blanked, filledGap, committedThen, accepted, onRequest, acceptFromPrimary, stateTransfer, prepared, takePrepare, onPrepare, takeCommit, onCommit, onPrepareOk, onGetState, fillGap, caughtUp, catchUp, onNewState}
@@ -41,7 +41,7 @@ unfolding big packed encodeEntry primaryOf header encode reply sentBytes replyBy
 open-sending = tt
 
 unfoldable pub open-view-change : Unit {0}
-unfolding members countBelow withMember startOf filled better chosen greatestCommit heldBy ourReport clearedVotes markSent votedFor reportNoted noReports noAcks ownVote clearedStore enterNormal catchingUpWith catchUpWithView acksFrom startedWith startView startChosen recordDoViewChange sendDoViewChange enough maybeSendDoViewChange changingTo startViewChange onStartViewChange onDoViewChange joined onStartView
+unfolding members countBelow withMember withAnother startOf filled better chosen greatestCommit heldBy ourReport clearedVotes markSent votedFor reportNoted noReports noAcks ownVote clearedStore enterNormal catchingUpWith catchUpWithView acksFrom startedWith startView startChosen recordDoViewChange sendDoViewChange enough maybeSendDoViewChange changingTo startViewChange onStartViewChange onDoViewChange joined onStartView
 open-view-change = tt
 
 unfoldable pub open-normal : Unit {0}

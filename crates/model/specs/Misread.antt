@@ -243,8 +243,8 @@ doubled =
           state (place ViewChange 4 3 false) (untouched [] []) (votes (acks2 0 0) 0 false) (noneStored 3 0) (clock false 0 0 1);
     }
 
--- "DoViewChange goes out once StartViewChange is held from n/2 distinct replica ids", our own id as sender counts. Replica 2 of 5, view 1: from 2
--- and 0. A third asks in vain.
+-- "DoViewChange goes out once StartViewChange is held from n/2 distinct replica ids", but our own id as sender never joins them. Replica 2 of 5,
+-- view 1: one from 2 starts the view change, and it takes 0 and 3. A third, 4, asks in vain.
 unfoldable pub halfAsks : Directed
 halfAsks =
     record {
@@ -253,11 +253,12 @@ halfAsks =
       steps =
           step (gets (callTo 2 1 2)) 0 (callTo 0 1 2 ++ callTo 1 1 2 ++ callTo 3 1 2 ++ callTo 4 1 2) []
           ∷ step (gets (callTo 2 1 2)) 0 [] []
-          ∷ step (gets (callTo 2 1 0)) 0 (reportFrameTo 1 1 2 0 0 []) []
-          ∷ step (gets (callTo 2 1 3)) 0 [] []
+          ∷ step (gets (callTo 2 1 0)) 0 [] []
+          ∷ step (gets (callTo 2 1 3)) 0 (reportFrameTo 1 1 2 0 0 []) []
+          ∷ step (gets (callTo 2 1 4)) 0 [] []
           ∷ [];
       last =
-          state (place ViewChange 1 0 false) (untouched [] []) (votes (acks2 0 0) 13 true) (noneStored 5 0) (clock true 0 0 0);
+          state (place ViewChange 1 0 false) (untouched [] []) (votes (acks2 0 0) 25 true) (noneStored 5 0) (clock true 0 0 0);
     }
 
 -- a primary of 5 whose op 1 isn't committed, with this set of acks

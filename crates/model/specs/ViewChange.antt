@@ -8,7 +8,7 @@ use lib.Dec.{ltb, leb, eqb}
 use lib.ListN.{length, set, replicate}
 use Rattle.numbers.specs.Words.{if_then_else_, _and_, _or_}
 use Rattle.entries.specs.declared.Entry.{Entry}
-use Rattle.config.specs.Replicas.{withMember, countBelow, quorumOf}
+use Rattle.config.specs.Replicas.{withMember, withAnother, countBelow, quorumOf}
 use Rattle.config.specs.declared.Setup.{Setup}
 use Rattle.clock.specs.Clock.{resetOf, startOf, restartOf}
 use Rattle.frames.specs.declared.Status.the-variants.{Normal, ViewChange}
@@ -62,11 +62,6 @@ clearedVotes m = record { acks = m .votes .acks; starts = 0; sent = false }
 unfoldable pub markSent : State → State
 markSent m = setVotes m (record { acks = m .votes .acks; starts = m .votes .starts; sent = true })
 
--- start_view_change_from.insert
-unfoldable pub votedFor : State → ℕ → State
-votedFor m r =
-    setVotes m (record { acks = m .votes .acks; starts = withMember (m .votes .starts) r; sent = m .votes .sent })
-
 -- do_view_change_from.insert
 unfoldable pub reportNoted : State → ℕ → Reported → State
 reportNoted m r d =
@@ -85,6 +80,11 @@ module _ (u : Setup) where
   -- the set of ourselves alone
   unfoldable pub ownVote : ℕ
   ownVote = withMember 0 (u .id)
+
+  -- start_view_change_from.insert, but for our own id, which never joins the set: as in the paper, and unlike the Rust
+  unfoldable pub votedFor : State → ℕ → State
+  votedFor m r =
+      setVotes m (record { acks = m .votes .acks; starts = withAnother (m .votes .starts) (u .id) r; sent = m .votes .sent })
 
   -- clear_view_change_state, its reports
   unfoldable pub clearedStore : State → Store
@@ -155,7 +155,7 @@ module _ (u : Setup) where
       if isPrimary u m then recordDoViewChange m (u .id) (ourReport m) out else
       done m (out ++ doViewChangeToPrimary u m) []
 
-  -- maybe_send_do_view_change, its test: once, as soon as n/2 distinct ids ask for the view. The paper counts other replicas, the Rust any id.
+  -- maybe_send_do_view_change, its test: once, as soon as the set has n/2 distinct ids
   unfoldable pub enough : State → Bool
   enough m =
       isChanging (m .place .status) and not (m .place .catchingUp) and not (m .votes .sent)

@@ -12,7 +12,7 @@ use Rattle.numbers.proofs.WordLaws.{split}
 use Rattle.entries.specs.Entries.{operationOf, EntryFits}
 use Rattle.entries.specs.declared.Entry.{Entry}
 use Rattle.config.specs.declared.Setup.{Setup}
-use Rattle.config.proofs.ReplicaLaws.{with-lt}
+use Rattle.config.proofs.ReplicaLaws.{with-lt, another-lt}
 use Rattle.fees.specs.declared.Outcome.{Outcome}
 use Rattle.fees.proofs.FeeLaws.{fee-small}
 use Rattle.clock.specs.Clock.{clock, waitedOf, stableTick, waitTick, tickOf, startOf}
@@ -286,9 +286,9 @@ module _ (u : Setup) where
   unfolding markSent
   sent-in m = votes-in m _ (λ v. record { acks = v .acks; starts = v .starts })
 
-  pub vote-in : (m : State) (r : ℕ) → r < u .n → In u m → In u (votedFor m r)
+  pub vote-in : (m : State) (r : ℕ) → r < u .n → In u m → In u (votedFor u m r)
   unfolding votedFor
-  vote-in m r h = votes-in m _ (λ v. record { acks = v .acks; starts = with-lt (u .n) _ r (v .starts) h })
+  vote-in m r h = votes-in m _ (λ v. record { acks = v .acks; starts = another-lt (u .n) _ (u .id) r (v .starts) h })
 
   pub recorded-in : (m : State) (r : ℕ) (d : Reported) → ReportedFits d → In u m → In u (reportNoted m r d)
   unfolding reportNoted

@@ -327,7 +327,7 @@ module _ (u : Setup) where
   change-good m v out h = moved _ _ (changing-next m v h)
 
   -- StartViewChange
-  vote-next : (m : State) (r : ℕ) → Next u m (votedFor m r)
+  vote-next : (m : State) (r : ℕ) → Next u m (votedFor u m r)
   unfolding votedFor
   vote-next m r = votes-next m _
 

@@ -17,9 +17,9 @@ use lib.ListN.{getD, set, replicate}
 use borrow.Author.Tests.{leb-true, ltb-true, lt-ltb}
 use Rattle.numbers.specs.Words.{if_then_else_}
 use Rattle.numbers.proofs.WordLaws.{if-true, if-false}
-use Rattle.config.specs.Replicas.{withMember}
+use Rattle.config.specs.Replicas.{withAnother}
 use Rattle.config.specs.declared.Setup.{Setup}
-use Rattle.config.proofs.ReplicaLaws.{with-lt}
+use Rattle.config.proofs.ReplicaLaws.{another-lt}
 use Rattle.state.specs.Statuses.{noReport, noReports}
 use Rattle.state.specs.declared.Report.{Report}
 use Rattle.state.specs.Sound.{isNone, reportOk, reportsOk, gatheredOk}
@@ -79,7 +79,7 @@ report-set room (suc n) (suc k) (x ∷ xs) d lt e h =
     if-true (reportOk room x) _ _ (p .0) ∙ report-set room n k xs d (omega arith) e (p .1)
 
 pub start-gathered : (u : Setup) (starts r : ℕ) (rows : List Report) → r < u .n → gatheredOk u starts rows ≡ true
-    → gatheredOk u (withMember starts r) rows ≡ true
+    → gatheredOk u (withAnother starts (u .id) r) rows ≡ true
 start-gathered u starts r rows lt h =
     let p = gathered-is u starts rows h in
-    is-gathered u (withMember starts r) rows (with-lt (u .n) starts r (p .0) lt) (p .1)
+    is-gathered u (withAnother starts (u .id) r) rows (another-lt (u .n) starts (u .id) r (p .0) lt) (p .1)

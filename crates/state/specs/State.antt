@@ -6,7 +6,7 @@ use Prim.Native.Nat.{ℕ}
 use Rattle.numbers.specs.declared.View.{View}
 use Rattle.numbers.specs.declared.Op.{Op}
 use Rattle.config.specs.Setup.{primaryOf}
-use Rattle.config.specs.Replicas.{withMember}
+use Rattle.config.specs.Replicas.{withAnother}
 use Rattle.config.specs.declared.Setup.{Setup}
 use Rattle.clock.specs.Clock.{freshClock, heardOf, resetOf, startOf, restartOf}
 use Rattle.clock.specs.declared.Clock.{Clock}
@@ -126,9 +126,9 @@ withVotes s starts sent =
       reports = s .reports;
     }
 
--- start_view_change_from.insert
+-- start_view_change_from.insert, but for the own id
 abbrev pub withStart : Replica → ℕ → Replica
-withStart s r = withVotes s (withMember (s .starts) r) (s .sent)
+withStart s r = withVotes s (withAnother (s .starts) (s .setup .id) r) (s .sent)
 
 -- do_view_change_sent
 abbrev pub withSent : Replica → Replica

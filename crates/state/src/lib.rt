@@ -225,13 +225,13 @@ pub fn changing_to(s: Replica, v: View) -> Replica
     )
 }
 
-// start_view_change_from.insert
+// start_view_change_from.insert, but for our own id
 pub fn with_start(s: Replica, from: u8) -> Replica
     requires { ⌜ from < 8 ⌝ }
     ensures { λ r. ⌜ r ≡ withStart s from ⌝ }
 {
     let mut t = s;
-    t.starts = config::insert(s.starts, from);
+    t.starts = config::insert_another(s.starts, s.setup.id, from);
     t
 }
 

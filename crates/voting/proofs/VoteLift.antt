@@ -147,13 +147,13 @@ module _ (c : Given) (table : List ClientEntry) (applied : List Entry) (h : Chan
   -- the vote of replica r, from a state t that is read as q
   voted : (t : Replica) (q : State) (r : ℕ) (first : Bool) (ms : List Sent) → r < t .setup .n → Changing c t → First t first ms → StoredOk t (c .runs .stored)
       → modelOf t (c .runs) table applied ≡ q
-      → Goal (maybeStep (c .state) (S.withStart t r) first (memoryOf c)) (maybeSendDoViewChange (t .setup) (votedFor q r) ms)
+      → Goal (maybeStep (c .state) (S.withStart t r) first (memoryOf c)) (maybeSendDoViewChange (t .setup) (votedFor (t .setup) q r) ms)
   unfolding votedFor setVotes modelOf storeOf
   voted t q r first ms lt g f s e =
       let k = t .clock in
       let starts = S.withStart t r .starts in
       subst
-      (λ (x : State). Goal (maybeStep (c .state) (S.withStart t r) first (memoryOf c)) (maybeSendDoViewChange (t .setup) (votedFor x r) ms)) e
+      (λ (x : State). Goal (maybeStep (c .state) (S.withStart t r) first (memoryOf c)) (maybeSendDoViewChange (t .setup) (votedFor (t .setup) x r) ms)) e
       (maybe-shown c (S.withStart t r) table applied (changing-varied c t k starts (t .sent)
       (start-gathered (t .setup) (t .starts) r (t .reports .rows) lt (g .gathering .reports)) g) first ms
       (first-varied c t k starts (t .sent) first ms f) (stored-varied c t k starts (t .sent) (c .runs .stored) s))
@@ -161,7 +161,7 @@ module _ (c : Given) (table : List ClientEntry) (applied : List Entry) (h : Chan
   -- one of our view
   goal-same : (r : ℕ) → r < c .state .setup .n
       → Goal (sameView (c .state) r (memoryOf c))
-      (if isChanging (m .place .status) then maybeSendDoViewChange (c .state .setup) (votedFor m r) [] else
+      (if isChanging (m .place .status) then maybeSendDoViewChange (c .state .setup) (votedFor (c .state .setup) m r) [] else
       if isNormal (m .place .status) and isPrimary (c .state .setup) m then done m (sendStartView m r) [] else
       ignored m)
   unfolding sameView leads isPrimary primary modelOf

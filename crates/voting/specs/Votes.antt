@@ -1,5 +1,5 @@
 -- on_start_view_change and maybe_send_do_view_change, on the state by value and the bytes of the lent runs: DoViewChange goes out once, as soon
--- as StartViewChange is held from n/2 distinct replica ids. Assumes nothing.
+-- as StartViewChange is held from n/2 distinct replica ids, to which the own id never comes. Assumes nothing.
 use mathlib.Core.Bool.{Bool, true, false, not}
 use mathlib.Core.List.{List}
 use Prim.Native.Nat.{ℕ, _/_}
