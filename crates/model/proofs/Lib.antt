@@ -3,5 +3,6 @@ pub mod TableLaws
 pub mod StepLaws
 pub mod LogLift
 pub mod LatestLaws
+pub mod AskedLaws
 pub mod ExamplesHold
 pub mod Open

@@ -5,6 +5,7 @@ pub mod Normal
 pub mod ViewChange
 pub mod Recovery
 pub mod Steps
+pub mod Asked
 pub mod Examples
 pub mod ExampleFrames
 pub mod Marked

@@ -1,6 +1,7 @@
 -- Demands 1 and 3 of the outside calls.
 --     one-message, one-tick, one-creation, one-recovery    any two permitted answers are equal
 --     message-untouched, tick-untouched                    demand 1
+--     went                                                 what a chain leads to is what the model's calls lead to
 --     chain-goes, demand-3, demand-3-recovered             demand 3, from any state that calls produced, and from a creation
 -- Assumes nothing.
 use mathlib.Core.Path.{_≡_, refl, sym, ap, _∙_, subst}
@@ -25,7 +26,6 @@ use Rattle.model.specs.State.{State, Answer, after}
 use Rattle.model.specs.State.Answer.{refused, done}
 use Rattle.layout.specs.Layout.{bookOf, modelOf}
 use Rattle.safety.specs.Demand.{Call, answer, run, Safe, Later}
-use Rattle.safety.specs.Demand.Call.{frame, tick}
 use Rattle.safety.proofs.Runs.{demand3}
 use Rattle.outside.specs.Calls.{checkedOf, changeBy}
 use Rattle.replica.specs.Calls.{latestFor, tableAfter, Tabled, tabled, followedBy, withTable, following, checkedCall, messageCall, idleCall}
@@ -35,6 +35,7 @@ use Rattle.replica.specs.Promise.{MessagePromise, IdlePromise, CreatePro
 use Rattle.replica.specs.Demands.{Untouched, HandedBack, Link, Chain, GoesOn}
 use Rattle.replica.specs.Demands.Link.{message, tick as idled}
 use Rattle.replica.specs.Demands.Chain.{none, more}
+use Rattle.replica.specs.Backed.{callBy, callsIn}
 
 -- ---- one answer
 
@@ -128,47 +129,45 @@ next-means s x applied d (refused k) e =
 next-means s x applied d (done m ms rs) e = (e .state, e .setup)
 
 -- what a call leads to, in the model
-record Stepped (s : Replica) (x : Lent) (applied : List Entry) (d : Called) : Type 0 where
+record Stepped (s : Replica) (x : Lent) (applied : List Entry) (d : Called) (call : Call) : Type 0 where
   applied₁ : List Entry
-  call : Call
   kept : Kept (d .answer .state) (d .lent) applied₁
   setup : d .answer .state .setup ≡ s .setup
   is : meaningOf (d .answer .state) (d .lent) applied₁ ≡ after (meaningOf s x applied) (answer (s .setup) (meaningOf s x applied) call)
 
-stepped : (s : Replica) (x : Lent) (applied : List Entry) (d : Called) → Kept s x applied → Link s x d → Stepped s x applied d
+stepped : (s : Replica) (x : Lent) (applied : List Entry) (d : Called) → Kept s x applied → (l : Link s x d) → Stepped s x applied d (callBy s x d l)
 unfolding answer
 stepped s x applied d k (message f b o p) =
     let n = next-means s x applied d (frameAnswer s f x applied) (p .meaning applied b o k) in
-    record { applied₁ = _; call = frame f _ _; kept = p .keeps applied b o k; setup = n .1; is = n .0 }
+    record { applied₁ = _; kept = p .keeps applied b o k; setup = n .1; is = n .0 }
 stepped s x applied d k (idled o p) =
     let n = next-means s x applied d (tickAnswer s x applied) (p .meaning applied o k) in
-    record { applied₁ = _; call = tick _ _; kept = p .keeps applied o k; setup = n .1; is = n .0 }
+    record { applied₁ = _; kept = p .keeps applied o k; setup = n .1; is = n .0 }
 
 -- ---- any calls
 
-record Went (s : Replica) (x : Lent) (applied : List Entry) (s′ : Replica) (x′ : Lent) : Type 0 where
-  applied′ : List Entry
-  calls : List Call
-  kept : Kept s′ x′ applied′
-  setup : s′ .setup ≡ s .setup
-  is : meaningOf s′ x′ applied′ ≡ run (s .setup) (meaningOf s x applied) calls
+pub record Went (s : Replica) (x : Lent) (applied : List Entry) (s′ : Replica) (x′ : Lent) (calls : List Call) : Type 0 where
+  pub applied′ : List Entry
+  pub kept : Kept s′ x′ applied′
+  pub setup : s′ .setup ≡ s .setup
+  pub is : meaningOf s′ x′ applied′ ≡ run (s .setup) (meaningOf s x applied) calls
 
-went : (s′ : Replica) (x′ : Lent) (s : Replica) (x : Lent) (applied : List Entry) → Kept s x applied → Chain s′ x′ s x → Went s x applied s′ x′
+pub went : (s′ : Replica) (x′ : Lent) (s : Replica) (x : Lent) (applied : List Entry) → Kept s x applied → (c : Chain s′ x′ s x)
+    → Went s x applied s′ x′ (callsIn s′ x′ s x c)
 unfolding run
-went s′ x′ s x applied k none = record { applied′ = applied; calls = []; kept = k; setup = refl; is = refl }
+went s′ x′ s x applied k none = record { applied′ = applied; kept = k; setup = refl; is = refl }
 went s′ x′ s x applied k (more _ _ d y l h c) =
     let t = stepped s x applied d k l in
     let u = d .answer .state in
     let w = went s′ x′ u y (t .applied₁) (handed-kept u (t .applied₁) (d .lent) y h (t .kept)) c in
     record {
       applied′ = w .applied′;
-      calls = t .call ∷ w .calls;
       kept = w .kept;
       setup = w .setup ∙ t .setup;
       is =
           w .is
-          ∙ (λ i. run (t .setup i) (meaningOf u y (t .applied₁)) (w .calls))
-          ∙ ap (λ (m : State). run (s .setup) m (w .calls)) (handed-means u (t .applied₁) (d .lent) y h ∙ t .is);
+          ∙ (λ i. run (t .setup i) (meaningOf u y (t .applied₁)) (callsIn s′ x′ u y c))
+          ∙ ap (λ (m : State). run (s .setup) m (callsIn s′ x′ u y c)) (handed-means u (t .applied₁) (d .lent) y h ∙ t .is);
     }
 
 safe-reached : (u : Setup) (m : State) → Reached u m → Safe u m
@@ -187,7 +186,7 @@ chain-goes s x applied s′ x′ k c =
       kept = w .kept;
       setup = w .setup;
       safe = subst (λ (u : Setup). Safe u (meaningOf s′ x′ (w .applied′))) (w .setup) (safe-reached _ _ (w .kept .reached));
-      later = subst (Later (meaningOf s x applied)) (sym (w .is)) (later-reached (s .setup) (meaningOf s x applied) (w .calls) (k .reached));
+      later = subst (Later (meaningOf s x applied)) (sym (w .is)) (later-reached (s .setup) (meaningOf s x applied) (callsIn s′ x′ s x c) (k .reached));
     }
 
 -- from a creation, or a recovery, that wasn't refused

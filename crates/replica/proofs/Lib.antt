@@ -8,6 +8,7 @@ pub mod CallLaws
 mod KnownLaws
 pub mod DemandLaws
 pub mod CreateDemands
+pub mod BackedLaws
 pub mod FoundLift
 pub mod MarkedHold
 pub mod SufficeLaws

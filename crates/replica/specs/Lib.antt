@@ -3,4 +3,5 @@ pub mod Calls
 pub mod Meaning
 pub mod Promise
 pub mod Demands
+pub mod Backed
 pub mod Marked

@@ -1,9 +1,10 @@
 -- Demands 1 and 3 of the outside calls over row structs.
 --     message-rows-untouched, tick-rows-untouched, create-rows-untouched, recover-rows-untouched    demand 1, for any rows
+--     linked, chained    a call, and a chain of them, are calls over the byte table
 --     rows-chain-goes, rows-demand-3, rows-demand-3-recovered    demand 3, from any state that calls produced, and from a creation
 -- Assumes nothing.
 use mathlib.Core.Path.{_≡_, refl, sym, ap, _∙_, subst}
-use mathlib.Core.List.{List, []}
+use mathlib.Core.List.{List, [], _∷_}
 use Prim.Native.Nat.{ℕ}
 use native.Mathlib.Omega.{arith}
 use lib.ListN.{length}
@@ -22,12 +23,14 @@ use Rattle.state.specs.declared.Replica.{Replica}
 use Rattle.steps.specs.Recorded.{Recorded}
 use Rattle.steps.proofs.RefusedSteps as S
 use Rattle.handlers.proofs.RefusedStays as R
+use Rattle.safety.specs.Demand.{Call}
 use Rattle.outside.specs.Sound.{noReplica}
 use Rattle.outside.specs.Calls.{checkedOf, toldOf}
 use Rattle.outside.specs.Creation.{Started, started, createStep, recoverStep}
 use Rattle.replica.specs.Demands.{HandedBack, Link, Chain}
 use Rattle.replica.specs.Demands.Link.{message, tick}
 use Rattle.replica.specs.Demands.Chain.{none, more}
+use Rattle.replica.specs.Backed.{callBy, callsIn}
 use Rattle.replica.proofs.DemandLaws.{handed-kept, chain-goes}
 use Rattle.replica_structs.specs.Core.{lengthsIn, clientIn, checkedCore, idleCore, startedIn, createCore, recoverCore}
 use Rattle.replica_structs.specs.Calls.{LentRows, CalledRows, calledRows, followingRows, checkedRows, messageRows, idleRows, clearedRows, createRows, recoverRows}
@@ -35,6 +38,7 @@ use Rattle.replica_structs.specs.Promise.{tableBytes, inBytes, calledByt
 use Rattle.replica_structs.specs.Demands.{UntouchedRows, RowsHandedBack, RowsLink, RowsChain, RowsGoOn}
 use Rattle.replica_structs.specs.Demands.RowsLink.{message as sent, tick as idled}
 use Rattle.replica_structs.specs.Demands.RowsChain.{none as no-rows, more as more-rows}
+use Rattle.replica_structs.specs.Backed.{rowsCallBy, rowsCallsIn}
 use Rattle.replica_structs.proofs.StepLaws.{refused-rows}
 use Rattle.replica_structs.proofs.CarryLaws.{message-carried, idle-carried, create-carried, recover-carried}
 
@@ -97,46 +101,54 @@ module _ (x : LentRows) where
 -- ---- demand 3
 
 -- memory handed back, with the rows in bytes
-handed : (x y : LentRows) → RowsHandedBack x y → HandedBack (inBytes x) (inBytes y)
+pub handed : (x y : LentRows) → RowsHandedBack x y → HandedBack (inBytes x) (inBytes y)
 handed x y h =
     record { runs = h .runs; acks = h .acks; stored = h .stored; table = ap tableBytes (h .table); old = ap tableBytes (h .old) }
 
-handed-rows : (s : Replica) (applied : List Entry) (x y : LentRows) → RowsHandedBack x y → KeptRows s x applied → KeptRows s y applied
+pub handed-rows : (s : Replica) (applied : List Entry) (x y : LentRows) → RowsHandedBack x y → KeptRows s x applied → KeptRows s y applied
 handed-rows s applied x y h k =
     record { rows = subst RowsOk (sym (h .table)) (k .rows); kept = handed-kept s applied (inBytes x) (inBytes y) (handed x y h) (k .kept) }
 
 -- a call is one over the byte table, and leaves such state and memory as calls produce
-record Linked (s : Replica) (x : LentRows) (d : CalledRows) : Type 0 where
-  applied : List Entry
-  link : Link s (inBytes x) (calledBytes d)
-  kept : KeptRows (d .answer .state) (d .lent) applied
+pub record Linked (s : Replica) (x : LentRows) (d : CalledRows) (l : RowsLink s x d) : Type 0 where
+  pub applied : List Entry
+  pub link : Link s (inBytes x) (calledBytes d)
+  pub kept : KeptRows (d .answer .state) (d .lent) applied
+  pub is : callBy s (inBytes x) (calledBytes d) link ≡ rowsCallBy s x d l
 
-linked : (s : Replica) (x : LentRows) (applied : List Entry) (d : CalledRows) → KeptRows s x applied → RowsLink s x d → Linked s x d
+pub linked : (s : Replica) (x : LentRows) (applied : List Entry) (d : CalledRows) → KeptRows s x applied → (l : RowsLink s x d) → Linked s x d l
 linked s x applied d k (sent frame b o p) =
     let w = message-carried s x d applied o k frame b p in
-    record { applied = _; link = message frame b o (w .0); kept = w .1 }
+    record { applied = _; link = message frame b o (w .0); kept = w .1; is = refl }
 linked s x applied d k (idled o p) =
     let w = idle-carried s x d applied o k p in
-    record { applied = _; link = tick o (w .0); kept = w .1 }
+    record { applied = _; link = tick o (w .0); kept = w .1; is = refl }
 
 -- so a chain of them is one too
-record Chained (s : Replica) (x : LentRows) (s′ : Replica) (x′ : LentRows) : Type 0 where
-  ok : RowsOk (x′ .table)
-  chain : Chain s′ (inBytes x′) s (inBytes x)
+pub record Chained (s : Replica) (x : LentRows) (s′ : Replica) (x′ : LentRows) (calls : List Call) : Type 0 where
+  pub applied′ : List Entry
+  pub kept : KeptRows s′ x′ applied′
+  pub chain : Chain s′ (inBytes x′) s (inBytes x)
+  pub is : callsIn s′ (inBytes x′) s (inBytes x) chain ≡ calls
 
-chained : (s′ : Replica) (x′ : LentRows) (s : Replica) (x : LentRows) (applied : List Entry) → KeptRows s x applied → RowsChain s′ x′ s x
-    → Chained s x s′ x′
-chained s′ x′ s x applied k no-rows = record { ok = k .rows; chain = none }
+pub chained : (s′ : Replica) (x′ : LentRows) (s : Replica) (x : LentRows) (applied : List Entry) → KeptRows s x applied → (c : RowsChain s′ x′ s x)
+    → Chained s x s′ x′ (rowsCallsIn s′ x′ s x c)
+chained s′ x′ s x applied k no-rows = record { applied′ = applied; kept = k; chain = none; is = refl }
 chained s′ x′ s x applied k (more-rows _ _ d y l h c) =
     let t = linked s x applied d k l in
     let r = chained s′ x′ (d .answer .state) y (t .applied) (handed-rows _ (t .applied) (d .lent) y h (t .kept)) c in
-    record { ok = r .ok; chain = more _ _ (calledBytes d) (inBytes y) (t .link) (handed (d .lent) y h) (r .chain) }
+    record {
+      applied′ = r .applied′;
+      kept = r .kept;
+      chain = more _ _ (calledBytes d) (inBytes y) (t .link) (handed (d .lent) y h) (r .chain);
+      is = λ i. t .is i ∷ r .is i;
+    }
 
 pub rows-chain-goes : (s : Replica) (x : LentRows) (applied : List Entry) (s′ : Replica) (x′ : LentRows) → KeptRows s x applied
     → RowsChain s′ x′ s x → RowsGoOn s x applied s′ x′
 rows-chain-goes s x applied s′ x′ k c =
     let r = chained s′ x′ s x applied k c in
-    record { ok = r .ok; goes = chain-goes _ _ _ _ _ (k .kept) (r .chain) }
+    record { ok = r .kept .rows; goes = chain-goes _ _ _ _ _ (k .kept) (r .chain) }
 
 -- from a creation, or a recovery, that wasn't refused
 pub rows-demand-3 : (u : Setup) (x : LentRows) (d : CalledRows) (y : LentRows) (s : Replica) (z : LentRows) → CreateRowsPromise u x d

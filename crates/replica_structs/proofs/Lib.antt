@@ -9,4 +9,5 @@ pub mod CarryLaws
 pub mod Carried
 pub mod Tabling
 pub mod DemandLaws
+pub mod BackedLaws
 pub mod OneAnswer

@@ -7,3 +7,4 @@ pub mod Runs
 pub mod Changes
 pub mod Ranges
 pub mod Latest
+pub mod Earned

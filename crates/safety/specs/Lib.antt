@@ -1,3 +1,4 @@
 pub mod Money
 pub mod Demand
 pub mod Ranges
+pub mod Earned

@@ -1,5 +1,6 @@
 -- Demands 1 and 3 at the C boundary, from the replica's own.
 --     message-run-untouched, tick-run-untouched, create-run-untouched, recover-run-untouched    demand 1
+--     linked, chained    a call, and a chain of them, are the replica's of what the runs hold
 --     run-chain-goes, run-demand-3, run-demand-3-recovered    demand 3, from any state that calls produced, and from a creation
 -- Assumes nothing.
 use mathlib.Core.Path.{_≡_, refl, sym, ap, _∙_, subst}
@@ -15,6 +16,7 @@ use Rattle.entries.specs.declared.Entry.{Entry}
 use Rattle.config.specs.declared.Setup.{Setup}
 use Rattle.state.specs.declared.Replica.{Replica}
 use Rattle.state_bytes.specs.Layout.{stateOf, stateOk}
+use Rattle.safety.specs.Demand.{Call}
 use Rattle.outside.specs.Sound.{noReplica}
 use Rattle.replica.specs.Calls.{messageCall, idleCall, createCall, recoverCall}
 use Rattle.replica.specs.Lent.{Lent, Called}
@@ -22,6 +24,7 @@ use Rattle.replica.specs.Meaning.{Kept}
 use Rattle.replica.specs.Demands.{Untouched, HandedBack, Link, Chain}
 use Rattle.replica.specs.Demands.Link.{message, tick}
 use Rattle.replica.specs.Demands.Chain.{none, more}
+use Rattle.replica.specs.Backed.{callBy, callsIn}
 use Rattle.replica.proofs.DemandLaws.{message-untouched, tick-untouched, handed-kept, chain-goes}
 use Rattle.replica.proofs.CreateDemands.{create-untouched, recover-untouched}
 use Rattle.whitherhaul.specs.Replicas.{Ran, keptState, leaves, noState, messageRun, idleRun, createRun, recoverRun, StateHeld}
@@ -29,6 +32,7 @@ use Rattle.whitherhaul.specs.Replicas.{MessageRan, IdleRan, CreateRan, R
 use Rattle.whitherhaul.specs.Demands.{UntouchedRun, RunLink, RunChain, RunGoesOn}
 use Rattle.whitherhaul.specs.Demands.RunLink.{message as sent, tick as idled}
 use Rattle.whitherhaul.specs.Demands.RunChain.{none as no-run, more as more-runs}
+use Rattle.whitherhaul.specs.Backed.{runCallBy, runCallsIn}
 
 -- ---- demand 1
 
@@ -69,13 +73,15 @@ module _ (state : List ℕ) (x : Lent) where
 -- ---- demand 3
 
 -- a call of a run that holds a state is the replica's: what it answers is in the run, and what it leaves is left
-record Linked (state : List ℕ) (x : Lent) (d : Ran) : Type 0 where
-  call : Called
-  link : Link (stateOf state) x call
-  held : StateHeld (d .state) (call .answer .state)
-  lent : d .lent ≡ call .lent
+pub record Linked (state : List ℕ) (x : Lent) (d : Ran) (l : RunLink state x d) : Type 0 where
+  pub call : Called
+  pub link : Link (stateOf state) x call
+  pub held : StateHeld (d .state) (call .answer .state)
+  pub lent : d .lent ≡ call .lent
+  pub counts : d .counts ≡ call .answer .messages ∷ call .answer .replies ∷ []
+  pub is : callBy (stateOf state) x call link ≡ runCallBy state x d l
 
-linked : (state : List ℕ) (x : Lent) (d : Ran) → stateOk state ≡ true → RunLink state x d → Linked state x d
+pub linked : (state : List ℕ) (x : Lent) (d : Ran) → stateOk state ≡ true → (l : RunLink state x d) → Linked state x d l
 unfolding messageRun idleRun
 linked state x d ok (sent frame b o p) =
     let c = messageCall (stateOf state) frame x in
@@ -84,6 +90,8 @@ linked state x d ok (sent frame b o p) =
       link = message frame b o (p .call);
       held = p .next ok;
       lent = ap (λ (z : Ran). z .lent) (p .exact ∙ if-false _ _ _ (ap not ok));
+      counts = ap (λ (z : Ran). z .counts) (p .exact ∙ if-false _ _ _ (ap not ok));
+      is = refl;
     }
 linked state x d ok (idled o p) =
     let c = idleCall (stateOf state) x in
@@ -92,15 +100,24 @@ linked state x d ok (idled o p) =
       link = tick o (p .call);
       held = p .next ok;
       lent = ap (λ (z : Ran). z .lent) (p .exact ∙ if-false _ _ _ (ap not ok));
+      counts = ap (λ (z : Ran). z .counts) (p .exact ∙ if-false _ _ _ (ap not ok));
+      is = refl;
     }
 
 -- a chain of runs is a chain of what they hold
-record Chained (state : List ℕ) (x : Lent) (state′ : List ℕ) (x′ : Lent) : Type 0 where
-  ok : stateOk state′ ≡ true
-  chain : Chain (stateOf state′) x′ (stateOf state) x
+pub record Chained (state : List ℕ) (x : Lent) (state′ : List ℕ) (x′ : Lent) (calls : List Call) : Type 0 where
+  pub ok : stateOk state′ ≡ true
+  pub chain : Chain (stateOf state′) x′ (stateOf state) x
+  pub is : callsIn (stateOf state′) x′ (stateOf state) x chain ≡ calls
 
-chained : (state′ : List ℕ) (x′ : Lent) (state : List ℕ) (x : Lent) → stateOk state ≡ true → RunChain state′ x′ state x → Chained state x state′ x′
-chained state′ x′ state x ok no-run = record { ok = ok; chain = none }
+-- a chain from an equal state has the same calls
+moved-calls : (s′ : Replica) (x′ : Lent) (s t : Replica) (x : Lent) (p : s ≡ t) (c : Chain s′ x′ s x)
+    → callsIn s′ x′ t x (subst (λ (r : Replica). Chain s′ x′ r x) p c) ≡ callsIn s′ x′ s x c
+moved-calls s′ x′ s t x p c = sym (λ i. callsIn s′ x′ (p i) x (coe 0 i (j. Chain s′ x′ (p j) x) c))
+
+pub chained : (state′ : List ℕ) (x′ : Lent) (state : List ℕ) (x : Lent) → stateOk state ≡ true → (c : RunChain state′ x′ state x)
+    → Chained state x state′ x′ (runCallsIn state′ x′ state x c)
+chained state′ x′ state x ok no-run = record { ok = ok; chain = none; is = refl }
 chained state′ x′ state x ok (more-runs _ _ d y l h c) =
     let t = linked state x d ok l in
     let r = chained state′ x′ (d .state) y (t .held .ok) c in
@@ -109,6 +126,7 @@ chained state′ x′ state x ok (more-runs _ _ d y l h c) =
       chain =
           more _ _ (t .call) y (t .link) (subst (λ (z : Lent). HandedBack z y) (t .lent) h)
           (subst (λ (s : Replica). Chain (stateOf state′) x′ s y) (t .held .back) (r .chain));
+      is = λ i. t .is i ∷ (moved-calls _ _ _ _ _ (t .held .back) (r .chain) ∙ r .is) i;
     }
 
 pub run-chain-goes : (state : List ℕ) (x : Lent) (applied : List Entry) (state′ : List ℕ) (x′ : Lent) → stateOk state ≡ true
@@ -118,7 +136,7 @@ run-chain-goes state x applied state′ x′ ok k c =
     record { ok = r .ok; goes = chain-goes _ _ _ _ _ k (r .chain) }
 
 -- what a creation that wasn't refused left, handed back
-begun : (state : List ℕ) (y : Lent) (c : Called) (d : Ran) → d ≡ leaves state c → StateHeld (d .state) (c .answer .state)
+pub begun : (state : List ℕ) (y : Lent) (c : Called) (d : Ran) → d ≡ leaves state c → StateHeld (d .state) (c .answer .state)
     → (c .answer .code ≡ 0 → Kept (c .answer .state) (c .lent) []) → d .code ≡ 0 → HandedBack (d .lent) y → Kept (stateOf (d .state)) y []
 begun state y c d e held keeps z h =
     let k = keeps (sym (ap (λ (r : Ran). r .code) e) ∙ z) in
@@ -129,7 +147,7 @@ not-0 : _≡_ {A = ℕ} 1 0 → ⊥
 not-0 e = absurd (omega (arith, e))
 
 -- one that is done was not refused for its state run
-done-leaves : (state : List ℕ) (x : Lent) (b : Bool) (c : Called) (d : Ran) → d ≡ (if b then noState state x else leaves state c) → d .code ≡ 0
+pub done-leaves : (state : List ℕ) (x : Lent) (b : Bool) (c : Called) (d : Ran) → d ≡ (if b then noState state x else leaves state c) → d .code ≡ 0
     → d ≡ leaves state c
 done-leaves state x b c d e z =
     split (λ (r : Ran). d ≡ r → d ≡ leaves state c) b _ _ (λ _ f. absurd (not-0 (sym (ap (λ (r : Ran). r .code) f) ∙ z))) (λ _ f. f) e

@@ -1,3 +1,4 @@
 pub mod Replicas
 pub mod Clients
 pub mod Demands
+pub mod Backed
