@@ -7,6 +7,7 @@ mod change;
 mod expect;
 mod installs;
 mod normal;
+mod own_id;
 mod quorum;
 mod recovery;
 mod refusals;
@@ -214,6 +215,7 @@ pub fn trace() -> Result<String, String> {
         statuses::all(),
         refusals::all(),
         change::all(),
+        own_id::all(),
         quorum::all(),
         installs::all(),
         recovery::all(),

@@ -115,20 +115,6 @@ fn counted_of(n: usize) -> Example {
         .tick(again.sends(&[1], report()))
 }
 
-/// Our own id counts too.
-fn own_votes() -> Vec<Example> {
-    vec![
-        fresh(3, 2, "A StartViewChange from our own id counts: it starts the view change, and the DoViewChange goes out at once")
-            .frame(start_view_change(1, 2), change(1, 0, 0).sends(&[0, 1], start_view_change(1, 2))
-                .sends(&[1], do_view_change(1, 2, 0, &[], 0)).has(STARTS, 4)),
-        sized(3, 1, 1, 8, "A view change that we started ourselves doesn't count us; a StartViewChange from our own id does, and our report is \
-            stored")
-            .tick(normal(0, 0, 0))
-            .tick(begins(1).has(STARTS, 0).has(REPORTS, 0))
-            .frame(start_view_change(1, 1), change(1, 0, 0).has(STARTS, 2).has(SENT, 1).has(REPORTS, 2)),
-    ]
-}
-
 /// What is of no use to a view change.
 fn dropped() -> Vec<Example> {
     vec![
@@ -248,7 +234,7 @@ fn leaving() -> Vec<Example> {
 
 pub fn all() -> Vec<Example> {
     let counted = (3..8).map(counted_of).collect();
-    let votes = [counted, own_votes(), dropped()];
+    let votes = [counted, dropped()];
     let clock = [timeouts(), attempts()];
     let last = [last_views(), leaving()];
     clock

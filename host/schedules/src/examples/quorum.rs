@@ -162,7 +162,7 @@ fn refused_by_7() -> Vec<Example> {
         with_a("7 on a StartViewChange: our own report would complete a quorum that shortens; it isn't counted, and is 7 again until the other \
             report is replaced", &[], 1)
             .frame(start_view_change(1, 2), refused(7))
-            .frame(start_view_change(1, 1), refused(7))
+            .frame(start_view_change(1, 0), refused(7))
             .frame(do_view_change(1, 0, 0, &[A], 0), change(1, 1, 1).has(REPORTS, 1).has(STARTS, 0))
             .frame(start_view_change(1, 2), starts(&[A], 1)),
     ]
