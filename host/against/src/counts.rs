@@ -59,6 +59,8 @@ pub struct Counts {
     /// Malformed frames given to a replica, by the place of their offset; and malformed Replies that were read.
     pub offsets: [u64; PLACES.len()],
     pub replies: u64,
+    /// StartViewChanges from the own id that would have joined the set by document 01.
+    pub own_ids: u64,
     /// Done and refused calls by status and kind.
     pub met: [[(u64, u64); ROWS]; 4],
     /// Later causes: number, kind, status.
@@ -128,6 +130,7 @@ impl Counts {
             mine.1 += its.1;
         }
         self.replies += other.replies;
+        self.own_ids += other.own_ids;
         for (mine, its) in self.offsets.iter_mut().zip(other.offsets) {
             *mine += its;
         }
@@ -151,10 +154,13 @@ impl Counts {
         }
     }
 
-    /// What a run has to have met and didn't: stored messages with entries, refusal numbers, places of offsets, calls of each kind
-    /// in each status, and later causes.
+    /// What a run has to have met and didn't: the own id as sender of a StartViewChange, stored messages with entries, refusal
+    /// numbers, places of offsets, calls of each kind in each status, and later causes.
     pub fn missing(&self) -> Vec<String> {
         let mut missing = Vec::new();
+        if self.own_ids == 0 {
+            missing.push(String::from("a StartViewChange from the own id"));
+        }
         for (name, (_, entries)) in STORED.iter().zip(self.stored) {
             if entries == 0 {
                 missing.push(format!("stored {name} with entries"));
@@ -194,6 +200,7 @@ impl Counts {
         let mut text = String::new();
         self.heads(&mut text);
         self.numbers(&mut text);
+        self.exception(&mut text);
         self.causes(&mut text);
         self.table(&mut text);
         text
@@ -257,6 +264,16 @@ impl Counts {
         line(
             text,
             format_args!("applied entries by outcome: {}", outcomes.join(", ")),
+        );
+    }
+
+    fn exception(&self, text: &mut String) {
+        line(
+            text,
+            format_args!(
+                "StartViewChanges from the own id, which by document 01 would have joined the set: {}",
+                self.own_ids
+            ),
         );
     }
 

@@ -2,15 +2,16 @@
 //!
 //! ```text
 //! against [--seconds S] [--seed N] [--schedules K] [--threads T]
-//! against replay FILE
+//! against replay [--document-01] FILE
 //! ```
 //!
 //! Plays random schedules for S seconds (60), or K of them, on T threads (1). Schedule k of a run has the seed N + k; N is taken
 //! from the clock where it isn't given. `--seed N --schedules 1` plays one again. Where the two sides differ, the seed is printed
 //! with the shortest calls that lead there. A run by time begins with a sweep over bad input (`sweep`), and fails where a refusal
-//! number, a place of an offset, a kind in a status or a later cause never occurred.
+//! number, a place of an offset, a kind in a status, a later cause or a StartViewChange from the own id never occurred.
 //!
-//! `replay` gives the calls of a recorded trace to the library, and compares its answers.
+//! `replay` gives the calls of a recorded trace to the library, and compares its answers. With `--document-01` the trace was written
+//! without the exception (`own_id`): from a run's first call that meets it on the amended Rust stands in for the trace.
 
 mod big;
 mod case;
@@ -24,6 +25,7 @@ mod garbage;
 mod lone;
 mod making;
 mod offset;
+mod own_id;
 mod pair;
 mod parse;
 mod patience;
@@ -42,7 +44,7 @@ use std::time::{Duration, Instant, SystemTime, UNIX_EPOCH};
 /// What the command line asks for.
 enum Asked {
     Play(Plan),
-    Replay(String),
+    Replay { file: String, document_01: bool },
 }
 
 #[derive(Clone, Copy)]
@@ -55,11 +57,22 @@ struct Plan {
 
 fn asked() -> Option<Asked> {
     let words: Vec<String> = std::env::args().skip(1).collect();
-    if let [word, file] = words.as_slice() {
-        if word == "replay" {
-            return Some(Asked::Replay(file.clone()));
-        }
+    let words: Vec<&str> = words.iter().map(String::as_str).collect();
+    let replay = |file: &str, document_01| {
+        Some(Asked::Replay {
+            file: file.to_string(),
+            document_01,
+        })
+    };
+    match words[..] {
+        ["replay", "--document-01", file] => replay(file, true),
+        ["replay", file] => replay(file, false),
+        _ => planned(&words).map(Asked::Play),
     }
+}
+
+/// A run's plan, of words and their values.
+fn planned(words: &[&str]) -> Option<Plan> {
     let now = SystemTime::now().duration_since(UNIX_EPOCH).ok()?;
     let mut plan = Plan {
         time: Duration::from_secs(60),
@@ -69,7 +82,7 @@ fn asked() -> Option<Asked> {
     };
     for pair in words.chunks(2) {
         let [word, value] = pair else { return None };
-        match word.as_str() {
+        match *word {
             "--seconds" => plan.time = Duration::from_secs(value.parse().ok()?),
             "--seed" => plan.seed = value.parse().ok()?,
             "--schedules" => plan.schedules = Some(value.parse().ok()?),
@@ -77,7 +90,7 @@ fn asked() -> Option<Asked> {
             _ => return None,
         }
     }
-    Some(Asked::Play(plan))
+    Some(plan)
 }
 
 /// One thread's schedules: the next that nobody took, until the time is over or a fault was found.
@@ -151,9 +164,9 @@ fn run(plan: Plan) -> ExitCode {
 fn main() -> ExitCode {
     match asked() {
         Some(Asked::Play(plan)) => run(plan),
-        Some(Asked::Replay(file)) => replay::replay(&file),
+        Some(Asked::Replay { file, document_01 }) => replay::replay(&file, document_01),
         None => {
-            eprintln!("usage: against [--seconds S] [--seed N] [--schedules K] [--threads T] | replay FILE");
+            eprintln!("usage: against [--seconds S] [--seed N] [--schedules K] [--threads T] | replay [--document-01] FILE");
             ExitCode::from(2)
         }
     }

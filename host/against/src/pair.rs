@@ -14,6 +14,7 @@ use crate::counts::Counts;
 use crate::deep;
 use crate::facts::{number, Facts};
 use crate::offset;
+use crate::own_id;
 use crate::parse::parse;
 use crate::wrongs::{self, Wrong};
 use schedules::run::hex;
@@ -54,6 +55,7 @@ struct Due {
     status: usize,
     kind: usize,
     later: bool,
+    own_id: bool,
 }
 
 impl Lent {
@@ -97,6 +99,18 @@ impl Due {
         counts.call(self.status, self.kind, self.number, self.later);
         if let (2, Some(frame)) = (self.number, frame) {
             counts.offset(frame, self.offset);
+        }
+        if self.own_id && self.number == 0 {
+            counts.own_ids += 1;
+        }
+    }
+
+    /// The number in areas of these lengths, where so many bytes are needed.
+    fn number_in(&self, areas: (usize, usize), needed: (usize, usize)) -> usize {
+        match self.number {
+            0 if areas.0 < needed.0 => 9,
+            0 if areas.1 < needed.1 => 10,
+            number => number,
         }
     }
 }
@@ -239,6 +253,10 @@ impl Pair {
             (None, Some(bytes)) => offset::of_frame(bytes),
             _ => 0,
         };
+        let view = self.rust.replica.view_number();
+        let own_id = call
+            .as_ref()
+            .is_some_and(|call| own_id::would_join(self.rust.setup, status, view, call));
         let (number, later, kind, answer) = match &call {
             None => (2, false, 12, Answer::default()),
             Some(call) => match call.refused_alone(self.rust.setup) {
@@ -259,7 +277,24 @@ impl Pair {
             status,
             kind,
             later,
+            own_id,
         }
+    }
+
+    /// A call with areas of these lengths, but at most a little longer than any call can need. All is compared, also what the Rust
+    /// shows only in its Debug text.
+    pub fn call_in(&mut self, frame: Option<&[u8]>, areas: (usize, usize)) -> Result<(), String> {
+        let most = self.lent.longest_messages() + GUARD;
+        let areas = (areas.0.min(most), areas.1.min(most));
+        let due = self.judged(frame);
+        let number = due.number_in(areas, (self.out.needed.len(), self.reps.needed.len()));
+        if number != due.number {
+            self.rust.take_back();
+        }
+        self.before.clone_from(&self.memory);
+        self.lent_call(frame, (number, due.offset), areas)?;
+        self.same()?;
+        deep::same(self.rust.setup, &self.rust.replica, &self.memory).map(|_| ())
     }
 
     /// The call with areas of these lengths. It has to give this number with this offset, and its messages and replies where the
@@ -298,11 +333,7 @@ impl Pair {
     ) -> Result<(), String> {
         let needed = (self.out.needed.len(), self.reps.needed.len());
         let lengths = (areas.0.length(needed.0), areas.1.length(needed.1));
-        let number = match due.number {
-            0 if lengths.0 < needed.0 => 9,
-            0 if lengths.1 < needed.1 => 10,
-            number => number,
-        };
+        let number = due.number_in(lengths, needed);
         if number == 0 {
             return Ok(());
         }

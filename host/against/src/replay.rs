@@ -1,22 +1,22 @@
-//! A recorded trace (`../shared/vectors/FORMAT.md`; host/README.md for the line `+`), given to the library through the C calls:
-//! numbers, message and reply bytes, the lines of the state, and after a refusal every lent byte. A trace has no offsets: those of
-//! malformed frames are judged as `offset` has them.
+//! A recorded trace (`../shared/vectors/FORMAT.md`; host/README.md for the lines `+`, `@` and `$`), given to the library through the
+//! C calls: numbers, message and reply bytes, the lines of the state, and after a refusal every lent byte. The offsets of malformed
+//! frames are judged as `offset` has them, and compared where the trace has them too.
+
+mod instead;
+mod replica;
+#[cfg(test)]
+mod tests;
 
 use crate::deep;
-use crate::facts::{number, Facts};
-use crate::offset;
-use crate::pair::answered;
+use crate::pair::Pair;
+use replica::{kept, Replica, SLACK};
 use schedules::run::hex;
-use schedules::rust::Setup;
 use std::collections::BTreeMap;
 use std::process::ExitCode;
-use whitherhaul::raw::{self, state, Memory};
+use whitherhaul::raw::{self, Memory};
 
-/// Areas are lent at most so much longer than the longest that a call can need.
-const SLACK: usize = 64;
-
-/// Plays a trace, and says what was compared.
-pub fn replay(file: &str) -> ExitCode {
+/// Plays a trace, and says what was compared. One of document 01 was written without the exception (`instead`).
+pub fn replay(file: &str, document_01: bool) -> ExitCode {
     let text = match std::fs::read_to_string(file) {
         Ok(text) => text,
         Err(fault) => {
@@ -24,33 +24,42 @@ pub fn replay(file: &str) -> ExitCode {
             return ExitCode::FAILURE;
         }
     };
-    let mut replay = Replay::default();
+    match played(&text, document_01) {
+        Ok(replay) => {
+            print!("{}", replay.told(file));
+            ExitCode::SUCCESS
+        }
+        Err((line, fault)) => {
+            println!("against: fails: {file}, line {line}: {fault}");
+            ExitCode::FAILURE
+        }
+    }
+}
+
+/// All lines of a trace; or what is wrong, and in which line.
+fn played(text: &str, document_01: bool) -> Result<Replay, (usize, String)> {
+    let mut replay = Replay {
+        document_01,
+        ..Replay::default()
+    };
     for (place, line) in text.lines().enumerate() {
         if line.is_empty() || line.starts_with('#') {
             continue;
         }
         let words: Vec<&str> = line.split(' ').collect();
-        if let Err(fault) = replay.line(&words) {
-            println!("against: fails: {file}, line {}: {fault}", place + 1);
-            return ExitCode::FAILURE;
-        }
+        replay.line(&words).map_err(|fault| (place + 1, fault))?;
     }
-    print!("{}", replay.told(file));
-    ExitCode::SUCCESS
+    Ok(replay)
 }
 
 /// What a run is of.
+#[derive(Default)]
 enum Running {
+    #[default]
     Nothing,
     Replica(Box<Replica>),
+    Instead(Box<Pair>),
     Client(Vec<u8>),
-}
-
-/// A replica of the library with its memory.
-struct Replica {
-    setup: whitherhaul::Setup,
-    memory: Memory,
-    facts: Facts,
 }
 
 /// The answer of the call that was given last.
@@ -61,26 +70,21 @@ struct Answer {
     replies: Vec<u8>,
 }
 
+#[derive(Default)]
 struct Replay {
+    document_01: bool,
     running: Running,
     answer: Option<Answer>,
+    /// The offset that the last call came with, if that was a malformed frame.
+    offset: Option<usize>,
     compared: BTreeMap<&'static str, usize>,
     states: usize,
     stored: usize,
+    offsets: usize,
+    sums: usize,
     refused: BTreeMap<u8, usize>,
-}
-
-impl Default for Replay {
-    fn default() -> Replay {
-        Replay {
-            running: Running::Nothing,
-            answer: None,
-            compared: BTreeMap::new(),
-            states: 0,
-            stored: 0,
-            refused: BTreeMap::new(),
-        }
-    }
+    /// Runs and answers that were compared with the amended Rust in place of the trace.
+    instead: (usize, usize),
 }
 
 /// A decimal number of some type.
@@ -126,9 +130,12 @@ impl Replay {
             ("Q", 5) => self.request(&words[1..]),
             ("P", 3) => self.reply(number_of(words[1])?, number_of(words[2])?),
             ("I", 2) => self.idle(number_of(words[1])?),
+            ("=", 4) | (":", 20) | ("+", 3) | ("@", 2) | ("$", 2) if self.is_instead() => Ok(()),
             ("=", 4) => self.compare(words),
             (":", 20) => self.state(&words[1..]),
             ("+", 3) => self.stored(&words[1..]),
+            ("@", 2) => self.offset(words[1]),
+            ("$", 2) => self.sum(words[1]),
             (";", 4) => self.record(&words[1..]),
             _ => Err(String::from(
                 "a line that neither FORMAT.md nor host/README.md has",
@@ -155,8 +162,7 @@ impl Replay {
         kept(code, &memory, &before, &out[count..])?;
         self.given("creations", code, out[..count].to_vec(), Vec::new());
         if code == 0 {
-            let view = back.map_or(0, |(view, _)| view);
-            let replica = Replica::new(setup, memory, view);
+            let replica = Replica::new(setup, memory, back);
             self.running = Running::Replica(Box::new(replica));
         }
         Ok(())
@@ -169,26 +175,31 @@ impl Replay {
         frame: Option<&[u8]>,
         words: &[&str],
     ) -> Result<(), String> {
-        let Running::Replica(replica) = &mut self.running else {
-            return Err(String::from("a call of no replica"));
-        };
-        let most = replica.setup.longest_messages() + SLACK;
-        let mut out = vec![0xa5; number_of::<usize>(words[1])?.min(most)];
-        let mut reps = vec![0xa5; number_of::<usize>(words[2])?.min(most)];
-        let before = replica.memory.clone();
-        let (code, counts, offset) = answered(&mut replica.memory, frame, &mut out, &mut reps);
-        let malformed = frame.filter(|_| code == 2);
-        let due = malformed.map_or(0, offset::of_frame);
-        if offset != due {
-            return Err(format!("{code} with offset {offset}, {due} is due"));
+        let areas = (number_of(words[1])?, number_of(words[2])?);
+        if let Running::Replica(replica) = &self.running {
+            if self.document_01 && replica.meets(frame) {
+                self.instead.0 += 1;
+                self.running = Running::Instead(Box::new(replica.so_far.pair()?));
+            }
         }
-        kept(code, &replica.memory, &before, &out[counts.messages..])?;
-        kept(code, &replica.memory, &before, &reps[counts.replies..])?;
-        replica.facts.hold(&replica.memory)?;
-        out.truncate(counts.messages);
-        reps.truncate(counts.replies);
-        self.given(name, code, out, reps);
-        Ok(())
+        match &mut self.running {
+            Running::Replica(replica) => {
+                let (code, offset, messages, replies) = replica.call(frame, areas)?;
+                self.given(name, code, messages, replies);
+                self.offset = frame.filter(|_| code == 2).map(|_| offset);
+                Ok(())
+            }
+            Running::Instead(pair) => {
+                self.instead.1 += 1;
+                instead::compared(pair, frame, areas)
+            }
+            _ => Err(String::from("a call of no replica")),
+        }
+    }
+
+    /// Whether the run's answers are compared with the amended Rust in place of the trace.
+    fn is_instead(&self) -> bool {
+        matches!(self.running, Running::Instead(_))
     }
 
     /// A client, with the view and the next number that the line says.
@@ -257,6 +268,7 @@ impl Replay {
         if code != 0 {
             *self.refused.entry(code).or_default() += 1;
         }
+        self.offset = None;
         self.answer = Some(Answer {
             code,
             messages,
@@ -315,6 +327,32 @@ impl Replay {
         Ok(())
     }
 
+    /// The line behind a malformed frame's answer: the offset that came with it.
+    fn offset(&mut self, due: &str) -> Result<(), String> {
+        let offset = self
+            .offset
+            .take()
+            .ok_or("the offset of no malformed frame")?;
+        if offset.to_string() != due {
+            return Err(format!("2 with offset {offset}, due is {due}"));
+        }
+        self.offsets += 1;
+        Ok(())
+    }
+
+    /// The line with the totals of all members, added up.
+    fn sum(&mut self, due: &str) -> Result<(), String> {
+        let Running::Replica(replica) = &self.running else {
+            return Err(String::from("the totals of no replica"));
+        };
+        let sum = replica.sum();
+        if sum.to_string() != due {
+            return Err(format!("the totals add up to {sum}, due is {due}"));
+        }
+        self.sums += 1;
+        Ok(())
+    }
+
     /// The state of a client.
     fn record(&mut self, words: &[&str]) -> Result<(), String> {
         let client = whitherhaul::Client::from_record(
@@ -342,90 +380,18 @@ impl Replay {
         let refused = self.refused.iter();
         let refused = refused.map(|(number, count)| format!("{number}: {count}"));
         let refused = refused.collect::<Vec<_>>().join(", ");
-        format!(
-            "{file}: {calls} answers compared ({}), {} states, {} of them with nonce and stored reports\nrefused by number: {refused}\n",
-            words,
-            self.states,
-            self.stored
-        )
-    }
-}
-
-/// A refused call left memory as it was; bytes past a count are as they were.
-fn kept(code: u8, memory: &Memory, before: &Memory, past: &[u8]) -> Result<(), String> {
-    if code != 0 && memory != before {
-        return Err(format!("memory changed though refused by {code}"));
-    }
-    match past.iter().all(|byte| *byte == 0xa5) {
-        true => Ok(()),
-        false => Err(String::from("bytes past the count changed")),
-    }
-}
-
-impl Replica {
-    fn new(setup: whitherhaul::Setup, memory: Memory, view: u32) -> Replica {
-        let sizes = Setup {
-            n: setup.replicas as usize,
-            id: setup.id as usize,
-            timeout: setup.timeout as usize,
-            room: setup.room as usize,
-            members: setup.members as usize,
-        };
-        Replica {
-            setup,
-            memory,
-            facts: Facts::new(sizes, view),
+        let mut told = format!(
+            "{file}: {calls} answers compared ({words}), {} states, {} of them with nonce and stored reports; {} recorded offsets, {} sums \
+            of totals\nrefused by number: {refused}\n",
+            self.states, self.stored, self.offsets, self.sums
+        );
+        if self.document_01 {
+            let (runs, answers) = self.instead;
+            told += &format!(
+                "besides, in {runs} runs {answers} answers compared with the amended Rust in place of the trace: from a StartViewChange of \
+                the own id on that by document 01 would have joined the set\n"
+            );
         }
-    }
-
-    /// The words of the state line.
-    fn line(&self) -> Vec<String> {
-        let numbers = self.numbers().into_iter().map(|number| number.to_string());
-        numbers.chain(self.digests()).collect()
-    }
-
-    /// Its numbers.
-    fn numbers(&self) -> [u64; 14] {
-        let memory = &self.memory;
-        let byte = |at: usize| u64::from(memory.state[at]);
-        let two = |at: usize| byte(at) << 8 | byte(at + 1);
-        let recovering = byte(state::STATUS) == 3;
-        let reports = deep::reports(memory);
-        let clock = state::CLOCK;
-        [
-            byte(state::STATUS),
-            number(memory, state::VIEW).into(),
-            number(memory, state::LAST_NORMAL_VIEW).into(),
-            number(memory, state::OP_NUMBER).into(),
-            number(memory, state::COMMIT_NUMBER).into(),
-            byte(clock),
-            number(memory, clock + 1).into(),
-            two(clock + 5),
-            byte(clock + 7),
-            byte(state::STARTS),
-            byte(state::SENT),
-            byte(state::CATCHING_UP),
-            if recovering { 0 } else { reports },
-            if recovering { reports } else { 0 },
-        ]
-    }
-
-    /// Its digests: log, rows, totals, acks, applied.
-    fn digests(&self) -> [String; 5] {
-        let memory = &self.memory;
-        let log = 32 * number(memory, state::OP_NUMBER) as usize;
-        let mut rows = memory.table.clone();
-        rows.truncate(25 * rows.chunks_exact(25).filter(|row| row[16] != 0).count());
-        for row in rows.chunks_exact_mut(25).filter(|row| row[16] == 255) {
-            row[16] = 0;
-        }
-        let runs: [&[u8]; 5] = [
-            &memory.log[..log],
-            &rows,
-            &memory.totals,
-            &memory.acks,
-            self.facts.applied(),
-        ];
-        runs.map(|run| format!("{:016x}", schedules::run::fnv(run)))
+        told
     }
 }

@@ -1,7 +1,7 @@
 //! What the comparisons have to notice.
 
 use super::*;
-use schedules::directed::{back, commit, do_view_change, fee, response, NEW};
+use schedules::directed::{back, commit, do_view_change, fee, response, start_view_change, NEW};
 use vsr_rs::Message;
 use wire::fees::{Entry, FEE};
 use wire::frames::{frame, Fees};
@@ -154,6 +154,72 @@ fn another_offset_is_noticed() {
             assert_eq!(held.is_ok(), due == offset, "{number} with {due}");
         }
     }
+}
+
+/// Replica 1 of three that begins the view change to view 2 on its own StartViewChange, with the DoViewChange not sent.
+fn looped() -> Pair {
+    let setup = Setup {
+        n: 3,
+        id: 1,
+        timeout: 3,
+        room: 2,
+        members: 2,
+    };
+    given(setup, NEW, vec![start_view_change(2, 1)])
+}
+
+#[test]
+fn the_own_id_in_the_set_is_noticed() {
+    assert!(!noticed_in(looped(), |_| {}));
+    assert!(noticed_in(looped(), |m| m.state[state::STARTS] |= 2));
+    let mut pair = looped();
+    assert_eq!(pair.call_in(None, (24, 0)), Ok(()));
+    pair.memory.state[state::STARTS] |= 2;
+    assert!(pair.call_in(None, (24, 0)).is_err());
+}
+
+#[test]
+fn a_call_in_a_short_area_leaves_both_as_they_were() {
+    let mut pair = looped();
+    let asked = frame(1, &start_view_change(2, 0));
+    for (area, sent) in [(23, 0), (23, 0), (24, 1)] {
+        assert_eq!(pair.call_in(Some(&asked), (area, 0)), Ok(()));
+        assert_eq!(pair.memory.state[state::SENT], sent, "{area}");
+    }
+}
+
+/// By document 01 the own id joins the set by a StartViewChange of a later view, and of the own view in ViewChange; not while
+/// recovering.
+#[test]
+fn calls_that_meet_the_exception_are_counted() {
+    let counted = |mut pair: Pair, frames: &[(Fees, u64)]| {
+        let mut counts = Counts::default();
+        for (message, met) in frames {
+            let step = Step {
+                frame: Some(frame(pair.case.setup.id, message)),
+                lends: Lends::default(),
+            };
+            pair.step(step, &mut counts).expect("both the same");
+            assert_eq!(counts.own_ids, *met, "{message:?}");
+        }
+    };
+    let ask = start_view_change;
+    let setup = looped().case.setup;
+    let looping = [
+        (ask(2, 1), 1),
+        (ask(2, 0), 1),
+        (ask(1, 1), 1),
+        (ask(5, 1), 2),
+    ];
+    counted(looped(), &looping);
+    let normal = [
+        (ask(0, 1), 0),
+        (ask(1, 3), 0),
+        (ask(1, 2), 0),
+        (ask(2, 1), 1),
+    ];
+    counted(given(setup, NEW, vec![]), &normal);
+    counted(given(setup, back(1), vec![]), &[(ask(2, 1), 0)]);
 }
 
 #[test]

@@ -1,0 +1,146 @@
+//! A replica of the library with its memory, given the calls of a trace.
+
+use super::instead::SoFar;
+use crate::deep;
+use crate::facts::{number, Facts};
+use crate::offset;
+use crate::pair::answered;
+use schedules::rust::{Setup, Start};
+use whitherhaul::raw::{state, Memory};
+
+/// Areas are lent at most so much longer than the longest that a call can need.
+pub const SLACK: usize = 64;
+
+pub struct Replica {
+    setup: whitherhaul::Setup,
+    pub memory: Memory,
+    facts: Facts,
+    pub so_far: SoFar,
+}
+
+/// Number, offset, messages and replies of a call.
+type Given = (u8, usize, Vec<u8>, Vec<u8>);
+
+/// A refused call left memory as it was; bytes past a count are as they were.
+pub fn kept(code: u8, memory: &Memory, before: &Memory, past: &[u8]) -> Result<(), String> {
+    if code != 0 && memory != before {
+        return Err(format!("memory changed though refused by {code}"));
+    }
+    match past.iter().all(|byte| *byte == 0xa5) {
+        true => Ok(()),
+        false => Err(String::from("bytes past the count changed")),
+    }
+}
+
+impl Replica {
+    /// One that was made just now: for the first time, or after a crash with this view and nonce.
+    pub fn new(setup: whitherhaul::Setup, memory: Memory, back: Option<(u32, u64)>) -> Replica {
+        let sizes = Setup {
+            n: setup.replicas as usize,
+            id: setup.id as usize,
+            timeout: setup.timeout as usize,
+            room: setup.room as usize,
+            members: setup.members as usize,
+        };
+        let start = back.map_or(Start::New, |(view, nonce)| Start::Back {
+            view: view as usize,
+            nonce,
+        });
+        Replica {
+            setup,
+            memory,
+            facts: Facts::new(sizes, back.map_or(0, |(view, _)| view)),
+            so_far: SoFar {
+                setup: sizes,
+                start,
+                calls: Vec::new(),
+            },
+        }
+    }
+
+    /// A frame, or a tick, with areas of these lengths.
+    pub fn call(&mut self, frame: Option<&[u8]>, areas: (usize, usize)) -> Result<Given, String> {
+        let most = self.setup.longest_messages() + SLACK;
+        let mut out = vec![0xa5; areas.0.min(most)];
+        let mut reps = vec![0xa5; areas.1.min(most)];
+        let before = self.memory.clone();
+        let (code, counts, offset) = answered(&mut self.memory, frame, &mut out, &mut reps);
+        let malformed = frame.filter(|_| code == 2);
+        let due = malformed.map_or(0, offset::of_frame);
+        if offset != due {
+            return Err(format!("{code} with offset {offset}, {due} is due"));
+        }
+        kept(code, &self.memory, &before, &out[counts.messages..])?;
+        kept(code, &self.memory, &before, &reps[counts.replies..])?;
+        self.facts.hold(&self.memory)?;
+        out.truncate(counts.messages);
+        reps.truncate(counts.replies);
+        self.so_far.calls.push((frame.map(<[u8]>::to_vec), areas));
+        Ok((code, offset, out, reps))
+    }
+
+    /// Whether this frame meets the exception.
+    pub fn meets(&self, frame: Option<&[u8]>) -> bool {
+        let status = self.memory.state[state::STATUS].into();
+        let view = number(&self.memory, state::VIEW) as usize;
+        self.so_far.meets(frame, status, view)
+    }
+
+    /// The totals of all members, added up.
+    pub fn sum(&self) -> u128 {
+        let totals = self.memory.totals.chunks_exact(8);
+        let total = |bytes: &[u8]| u64::from_be_bytes(bytes.try_into().expect("eight bytes"));
+        totals.map(|bytes| u128::from(total(bytes))).sum()
+    }
+
+    /// The words of the state line.
+    pub fn line(&self) -> Vec<String> {
+        let numbers = self.numbers().into_iter().map(|number| number.to_string());
+        numbers.chain(self.digests()).collect()
+    }
+
+    /// Its numbers.
+    fn numbers(&self) -> [u64; 14] {
+        let memory = &self.memory;
+        let byte = |at: usize| u64::from(memory.state[at]);
+        let two = |at: usize| byte(at) << 8 | byte(at + 1);
+        let recovering = byte(state::STATUS) == 3;
+        let reports = deep::reports(memory);
+        let clock = state::CLOCK;
+        [
+            byte(state::STATUS),
+            number(memory, state::VIEW).into(),
+            number(memory, state::LAST_NORMAL_VIEW).into(),
+            number(memory, state::OP_NUMBER).into(),
+            number(memory, state::COMMIT_NUMBER).into(),
+            byte(clock),
+            number(memory, clock + 1).into(),
+            two(clock + 5),
+            byte(clock + 7),
+            byte(state::STARTS),
+            byte(state::SENT),
+            byte(state::CATCHING_UP),
+            if recovering { 0 } else { reports },
+            if recovering { reports } else { 0 },
+        ]
+    }
+
+    /// Its digests: log, rows, totals, acks, applied.
+    fn digests(&self) -> [String; 5] {
+        let memory = &self.memory;
+        let log = 32 * number(memory, state::OP_NUMBER) as usize;
+        let mut rows = memory.table.clone();
+        rows.truncate(25 * rows.chunks_exact(25).filter(|row| row[16] != 0).count());
+        for row in rows.chunks_exact_mut(25).filter(|row| row[16] == 255) {
+            row[16] = 0;
+        }
+        let runs: [&[u8]; 5] = [
+            &memory.log[..log],
+            &rows,
+            &memory.totals,
+            &memory.acks,
+            self.facts.applied(),
+        ];
+        runs.map(|run| format!("{:016x}", schedules::run::fnv(run)))
+    }
+}
