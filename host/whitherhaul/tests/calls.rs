@@ -1,5 +1,6 @@
 //! Document 01's marked examples through the safe crate, and what the crate adds to the C calls.
 
+use whitherhaul::raw::state;
 use whitherhaul::{
     addressee, kind, Client, Frames, Operation, Outcome, Refusal, Replica, Reply, Setup, Status,
     DEFAULT_TIMEOUT,
@@ -192,6 +193,37 @@ fn acks_of_no_replica() {
     replica.parts_mut().acks[0] |= 0x80;
     replica.on_message(&prepare_ok(1, 1)).unwrap();
     assert_eq!(replica.commit_number(), 1);
+}
+
+/// A StartViewChange of view 2 for replica 1.
+fn start_view_change(sender: u8) -> [u8; 12] {
+    [0, 0, 0, 8, 1, 7, 1, 0, 0, 0, 2, sender]
+}
+
+/// The kinds of the messages that a replica sends on a StartViewChange.
+fn kinds_sent(replica: &mut Replica, sender: u8) -> Vec<Option<u8>> {
+    let sent = replica.on_message(&start_view_change(sender)).unwrap();
+    sent.messages().map(|(_, frame)| kind(frame)).collect()
+}
+
+/// The own id never joins the set of those who sent StartViewChange. In a lent state in which it stands all the same it isn't
+/// refused, and counts: of five, one other is enough beside it, and two are without it.
+#[test]
+fn our_own_id_among_the_starts() {
+    let of_five = Setup {
+        replicas: 5,
+        id: 1,
+        ..SETUP
+    };
+    for (lent, after_one, after_two) in [(0, vec![], vec![Some(8)]), (2, vec![Some(8)], vec![])] {
+        let mut replica = Replica::new(&of_five).unwrap();
+        assert_eq!(kinds_sent(&mut replica, 1), [Some(7); 4]);
+        assert_eq!(replica.parts().state[state::STARTS], 0);
+        replica.parts_mut().state[state::STARTS] |= lent;
+        assert_eq!(kinds_sent(&mut replica, 0), after_one);
+        assert_eq!(kinds_sent(&mut replica, 3), after_two);
+        assert_eq!(replica.parts().state[state::STARTS], lent | 0b1001);
+    }
 }
 
 /// A row whose mark is no outcome keeps no reply, so that none is sent.
