@@ -33,7 +33,7 @@ pub fn kept(code: u8, memory: &Memory, before: &Memory, past: &[u8]) -> Result<(
 }
 
 impl Replica {
-    /// One that was made just now: for the first time, or after a crash with this view and nonce.
+    /// A new one: made for the first time, or after a crash with this view and nonce.
     pub fn new(setup: whitherhaul::Setup, memory: Memory, back: Option<(u32, u64)>) -> Replica {
         let sizes = Setup {
             n: setup.replicas as usize,
