@@ -1,9 +1,14 @@
 """Recorded calls in the format of ../shared/vectors/FORMAT.md: the runs of a trace, and a choice of them.
 
 A run is a list of lines, each split into words: its creation with the answer and the state, then call, answer and state of each call.
-A line `+` behind a state (host/README.md), which not every trace has, is the end of the state's line here."""
+Lines that not every trace has are the end of the line before them here: `+` behind a state (host/README.md), `@` with the offset behind
+an answer and `$` with the sum behind a state (../shared/vectors/orders/FORMAT.md)."""
 KINDS = range(1, 12)
+START_VIEW_CHANGE = 7
 SMALL_ROOM = 8                             # the greatest L of the Rust's own record
+VIEW_CHANGE, RECOVERING = "2", "3"         # statuses of a state line
+PAST_FRAME = ("0", "7", "9", "10")         # answers to a StartViewChange that isn't refused for its frame alone
+BEHIND = {"+": 2, "@": 1, "$": 1}          # how many words stand behind the mark
 
 
 def runs_of(lines):
@@ -15,11 +20,17 @@ def runs_of(lines):
             continue
         if words[0] in ("N", "R", "C"):
             runs.append([])
-        if words[0] == "+":
+        if words[0] in BEHIND:
             runs[-1][-1] += words
         else:
             runs[-1].append(words)
     return runs
+
+
+def behind(line, mark):
+    """The words behind a mark of a line; none where it hasn't that mark."""
+    place = line.index(mark) + 1 if mark in line else len(line)
+    return line[place:place + BEHIND[mark]]
 
 
 def is_client(run):
@@ -63,6 +74,28 @@ def kind_of(call):
         return 0
     kind = int(call[3][10:12] or "0", 16) if call[3] != "-" else 0
     return kind if kind in KINDS else -1
+
+
+def meets_exception(own, state, call, answer):
+    """Whether a call to a replica with this id, in the state of this line, meets the exception to document 01: a StartViewChange that names
+    the replica itself as its sender, in a view for which senders are counted. A replica's own id never joins that set. Where document 01
+    refuses such a call by 7, 9 or 10, it may be for what goes out because the own id counts."""
+    if kind_of(call) != START_VIEW_CHANGE or answer[1] not in PAST_FRAME:
+        return False
+    view, sender = int(call[3][14:22], 16), int(call[3][22:24], 16)
+    status, ours = state[1], int(state[2])
+    counts = view > ours or (view == ours and status == VIEW_CHANGE)
+    return sender == own and status != RECOVERING and counts
+
+
+def before_exception(run):
+    """A replica's run up to its first call that meets the exception; all of it where none does."""
+    calls = calls_of(run)
+    for place, (call, answer, _) in enumerate(calls):
+        state = calls[place - 1][2] if place else run[2]
+        if meets_exception(int(run[0][2]), state, call, answer):
+            return front(run, place)
+    return run
 
 
 def causes(creation):
