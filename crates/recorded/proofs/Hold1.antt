@@ -2,547 +2,7 @@
 use mathlib.Core.Path.{refl}
 use Rattle.against_rust.specs.Shape.{RunHolds}
 use Rattle.against_rust.proofs.OpenRuns.{open-runs}
-use Rattle.recorded.specs.Runs1.{run75, run76, run77, run78, run79, run80, run81, run82, run83, run84, run85, run86, run87, run88, run89, run90, run91, run92, run93, run94, run95, run96, run97, run98, run99, run100, run101, run102, run103, run104, run105, run106, run107, run108, run109, run110, run111, run112, run113, run114, run115, run116, run117, run118, run119, run120, run121, run122, run123, run124, run125, run126, run127, run128, run129, run130, run131, run132, run133, run134, run135, run136, run137, run138, run139, run140, run141, run142, run143, run144, run145, run146, run147, run148, run149, run150, run151, run152, run153, run154, run155, run156, run157, run158, run159, run160, run161, run162, run163, run164, run165, run166, run167, run168, run169, run170, run171, run172, run173, run174, run175, run176, run177, run178, run179, run180, run181, run182, run183, run184, run185, run186, run187, run188, run189, run190, run191, run192, run193, run194, run195, run196, run197, run198, run199, run200, run201, run202, run203, run204, run205, run206, run207, run208, run209, run210, run211, run212, run213, run214, run215, run216, run217, run218, run219, run220, run221, run222, run223, run224, run225, run226, run227, run228, run229, run230, run231, run232, run233, run234, run235, run236, run237, run238, run239, run240, run241, run242, run243, run244, run245, run246, run247, run248, run249, run250, run251, run252, run253, run254, run255, run256, run257, run258, run259, run260}
-
-pub hold75 : RunHolds run75
-unfolding open-runs run75
-hold75 = refl
-
-pub hold76 : RunHolds run76
-unfolding open-runs run76
-hold76 = refl
-
-pub hold77 : RunHolds run77
-unfolding open-runs run77
-hold77 = refl
-
-pub hold78 : RunHolds run78
-unfolding open-runs run78
-hold78 = refl
-
-pub hold79 : RunHolds run79
-unfolding open-runs run79
-hold79 = refl
-
-pub hold80 : RunHolds run80
-unfolding open-runs run80
-hold80 = refl
-
-pub hold81 : RunHolds run81
-unfolding open-runs run81
-hold81 = refl
-
-pub hold82 : RunHolds run82
-unfolding open-runs run82
-hold82 = refl
-
-pub hold83 : RunHolds run83
-unfolding open-runs run83
-hold83 = refl
-
-pub hold84 : RunHolds run84
-unfolding open-runs run84
-hold84 = refl
-
-pub hold85 : RunHolds run85
-unfolding open-runs run85
-hold85 = refl
-
-pub hold86 : RunHolds run86
-unfolding open-runs run86
-hold86 = refl
-
-pub hold87 : RunHolds run87
-unfolding open-runs run87
-hold87 = refl
-
-pub hold88 : RunHolds run88
-unfolding open-runs run88
-hold88 = refl
-
-pub hold89 : RunHolds run89
-unfolding open-runs run89
-hold89 = refl
-
-pub hold90 : RunHolds run90
-unfolding open-runs run90
-hold90 = refl
-
-pub hold91 : RunHolds run91
-unfolding open-runs run91
-hold91 = refl
-
-pub hold92 : RunHolds run92
-unfolding open-runs run92
-hold92 = refl
-
-pub hold93 : RunHolds run93
-unfolding open-runs run93
-hold93 = refl
-
-pub hold94 : RunHolds run94
-unfolding open-runs run94
-hold94 = refl
-
-pub hold95 : RunHolds run95
-unfolding open-runs run95
-hold95 = refl
-
-pub hold96 : RunHolds run96
-unfolding open-runs run96
-hold96 = refl
-
-pub hold97 : RunHolds run97
-unfolding open-runs run97
-hold97 = refl
-
-pub hold98 : RunHolds run98
-unfolding open-runs run98
-hold98 = refl
-
-pub hold99 : RunHolds run99
-unfolding open-runs run99
-hold99 = refl
-
-pub hold100 : RunHolds run100
-unfolding open-runs run100
-hold100 = refl
-
-pub hold101 : RunHolds run101
-unfolding open-runs run101
-hold101 = refl
-
-pub hold102 : RunHolds run102
-unfolding open-runs run102
-hold102 = refl
-
-pub hold103 : RunHolds run103
-unfolding open-runs run103
-hold103 = refl
-
-pub hold104 : RunHolds run104
-unfolding open-runs run104
-hold104 = refl
-
-pub hold105 : RunHolds run105
-unfolding open-runs run105
-hold105 = refl
-
-pub hold106 : RunHolds run106
-unfolding open-runs run106
-hold106 = refl
-
-pub hold107 : RunHolds run107
-unfolding open-runs run107
-hold107 = refl
-
-pub hold108 : RunHolds run108
-unfolding open-runs run108
-hold108 = refl
-
-pub hold109 : RunHolds run109
-unfolding open-runs run109
-hold109 = refl
-
-pub hold110 : RunHolds run110
-unfolding open-runs run110
-hold110 = refl
-
-pub hold111 : RunHolds run111
-unfolding open-runs run111
-hold111 = refl
-
-pub hold112 : RunHolds run112
-unfolding open-runs run112
-hold112 = refl
-
-pub hold113 : RunHolds run113
-unfolding open-runs run113
-hold113 = refl
-
-pub hold114 : RunHolds run114
-unfolding open-runs run114
-hold114 = refl
-
-pub hold115 : RunHolds run115
-unfolding open-runs run115
-hold115 = refl
-
-pub hold116 : RunHolds run116
-unfolding open-runs run116
-hold116 = refl
-
-pub hold117 : RunHolds run117
-unfolding open-runs run117
-hold117 = refl
-
-pub hold118 : RunHolds run118
-unfolding open-runs run118
-hold118 = refl
-
-pub hold119 : RunHolds run119
-unfolding open-runs run119
-hold119 = refl
-
-pub hold120 : RunHolds run120
-unfolding open-runs run120
-hold120 = refl
-
-pub hold121 : RunHolds run121
-unfolding open-runs run121
-hold121 = refl
-
-pub hold122 : RunHolds run122
-unfolding open-runs run122
-hold122 = refl
-
-pub hold123 : RunHolds run123
-unfolding open-runs run123
-hold123 = refl
-
-pub hold124 : RunHolds run124
-unfolding open-runs run124
-hold124 = refl
-
-pub hold125 : RunHolds run125
-unfolding open-runs run125
-hold125 = refl
-
-pub hold126 : RunHolds run126
-unfolding open-runs run126
-hold126 = refl
-
-pub hold127 : RunHolds run127
-unfolding open-runs run127
-hold127 = refl
-
-pub hold128 : RunHolds run128
-unfolding open-runs run128
-hold128 = refl
-
-pub hold129 : RunHolds run129
-unfolding open-runs run129
-hold129 = refl
-
-pub hold130 : RunHolds run130
-unfolding open-runs run130
-hold130 = refl
-
-pub hold131 : RunHolds run131
-unfolding open-runs run131
-hold131 = refl
-
-pub hold132 : RunHolds run132
-unfolding open-runs run132
-hold132 = refl
-
-pub hold133 : RunHolds run133
-unfolding open-runs run133
-hold133 = refl
-
-pub hold134 : RunHolds run134
-unfolding open-runs run134
-hold134 = refl
-
-pub hold135 : RunHolds run135
-unfolding open-runs run135
-hold135 = refl
-
-pub hold136 : RunHolds run136
-unfolding open-runs run136
-hold136 = refl
-
-pub hold137 : RunHolds run137
-unfolding open-runs run137
-hold137 = refl
-
-pub hold138 : RunHolds run138
-unfolding open-runs run138
-hold138 = refl
-
-pub hold139 : RunHolds run139
-unfolding open-runs run139
-hold139 = refl
-
-pub hold140 : RunHolds run140
-unfolding open-runs run140
-hold140 = refl
-
-pub hold141 : RunHolds run141
-unfolding open-runs run141
-hold141 = refl
-
-pub hold142 : RunHolds run142
-unfolding open-runs run142
-hold142 = refl
-
-pub hold143 : RunHolds run143
-unfolding open-runs run143
-hold143 = refl
-
-pub hold144 : RunHolds run144
-unfolding open-runs run144
-hold144 = refl
-
-pub hold145 : RunHolds run145
-unfolding open-runs run145
-hold145 = refl
-
-pub hold146 : RunHolds run146
-unfolding open-runs run146
-hold146 = refl
-
-pub hold147 : RunHolds run147
-unfolding open-runs run147
-hold147 = refl
-
-pub hold148 : RunHolds run148
-unfolding open-runs run148
-hold148 = refl
-
-pub hold149 : RunHolds run149
-unfolding open-runs run149
-hold149 = refl
-
-pub hold150 : RunHolds run150
-unfolding open-runs run150
-hold150 = refl
-
-pub hold151 : RunHolds run151
-unfolding open-runs run151
-hold151 = refl
-
-pub hold152 : RunHolds run152
-unfolding open-runs run152
-hold152 = refl
-
-pub hold153 : RunHolds run153
-unfolding open-runs run153
-hold153 = refl
-
-pub hold154 : RunHolds run154
-unfolding open-runs run154
-hold154 = refl
-
-pub hold155 : RunHolds run155
-unfolding open-runs run155
-hold155 = refl
-
-pub hold156 : RunHolds run156
-unfolding open-runs run156
-hold156 = refl
-
-pub hold157 : RunHolds run157
-unfolding open-runs run157
-hold157 = refl
-
-pub hold158 : RunHolds run158
-unfolding open-runs run158
-hold158 = refl
-
-pub hold159 : RunHolds run159
-unfolding open-runs run159
-hold159 = refl
-
-pub hold160 : RunHolds run160
-unfolding open-runs run160
-hold160 = refl
-
-pub hold161 : RunHolds run161
-unfolding open-runs run161
-hold161 = refl
-
-pub hold162 : RunHolds run162
-unfolding open-runs run162
-hold162 = refl
-
-pub hold163 : RunHolds run163
-unfolding open-runs run163
-hold163 = refl
-
-pub hold164 : RunHolds run164
-unfolding open-runs run164
-hold164 = refl
-
-pub hold165 : RunHolds run165
-unfolding open-runs run165
-hold165 = refl
-
-pub hold166 : RunHolds run166
-unfolding open-runs run166
-hold166 = refl
-
-pub hold167 : RunHolds run167
-unfolding open-runs run167
-hold167 = refl
-
-pub hold168 : RunHolds run168
-unfolding open-runs run168
-hold168 = refl
-
-pub hold169 : RunHolds run169
-unfolding open-runs run169
-hold169 = refl
-
-pub hold170 : RunHolds run170
-unfolding open-runs run170
-hold170 = refl
-
-pub hold171 : RunHolds run171
-unfolding open-runs run171
-hold171 = refl
-
-pub hold172 : RunHolds run172
-unfolding open-runs run172
-hold172 = refl
-
-pub hold173 : RunHolds run173
-unfolding open-runs run173
-hold173 = refl
-
-pub hold174 : RunHolds run174
-unfolding open-runs run174
-hold174 = refl
-
-pub hold175 : RunHolds run175
-unfolding open-runs run175
-hold175 = refl
-
-pub hold176 : RunHolds run176
-unfolding open-runs run176
-hold176 = refl
-
-pub hold177 : RunHolds run177
-unfolding open-runs run177
-hold177 = refl
-
-pub hold178 : RunHolds run178
-unfolding open-runs run178
-hold178 = refl
-
-pub hold179 : RunHolds run179
-unfolding open-runs run179
-hold179 = refl
-
-pub hold180 : RunHolds run180
-unfolding open-runs run180
-hold180 = refl
-
-pub hold181 : RunHolds run181
-unfolding open-runs run181
-hold181 = refl
-
-pub hold182 : RunHolds run182
-unfolding open-runs run182
-hold182 = refl
-
-pub hold183 : RunHolds run183
-unfolding open-runs run183
-hold183 = refl
-
-pub hold184 : RunHolds run184
-unfolding open-runs run184
-hold184 = refl
-
-pub hold185 : RunHolds run185
-unfolding open-runs run185
-hold185 = refl
-
-pub hold186 : RunHolds run186
-unfolding open-runs run186
-hold186 = refl
-
-pub hold187 : RunHolds run187
-unfolding open-runs run187
-hold187 = refl
-
-pub hold188 : RunHolds run188
-unfolding open-runs run188
-hold188 = refl
-
-pub hold189 : RunHolds run189
-unfolding open-runs run189
-hold189 = refl
-
-pub hold190 : RunHolds run190
-unfolding open-runs run190
-hold190 = refl
-
-pub hold191 : RunHolds run191
-unfolding open-runs run191
-hold191 = refl
-
-pub hold192 : RunHolds run192
-unfolding open-runs run192
-hold192 = refl
-
-pub hold193 : RunHolds run193
-unfolding open-runs run193
-hold193 = refl
-
-pub hold194 : RunHolds run194
-unfolding open-runs run194
-hold194 = refl
-
-pub hold195 : RunHolds run195
-unfolding open-runs run195
-hold195 = refl
-
-pub hold196 : RunHolds run196
-unfolding open-runs run196
-hold196 = refl
-
-pub hold197 : RunHolds run197
-unfolding open-runs run197
-hold197 = refl
-
-pub hold198 : RunHolds run198
-unfolding open-runs run198
-hold198 = refl
-
-pub hold199 : RunHolds run199
-unfolding open-runs run199
-hold199 = refl
-
-pub hold200 : RunHolds run200
-unfolding open-runs run200
-hold200 = refl
-
-pub hold201 : RunHolds run201
-unfolding open-runs run201
-hold201 = refl
-
-pub hold202 : RunHolds run202
-unfolding open-runs run202
-hold202 = refl
-
-pub hold203 : RunHolds run203
-unfolding open-runs run203
-hold203 = refl
-
-pub hold204 : RunHolds run204
-unfolding open-runs run204
-hold204 = refl
-
-pub hold205 : RunHolds run205
-unfolding open-runs run205
-hold205 = refl
-
-pub hold206 : RunHolds run206
-unfolding open-runs run206
-hold206 = refl
-
-pub hold207 : RunHolds run207
-unfolding open-runs run207
-hold207 = refl
-
-pub hold208 : RunHolds run208
-unfolding open-runs run208
-hold208 = refl
-
-pub hold209 : RunHolds run209
-unfolding open-runs run209
-hold209 = refl
+use Rattle.recorded.specs.Runs1.{run210, run211, run212, run213, run214, run215, run216, run217, run218, run219, run220, run221, run222, run223, run224, run225, run226, run227, run228, run229, run230, run231, run232, run233, run234, run235, run236, run237, run238, run239, run240, run241, run242, run243, run244, run245, run246, run247, run248, run249, run250, run251, run252, run253, run254, run255, run256, run257, run258, run259, run260, run261, run262, run263, run264, run265, run266, run267, run268, run269, run270, run271, run272, run273, run274, run275, run276, run277, run278, run279, run280, run281, run282, run283, run284, run285, run286, run287, run288, run289, run290, run291, run292, run293, run294, run295, run296, run297, run298, run299, run300, run301, run302, run303, run304, run305, run306, run307, run308, run309, run310, run311, run312, run313, run314, run315, run316, run317, run318, run319, run320, run321, run322, run323, run324, run325, run326, run327, run328, run329, run330, run331, run332, run333, run334, run335, run336, run337, run338, run339, run340, run341, run342, run343, run344, run345, run346, run347, run348, run349, run350, run351, run352, run353, run354, run355, run356, run357, run358, run359, run360, run361, run362, run363}
 
 pub hold210 : RunHolds run210
 unfolding open-runs run210
@@ -747,3 +207,415 @@ hold259 = refl
 pub hold260 : RunHolds run260
 unfolding open-runs run260
 hold260 = refl
+
+pub hold261 : RunHolds run261
+unfolding open-runs run261
+hold261 = refl
+
+pub hold262 : RunHolds run262
+unfolding open-runs run262
+hold262 = refl
+
+pub hold263 : RunHolds run263
+unfolding open-runs run263
+hold263 = refl
+
+pub hold264 : RunHolds run264
+unfolding open-runs run264
+hold264 = refl
+
+pub hold265 : RunHolds run265
+unfolding open-runs run265
+hold265 = refl
+
+pub hold266 : RunHolds run266
+unfolding open-runs run266
+hold266 = refl
+
+pub hold267 : RunHolds run267
+unfolding open-runs run267
+hold267 = refl
+
+pub hold268 : RunHolds run268
+unfolding open-runs run268
+hold268 = refl
+
+pub hold269 : RunHolds run269
+unfolding open-runs run269
+hold269 = refl
+
+pub hold270 : RunHolds run270
+unfolding open-runs run270
+hold270 = refl
+
+pub hold271 : RunHolds run271
+unfolding open-runs run271
+hold271 = refl
+
+pub hold272 : RunHolds run272
+unfolding open-runs run272
+hold272 = refl
+
+pub hold273 : RunHolds run273
+unfolding open-runs run273
+hold273 = refl
+
+pub hold274 : RunHolds run274
+unfolding open-runs run274
+hold274 = refl
+
+pub hold275 : RunHolds run275
+unfolding open-runs run275
+hold275 = refl
+
+pub hold276 : RunHolds run276
+unfolding open-runs run276
+hold276 = refl
+
+pub hold277 : RunHolds run277
+unfolding open-runs run277
+hold277 = refl
+
+pub hold278 : RunHolds run278
+unfolding open-runs run278
+hold278 = refl
+
+pub hold279 : RunHolds run279
+unfolding open-runs run279
+hold279 = refl
+
+pub hold280 : RunHolds run280
+unfolding open-runs run280
+hold280 = refl
+
+pub hold281 : RunHolds run281
+unfolding open-runs run281
+hold281 = refl
+
+pub hold282 : RunHolds run282
+unfolding open-runs run282
+hold282 = refl
+
+pub hold283 : RunHolds run283
+unfolding open-runs run283
+hold283 = refl
+
+pub hold284 : RunHolds run284
+unfolding open-runs run284
+hold284 = refl
+
+pub hold285 : RunHolds run285
+unfolding open-runs run285
+hold285 = refl
+
+pub hold286 : RunHolds run286
+unfolding open-runs run286
+hold286 = refl
+
+pub hold287 : RunHolds run287
+unfolding open-runs run287
+hold287 = refl
+
+pub hold288 : RunHolds run288
+unfolding open-runs run288
+hold288 = refl
+
+pub hold289 : RunHolds run289
+unfolding open-runs run289
+hold289 = refl
+
+pub hold290 : RunHolds run290
+unfolding open-runs run290
+hold290 = refl
+
+pub hold291 : RunHolds run291
+unfolding open-runs run291
+hold291 = refl
+
+pub hold292 : RunHolds run292
+unfolding open-runs run292
+hold292 = refl
+
+pub hold293 : RunHolds run293
+unfolding open-runs run293
+hold293 = refl
+
+pub hold294 : RunHolds run294
+unfolding open-runs run294
+hold294 = refl
+
+pub hold295 : RunHolds run295
+unfolding open-runs run295
+hold295 = refl
+
+pub hold296 : RunHolds run296
+unfolding open-runs run296
+hold296 = refl
+
+pub hold297 : RunHolds run297
+unfolding open-runs run297
+hold297 = refl
+
+pub hold298 : RunHolds run298
+unfolding open-runs run298
+hold298 = refl
+
+pub hold299 : RunHolds run299
+unfolding open-runs run299
+hold299 = refl
+
+pub hold300 : RunHolds run300
+unfolding open-runs run300
+hold300 = refl
+
+pub hold301 : RunHolds run301
+unfolding open-runs run301
+hold301 = refl
+
+pub hold302 : RunHolds run302
+unfolding open-runs run302
+hold302 = refl
+
+pub hold303 : RunHolds run303
+unfolding open-runs run303
+hold303 = refl
+
+pub hold304 : RunHolds run304
+unfolding open-runs run304
+hold304 = refl
+
+pub hold305 : RunHolds run305
+unfolding open-runs run305
+hold305 = refl
+
+pub hold306 : RunHolds run306
+unfolding open-runs run306
+hold306 = refl
+
+pub hold307 : RunHolds run307
+unfolding open-runs run307
+hold307 = refl
+
+pub hold308 : RunHolds run308
+unfolding open-runs run308
+hold308 = refl
+
+pub hold309 : RunHolds run309
+unfolding open-runs run309
+hold309 = refl
+
+pub hold310 : RunHolds run310
+unfolding open-runs run310
+hold310 = refl
+
+pub hold311 : RunHolds run311
+unfolding open-runs run311
+hold311 = refl
+
+pub hold312 : RunHolds run312
+unfolding open-runs run312
+hold312 = refl
+
+pub hold313 : RunHolds run313
+unfolding open-runs run313
+hold313 = refl
+
+pub hold314 : RunHolds run314
+unfolding open-runs run314
+hold314 = refl
+
+pub hold315 : RunHolds run315
+unfolding open-runs run315
+hold315 = refl
+
+pub hold316 : RunHolds run316
+unfolding open-runs run316
+hold316 = refl
+
+pub hold317 : RunHolds run317
+unfolding open-runs run317
+hold317 = refl
+
+pub hold318 : RunHolds run318
+unfolding open-runs run318
+hold318 = refl
+
+pub hold319 : RunHolds run319
+unfolding open-runs run319
+hold319 = refl
+
+pub hold320 : RunHolds run320
+unfolding open-runs run320
+hold320 = refl
+
+pub hold321 : RunHolds run321
+unfolding open-runs run321
+hold321 = refl
+
+pub hold322 : RunHolds run322
+unfolding open-runs run322
+hold322 = refl
+
+pub hold323 : RunHolds run323
+unfolding open-runs run323
+hold323 = refl
+
+pub hold324 : RunHolds run324
+unfolding open-runs run324
+hold324 = refl
+
+pub hold325 : RunHolds run325
+unfolding open-runs run325
+hold325 = refl
+
+pub hold326 : RunHolds run326
+unfolding open-runs run326
+hold326 = refl
+
+pub hold327 : RunHolds run327
+unfolding open-runs run327
+hold327 = refl
+
+pub hold328 : RunHolds run328
+unfolding open-runs run328
+hold328 = refl
+
+pub hold329 : RunHolds run329
+unfolding open-runs run329
+hold329 = refl
+
+pub hold330 : RunHolds run330
+unfolding open-runs run330
+hold330 = refl
+
+pub hold331 : RunHolds run331
+unfolding open-runs run331
+hold331 = refl
+
+pub hold332 : RunHolds run332
+unfolding open-runs run332
+hold332 = refl
+
+pub hold333 : RunHolds run333
+unfolding open-runs run333
+hold333 = refl
+
+pub hold334 : RunHolds run334
+unfolding open-runs run334
+hold334 = refl
+
+pub hold335 : RunHolds run335
+unfolding open-runs run335
+hold335 = refl
+
+pub hold336 : RunHolds run336
+unfolding open-runs run336
+hold336 = refl
+
+pub hold337 : RunHolds run337
+unfolding open-runs run337
+hold337 = refl
+
+pub hold338 : RunHolds run338
+unfolding open-runs run338
+hold338 = refl
+
+pub hold339 : RunHolds run339
+unfolding open-runs run339
+hold339 = refl
+
+pub hold340 : RunHolds run340
+unfolding open-runs run340
+hold340 = refl
+
+pub hold341 : RunHolds run341
+unfolding open-runs run341
+hold341 = refl
+
+pub hold342 : RunHolds run342
+unfolding open-runs run342
+hold342 = refl
+
+pub hold343 : RunHolds run343
+unfolding open-runs run343
+hold343 = refl
+
+pub hold344 : RunHolds run344
+unfolding open-runs run344
+hold344 = refl
+
+pub hold345 : RunHolds run345
+unfolding open-runs run345
+hold345 = refl
+
+pub hold346 : RunHolds run346
+unfolding open-runs run346
+hold346 = refl
+
+pub hold347 : RunHolds run347
+unfolding open-runs run347
+hold347 = refl
+
+pub hold348 : RunHolds run348
+unfolding open-runs run348
+hold348 = refl
+
+pub hold349 : RunHolds run349
+unfolding open-runs run349
+hold349 = refl
+
+pub hold350 : RunHolds run350
+unfolding open-runs run350
+hold350 = refl
+
+pub hold351 : RunHolds run351
+unfolding open-runs run351
+hold351 = refl
+
+pub hold352 : RunHolds run352
+unfolding open-runs run352
+hold352 = refl
+
+pub hold353 : RunHolds run353
+unfolding open-runs run353
+hold353 = refl
+
+pub hold354 : RunHolds run354
+unfolding open-runs run354
+hold354 = refl
+
+pub hold355 : RunHolds run355
+unfolding open-runs run355
+hold355 = refl
+
+pub hold356 : RunHolds run356
+unfolding open-runs run356
+hold356 = refl
+
+pub hold357 : RunHolds run357
+unfolding open-runs run357
+hold357 = refl
+
+pub hold358 : RunHolds run358
+unfolding open-runs run358
+hold358 = refl
+
+pub hold359 : RunHolds run359
+unfolding open-runs run359
+hold359 = refl
+
+pub hold360 : RunHolds run360
+unfolding open-runs run360
+hold360 = refl
+
+pub hold361 : RunHolds run361
+unfolding open-runs run361
+hold361 = refl
+
+pub hold362 : RunHolds run362
+unfolding open-runs run362
+hold362 = refl
+
+pub hold363 : RunHolds run363
+unfolding open-runs run363
+hold363 = refl

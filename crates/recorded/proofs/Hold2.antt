@@ -2,419 +2,7 @@
 use mathlib.Core.Path.{refl}
 use Rattle.against_rust.specs.Shape.{RunHolds}
 use Rattle.against_rust.proofs.OpenRuns.{open-runs}
-use Rattle.recorded.specs.Runs2.{run261, run262, run263, run264, run265, run266, run267, run268, run269, run270, run271, run272, run273, run274, run275, run276, run277, run278, run279, run280, run281, run282, run283, run284, run285, run286, run287, run288, run289, run290, run291, run292, run293, run294, run295, run296, run297, run298, run299, run300, run301, run302, run303, run304, run305, run306, run307, run308, run309, run310, run311, run312, run313, run314, run315, run316, run317, run318, run319, run320, run321, run322, run323, run324, run325, run326, run327, run328, run329, run330, run331, run332, run333, run334, run335, run336, run337, run338, run339, run340, run341, run342, run343, run344, run345, run346, run347, run348, run349, run350, run351, run352, run353, run354, run355, run356, run357, run358, run359, run360, run361, run362, run363, run364, run365, run366, run367, run368, run369, run370, run371, run372, run373, run374, run375, run376, run377, run378, run379, run380, run381, run382, run383, run384, run385, run386, run387, run388, run389, run390, run391, run392, run393, run394, run395, run396, run397, run398, run399, run400, run401, run402, run403, run404, run405, run406, run407, run408}
-
-pub hold261 : RunHolds run261
-unfolding open-runs run261
-hold261 = refl
-
-pub hold262 : RunHolds run262
-unfolding open-runs run262
-hold262 = refl
-
-pub hold263 : RunHolds run263
-unfolding open-runs run263
-hold263 = refl
-
-pub hold264 : RunHolds run264
-unfolding open-runs run264
-hold264 = refl
-
-pub hold265 : RunHolds run265
-unfolding open-runs run265
-hold265 = refl
-
-pub hold266 : RunHolds run266
-unfolding open-runs run266
-hold266 = refl
-
-pub hold267 : RunHolds run267
-unfolding open-runs run267
-hold267 = refl
-
-pub hold268 : RunHolds run268
-unfolding open-runs run268
-hold268 = refl
-
-pub hold269 : RunHolds run269
-unfolding open-runs run269
-hold269 = refl
-
-pub hold270 : RunHolds run270
-unfolding open-runs run270
-hold270 = refl
-
-pub hold271 : RunHolds run271
-unfolding open-runs run271
-hold271 = refl
-
-pub hold272 : RunHolds run272
-unfolding open-runs run272
-hold272 = refl
-
-pub hold273 : RunHolds run273
-unfolding open-runs run273
-hold273 = refl
-
-pub hold274 : RunHolds run274
-unfolding open-runs run274
-hold274 = refl
-
-pub hold275 : RunHolds run275
-unfolding open-runs run275
-hold275 = refl
-
-pub hold276 : RunHolds run276
-unfolding open-runs run276
-hold276 = refl
-
-pub hold277 : RunHolds run277
-unfolding open-runs run277
-hold277 = refl
-
-pub hold278 : RunHolds run278
-unfolding open-runs run278
-hold278 = refl
-
-pub hold279 : RunHolds run279
-unfolding open-runs run279
-hold279 = refl
-
-pub hold280 : RunHolds run280
-unfolding open-runs run280
-hold280 = refl
-
-pub hold281 : RunHolds run281
-unfolding open-runs run281
-hold281 = refl
-
-pub hold282 : RunHolds run282
-unfolding open-runs run282
-hold282 = refl
-
-pub hold283 : RunHolds run283
-unfolding open-runs run283
-hold283 = refl
-
-pub hold284 : RunHolds run284
-unfolding open-runs run284
-hold284 = refl
-
-pub hold285 : RunHolds run285
-unfolding open-runs run285
-hold285 = refl
-
-pub hold286 : RunHolds run286
-unfolding open-runs run286
-hold286 = refl
-
-pub hold287 : RunHolds run287
-unfolding open-runs run287
-hold287 = refl
-
-pub hold288 : RunHolds run288
-unfolding open-runs run288
-hold288 = refl
-
-pub hold289 : RunHolds run289
-unfolding open-runs run289
-hold289 = refl
-
-pub hold290 : RunHolds run290
-unfolding open-runs run290
-hold290 = refl
-
-pub hold291 : RunHolds run291
-unfolding open-runs run291
-hold291 = refl
-
-pub hold292 : RunHolds run292
-unfolding open-runs run292
-hold292 = refl
-
-pub hold293 : RunHolds run293
-unfolding open-runs run293
-hold293 = refl
-
-pub hold294 : RunHolds run294
-unfolding open-runs run294
-hold294 = refl
-
-pub hold295 : RunHolds run295
-unfolding open-runs run295
-hold295 = refl
-
-pub hold296 : RunHolds run296
-unfolding open-runs run296
-hold296 = refl
-
-pub hold297 : RunHolds run297
-unfolding open-runs run297
-hold297 = refl
-
-pub hold298 : RunHolds run298
-unfolding open-runs run298
-hold298 = refl
-
-pub hold299 : RunHolds run299
-unfolding open-runs run299
-hold299 = refl
-
-pub hold300 : RunHolds run300
-unfolding open-runs run300
-hold300 = refl
-
-pub hold301 : RunHolds run301
-unfolding open-runs run301
-hold301 = refl
-
-pub hold302 : RunHolds run302
-unfolding open-runs run302
-hold302 = refl
-
-pub hold303 : RunHolds run303
-unfolding open-runs run303
-hold303 = refl
-
-pub hold304 : RunHolds run304
-unfolding open-runs run304
-hold304 = refl
-
-pub hold305 : RunHolds run305
-unfolding open-runs run305
-hold305 = refl
-
-pub hold306 : RunHolds run306
-unfolding open-runs run306
-hold306 = refl
-
-pub hold307 : RunHolds run307
-unfolding open-runs run307
-hold307 = refl
-
-pub hold308 : RunHolds run308
-unfolding open-runs run308
-hold308 = refl
-
-pub hold309 : RunHolds run309
-unfolding open-runs run309
-hold309 = refl
-
-pub hold310 : RunHolds run310
-unfolding open-runs run310
-hold310 = refl
-
-pub hold311 : RunHolds run311
-unfolding open-runs run311
-hold311 = refl
-
-pub hold312 : RunHolds run312
-unfolding open-runs run312
-hold312 = refl
-
-pub hold313 : RunHolds run313
-unfolding open-runs run313
-hold313 = refl
-
-pub hold314 : RunHolds run314
-unfolding open-runs run314
-hold314 = refl
-
-pub hold315 : RunHolds run315
-unfolding open-runs run315
-hold315 = refl
-
-pub hold316 : RunHolds run316
-unfolding open-runs run316
-hold316 = refl
-
-pub hold317 : RunHolds run317
-unfolding open-runs run317
-hold317 = refl
-
-pub hold318 : RunHolds run318
-unfolding open-runs run318
-hold318 = refl
-
-pub hold319 : RunHolds run319
-unfolding open-runs run319
-hold319 = refl
-
-pub hold320 : RunHolds run320
-unfolding open-runs run320
-hold320 = refl
-
-pub hold321 : RunHolds run321
-unfolding open-runs run321
-hold321 = refl
-
-pub hold322 : RunHolds run322
-unfolding open-runs run322
-hold322 = refl
-
-pub hold323 : RunHolds run323
-unfolding open-runs run323
-hold323 = refl
-
-pub hold324 : RunHolds run324
-unfolding open-runs run324
-hold324 = refl
-
-pub hold325 : RunHolds run325
-unfolding open-runs run325
-hold325 = refl
-
-pub hold326 : RunHolds run326
-unfolding open-runs run326
-hold326 = refl
-
-pub hold327 : RunHolds run327
-unfolding open-runs run327
-hold327 = refl
-
-pub hold328 : RunHolds run328
-unfolding open-runs run328
-hold328 = refl
-
-pub hold329 : RunHolds run329
-unfolding open-runs run329
-hold329 = refl
-
-pub hold330 : RunHolds run330
-unfolding open-runs run330
-hold330 = refl
-
-pub hold331 : RunHolds run331
-unfolding open-runs run331
-hold331 = refl
-
-pub hold332 : RunHolds run332
-unfolding open-runs run332
-hold332 = refl
-
-pub hold333 : RunHolds run333
-unfolding open-runs run333
-hold333 = refl
-
-pub hold334 : RunHolds run334
-unfolding open-runs run334
-hold334 = refl
-
-pub hold335 : RunHolds run335
-unfolding open-runs run335
-hold335 = refl
-
-pub hold336 : RunHolds run336
-unfolding open-runs run336
-hold336 = refl
-
-pub hold337 : RunHolds run337
-unfolding open-runs run337
-hold337 = refl
-
-pub hold338 : RunHolds run338
-unfolding open-runs run338
-hold338 = refl
-
-pub hold339 : RunHolds run339
-unfolding open-runs run339
-hold339 = refl
-
-pub hold340 : RunHolds run340
-unfolding open-runs run340
-hold340 = refl
-
-pub hold341 : RunHolds run341
-unfolding open-runs run341
-hold341 = refl
-
-pub hold342 : RunHolds run342
-unfolding open-runs run342
-hold342 = refl
-
-pub hold343 : RunHolds run343
-unfolding open-runs run343
-hold343 = refl
-
-pub hold344 : RunHolds run344
-unfolding open-runs run344
-hold344 = refl
-
-pub hold345 : RunHolds run345
-unfolding open-runs run345
-hold345 = refl
-
-pub hold346 : RunHolds run346
-unfolding open-runs run346
-hold346 = refl
-
-pub hold347 : RunHolds run347
-unfolding open-runs run347
-hold347 = refl
-
-pub hold348 : RunHolds run348
-unfolding open-runs run348
-hold348 = refl
-
-pub hold349 : RunHolds run349
-unfolding open-runs run349
-hold349 = refl
-
-pub hold350 : RunHolds run350
-unfolding open-runs run350
-hold350 = refl
-
-pub hold351 : RunHolds run351
-unfolding open-runs run351
-hold351 = refl
-
-pub hold352 : RunHolds run352
-unfolding open-runs run352
-hold352 = refl
-
-pub hold353 : RunHolds run353
-unfolding open-runs run353
-hold353 = refl
-
-pub hold354 : RunHolds run354
-unfolding open-runs run354
-hold354 = refl
-
-pub hold355 : RunHolds run355
-unfolding open-runs run355
-hold355 = refl
-
-pub hold356 : RunHolds run356
-unfolding open-runs run356
-hold356 = refl
-
-pub hold357 : RunHolds run357
-unfolding open-runs run357
-hold357 = refl
-
-pub hold358 : RunHolds run358
-unfolding open-runs run358
-hold358 = refl
-
-pub hold359 : RunHolds run359
-unfolding open-runs run359
-hold359 = refl
-
-pub hold360 : RunHolds run360
-unfolding open-runs run360
-hold360 = refl
-
-pub hold361 : RunHolds run361
-unfolding open-runs run361
-hold361 = refl
-
-pub hold362 : RunHolds run362
-unfolding open-runs run362
-hold362 = refl
-
-pub hold363 : RunHolds run363
-unfolding open-runs run363
-hold363 = refl
+use Rattle.recorded.specs.Runs2.{run364, run365, run366, run367, run368, run369, run370, run371, run372, run373, run374, run375, run376, run377, run378, run379, run380, run381, run382, run383, run384, run385, run386, run387, run388, run389, run390, run391, run392, run393, run394, run395, run396, run397, run398, run399, run400, run401, run402, run403, run404, run405, run406, run407, run408, run409, run410, run411, run412, run413, run414, run415, run416, run417, run418, run419, run420, run421, run422, run423, run424, run425, run426, run427, run428, run429, run430, run431, run432, run433, run434, run435, run436, run437, run438, run439, run440, run441, run442, run443, run444, run445, run446, run447, run448, run449, run450, run451, run452, run453, run454, run455, run456, run457, run458, run459, run460, run461, run462, run463, run464, run465, run466, run467, run468, run469, run470, run471, run472, run473, run474, run475, run476, run477, run478, run479, run480, run481, run482, run483, run484, run485, run486, run487, run488, run489, run490, run491, run492, run493, run494, run495, run496, run497, run498, run499, run500, run501, run502, run503, run504, run505, run506, run507, run508, run509, run510, run511, run512, run513, run514, run515, run516, run517, run518, run519, run520, run521, run522, run523, run524, run525, run526, run527, run528, run529, run530, run531, run532, run533, run534, run535, run536, run537, run538, run539, run540, run541, run542, run543, run544, run545, run546, run547, run548, run549, run550, run551, run552, run553, run554, run555, run556, run557, run558, run559, run560, run561, run562, run563, run564, run565, run566, run567}
 
 pub hold364 : RunHolds run364
 unfolding open-runs run364
@@ -595,3 +183,639 @@ hold407 = refl
 pub hold408 : RunHolds run408
 unfolding open-runs run408
 hold408 = refl
+
+pub hold409 : RunHolds run409
+unfolding open-runs run409
+hold409 = refl
+
+pub hold410 : RunHolds run410
+unfolding open-runs run410
+hold410 = refl
+
+pub hold411 : RunHolds run411
+unfolding open-runs run411
+hold411 = refl
+
+pub hold412 : RunHolds run412
+unfolding open-runs run412
+hold412 = refl
+
+pub hold413 : RunHolds run413
+unfolding open-runs run413
+hold413 = refl
+
+pub hold414 : RunHolds run414
+unfolding open-runs run414
+hold414 = refl
+
+pub hold415 : RunHolds run415
+unfolding open-runs run415
+hold415 = refl
+
+pub hold416 : RunHolds run416
+unfolding open-runs run416
+hold416 = refl
+
+pub hold417 : RunHolds run417
+unfolding open-runs run417
+hold417 = refl
+
+pub hold418 : RunHolds run418
+unfolding open-runs run418
+hold418 = refl
+
+pub hold419 : RunHolds run419
+unfolding open-runs run419
+hold419 = refl
+
+pub hold420 : RunHolds run420
+unfolding open-runs run420
+hold420 = refl
+
+pub hold421 : RunHolds run421
+unfolding open-runs run421
+hold421 = refl
+
+pub hold422 : RunHolds run422
+unfolding open-runs run422
+hold422 = refl
+
+pub hold423 : RunHolds run423
+unfolding open-runs run423
+hold423 = refl
+
+pub hold424 : RunHolds run424
+unfolding open-runs run424
+hold424 = refl
+
+pub hold425 : RunHolds run425
+unfolding open-runs run425
+hold425 = refl
+
+pub hold426 : RunHolds run426
+unfolding open-runs run426
+hold426 = refl
+
+pub hold427 : RunHolds run427
+unfolding open-runs run427
+hold427 = refl
+
+pub hold428 : RunHolds run428
+unfolding open-runs run428
+hold428 = refl
+
+pub hold429 : RunHolds run429
+unfolding open-runs run429
+hold429 = refl
+
+pub hold430 : RunHolds run430
+unfolding open-runs run430
+hold430 = refl
+
+pub hold431 : RunHolds run431
+unfolding open-runs run431
+hold431 = refl
+
+pub hold432 : RunHolds run432
+unfolding open-runs run432
+hold432 = refl
+
+pub hold433 : RunHolds run433
+unfolding open-runs run433
+hold433 = refl
+
+pub hold434 : RunHolds run434
+unfolding open-runs run434
+hold434 = refl
+
+pub hold435 : RunHolds run435
+unfolding open-runs run435
+hold435 = refl
+
+pub hold436 : RunHolds run436
+unfolding open-runs run436
+hold436 = refl
+
+pub hold437 : RunHolds run437
+unfolding open-runs run437
+hold437 = refl
+
+pub hold438 : RunHolds run438
+unfolding open-runs run438
+hold438 = refl
+
+pub hold439 : RunHolds run439
+unfolding open-runs run439
+hold439 = refl
+
+pub hold440 : RunHolds run440
+unfolding open-runs run440
+hold440 = refl
+
+pub hold441 : RunHolds run441
+unfolding open-runs run441
+hold441 = refl
+
+pub hold442 : RunHolds run442
+unfolding open-runs run442
+hold442 = refl
+
+pub hold443 : RunHolds run443
+unfolding open-runs run443
+hold443 = refl
+
+pub hold444 : RunHolds run444
+unfolding open-runs run444
+hold444 = refl
+
+pub hold445 : RunHolds run445
+unfolding open-runs run445
+hold445 = refl
+
+pub hold446 : RunHolds run446
+unfolding open-runs run446
+hold446 = refl
+
+pub hold447 : RunHolds run447
+unfolding open-runs run447
+hold447 = refl
+
+pub hold448 : RunHolds run448
+unfolding open-runs run448
+hold448 = refl
+
+pub hold449 : RunHolds run449
+unfolding open-runs run449
+hold449 = refl
+
+pub hold450 : RunHolds run450
+unfolding open-runs run450
+hold450 = refl
+
+pub hold451 : RunHolds run451
+unfolding open-runs run451
+hold451 = refl
+
+pub hold452 : RunHolds run452
+unfolding open-runs run452
+hold452 = refl
+
+pub hold453 : RunHolds run453
+unfolding open-runs run453
+hold453 = refl
+
+pub hold454 : RunHolds run454
+unfolding open-runs run454
+hold454 = refl
+
+pub hold455 : RunHolds run455
+unfolding open-runs run455
+hold455 = refl
+
+pub hold456 : RunHolds run456
+unfolding open-runs run456
+hold456 = refl
+
+pub hold457 : RunHolds run457
+unfolding open-runs run457
+hold457 = refl
+
+pub hold458 : RunHolds run458
+unfolding open-runs run458
+hold458 = refl
+
+pub hold459 : RunHolds run459
+unfolding open-runs run459
+hold459 = refl
+
+pub hold460 : RunHolds run460
+unfolding open-runs run460
+hold460 = refl
+
+pub hold461 : RunHolds run461
+unfolding open-runs run461
+hold461 = refl
+
+pub hold462 : RunHolds run462
+unfolding open-runs run462
+hold462 = refl
+
+pub hold463 : RunHolds run463
+unfolding open-runs run463
+hold463 = refl
+
+pub hold464 : RunHolds run464
+unfolding open-runs run464
+hold464 = refl
+
+pub hold465 : RunHolds run465
+unfolding open-runs run465
+hold465 = refl
+
+pub hold466 : RunHolds run466
+unfolding open-runs run466
+hold466 = refl
+
+pub hold467 : RunHolds run467
+unfolding open-runs run467
+hold467 = refl
+
+pub hold468 : RunHolds run468
+unfolding open-runs run468
+hold468 = refl
+
+pub hold469 : RunHolds run469
+unfolding open-runs run469
+hold469 = refl
+
+pub hold470 : RunHolds run470
+unfolding open-runs run470
+hold470 = refl
+
+pub hold471 : RunHolds run471
+unfolding open-runs run471
+hold471 = refl
+
+pub hold472 : RunHolds run472
+unfolding open-runs run472
+hold472 = refl
+
+pub hold473 : RunHolds run473
+unfolding open-runs run473
+hold473 = refl
+
+pub hold474 : RunHolds run474
+unfolding open-runs run474
+hold474 = refl
+
+pub hold475 : RunHolds run475
+unfolding open-runs run475
+hold475 = refl
+
+pub hold476 : RunHolds run476
+unfolding open-runs run476
+hold476 = refl
+
+pub hold477 : RunHolds run477
+unfolding open-runs run477
+hold477 = refl
+
+pub hold478 : RunHolds run478
+unfolding open-runs run478
+hold478 = refl
+
+pub hold479 : RunHolds run479
+unfolding open-runs run479
+hold479 = refl
+
+pub hold480 : RunHolds run480
+unfolding open-runs run480
+hold480 = refl
+
+pub hold481 : RunHolds run481
+unfolding open-runs run481
+hold481 = refl
+
+pub hold482 : RunHolds run482
+unfolding open-runs run482
+hold482 = refl
+
+pub hold483 : RunHolds run483
+unfolding open-runs run483
+hold483 = refl
+
+pub hold484 : RunHolds run484
+unfolding open-runs run484
+hold484 = refl
+
+pub hold485 : RunHolds run485
+unfolding open-runs run485
+hold485 = refl
+
+pub hold486 : RunHolds run486
+unfolding open-runs run486
+hold486 = refl
+
+pub hold487 : RunHolds run487
+unfolding open-runs run487
+hold487 = refl
+
+pub hold488 : RunHolds run488
+unfolding open-runs run488
+hold488 = refl
+
+pub hold489 : RunHolds run489
+unfolding open-runs run489
+hold489 = refl
+
+pub hold490 : RunHolds run490
+unfolding open-runs run490
+hold490 = refl
+
+pub hold491 : RunHolds run491
+unfolding open-runs run491
+hold491 = refl
+
+pub hold492 : RunHolds run492
+unfolding open-runs run492
+hold492 = refl
+
+pub hold493 : RunHolds run493
+unfolding open-runs run493
+hold493 = refl
+
+pub hold494 : RunHolds run494
+unfolding open-runs run494
+hold494 = refl
+
+pub hold495 : RunHolds run495
+unfolding open-runs run495
+hold495 = refl
+
+pub hold496 : RunHolds run496
+unfolding open-runs run496
+hold496 = refl
+
+pub hold497 : RunHolds run497
+unfolding open-runs run497
+hold497 = refl
+
+pub hold498 : RunHolds run498
+unfolding open-runs run498
+hold498 = refl
+
+pub hold499 : RunHolds run499
+unfolding open-runs run499
+hold499 = refl
+
+pub hold500 : RunHolds run500
+unfolding open-runs run500
+hold500 = refl
+
+pub hold501 : RunHolds run501
+unfolding open-runs run501
+hold501 = refl
+
+pub hold502 : RunHolds run502
+unfolding open-runs run502
+hold502 = refl
+
+pub hold503 : RunHolds run503
+unfolding open-runs run503
+hold503 = refl
+
+pub hold504 : RunHolds run504
+unfolding open-runs run504
+hold504 = refl
+
+pub hold505 : RunHolds run505
+unfolding open-runs run505
+hold505 = refl
+
+pub hold506 : RunHolds run506
+unfolding open-runs run506
+hold506 = refl
+
+pub hold507 : RunHolds run507
+unfolding open-runs run507
+hold507 = refl
+
+pub hold508 : RunHolds run508
+unfolding open-runs run508
+hold508 = refl
+
+pub hold509 : RunHolds run509
+unfolding open-runs run509
+hold509 = refl
+
+pub hold510 : RunHolds run510
+unfolding open-runs run510
+hold510 = refl
+
+pub hold511 : RunHolds run511
+unfolding open-runs run511
+hold511 = refl
+
+pub hold512 : RunHolds run512
+unfolding open-runs run512
+hold512 = refl
+
+pub hold513 : RunHolds run513
+unfolding open-runs run513
+hold513 = refl
+
+pub hold514 : RunHolds run514
+unfolding open-runs run514
+hold514 = refl
+
+pub hold515 : RunHolds run515
+unfolding open-runs run515
+hold515 = refl
+
+pub hold516 : RunHolds run516
+unfolding open-runs run516
+hold516 = refl
+
+pub hold517 : RunHolds run517
+unfolding open-runs run517
+hold517 = refl
+
+pub hold518 : RunHolds run518
+unfolding open-runs run518
+hold518 = refl
+
+pub hold519 : RunHolds run519
+unfolding open-runs run519
+hold519 = refl
+
+pub hold520 : RunHolds run520
+unfolding open-runs run520
+hold520 = refl
+
+pub hold521 : RunHolds run521
+unfolding open-runs run521
+hold521 = refl
+
+pub hold522 : RunHolds run522
+unfolding open-runs run522
+hold522 = refl
+
+pub hold523 : RunHolds run523
+unfolding open-runs run523
+hold523 = refl
+
+pub hold524 : RunHolds run524
+unfolding open-runs run524
+hold524 = refl
+
+pub hold525 : RunHolds run525
+unfolding open-runs run525
+hold525 = refl
+
+pub hold526 : RunHolds run526
+unfolding open-runs run526
+hold526 = refl
+
+pub hold527 : RunHolds run527
+unfolding open-runs run527
+hold527 = refl
+
+pub hold528 : RunHolds run528
+unfolding open-runs run528
+hold528 = refl
+
+pub hold529 : RunHolds run529
+unfolding open-runs run529
+hold529 = refl
+
+pub hold530 : RunHolds run530
+unfolding open-runs run530
+hold530 = refl
+
+pub hold531 : RunHolds run531
+unfolding open-runs run531
+hold531 = refl
+
+pub hold532 : RunHolds run532
+unfolding open-runs run532
+hold532 = refl
+
+pub hold533 : RunHolds run533
+unfolding open-runs run533
+hold533 = refl
+
+pub hold534 : RunHolds run534
+unfolding open-runs run534
+hold534 = refl
+
+pub hold535 : RunHolds run535
+unfolding open-runs run535
+hold535 = refl
+
+pub hold536 : RunHolds run536
+unfolding open-runs run536
+hold536 = refl
+
+pub hold537 : RunHolds run537
+unfolding open-runs run537
+hold537 = refl
+
+pub hold538 : RunHolds run538
+unfolding open-runs run538
+hold538 = refl
+
+pub hold539 : RunHolds run539
+unfolding open-runs run539
+hold539 = refl
+
+pub hold540 : RunHolds run540
+unfolding open-runs run540
+hold540 = refl
+
+pub hold541 : RunHolds run541
+unfolding open-runs run541
+hold541 = refl
+
+pub hold542 : RunHolds run542
+unfolding open-runs run542
+hold542 = refl
+
+pub hold543 : RunHolds run543
+unfolding open-runs run543
+hold543 = refl
+
+pub hold544 : RunHolds run544
+unfolding open-runs run544
+hold544 = refl
+
+pub hold545 : RunHolds run545
+unfolding open-runs run545
+hold545 = refl
+
+pub hold546 : RunHolds run546
+unfolding open-runs run546
+hold546 = refl
+
+pub hold547 : RunHolds run547
+unfolding open-runs run547
+hold547 = refl
+
+pub hold548 : RunHolds run548
+unfolding open-runs run548
+hold548 = refl
+
+pub hold549 : RunHolds run549
+unfolding open-runs run549
+hold549 = refl
+
+pub hold550 : RunHolds run550
+unfolding open-runs run550
+hold550 = refl
+
+pub hold551 : RunHolds run551
+unfolding open-runs run551
+hold551 = refl
+
+pub hold552 : RunHolds run552
+unfolding open-runs run552
+hold552 = refl
+
+pub hold553 : RunHolds run553
+unfolding open-runs run553
+hold553 = refl
+
+pub hold554 : RunHolds run554
+unfolding open-runs run554
+hold554 = refl
+
+pub hold555 : RunHolds run555
+unfolding open-runs run555
+hold555 = refl
+
+pub hold556 : RunHolds run556
+unfolding open-runs run556
+hold556 = refl
+
+pub hold557 : RunHolds run557
+unfolding open-runs run557
+hold557 = refl
+
+pub hold558 : RunHolds run558
+unfolding open-runs run558
+hold558 = refl
+
+pub hold559 : RunHolds run559
+unfolding open-runs run559
+hold559 = refl
+
+pub hold560 : RunHolds run560
+unfolding open-runs run560
+hold560 = refl
+
+pub hold561 : RunHolds run561
+unfolding open-runs run561
+hold561 = refl
+
+pub hold562 : RunHolds run562
+unfolding open-runs run562
+hold562 = refl
+
+pub hold563 : RunHolds run563
+unfolding open-runs run563
+hold563 = refl
+
+pub hold564 : RunHolds run564
+unfolding open-runs run564
+hold564 = refl
+
+pub hold565 : RunHolds run565
+unfolding open-runs run565
+hold565 = refl
+
+pub hold566 : RunHolds run566
+unfolding open-runs run566
+hold566 = refl
+
+pub hold567 : RunHolds run567
+unfolding open-runs run567
+hold567 = refl

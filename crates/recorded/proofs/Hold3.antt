@@ -2,468 +2,776 @@
 use mathlib.Core.Path.{refl}
 use Rattle.against_rust.specs.Shape.{RunHolds}
 use Rattle.against_rust.proofs.OpenRuns.{open-runs}
-use Rattle.recorded.specs.Runs3.{run409, run410, run411, run412, run413, run414, run415, run416, run417, run418, run419, run420, run421, run422, run423, run424, run425, run426, run427, run428, run429, run430, run431, run432, run433, run434, run435, run436, run437, run438, run439, run440, run441, run442, run443, run444, run445, run446, run447, run448, run449, run450, run451, run452, run453, run454, run455, run456, run457, run458, run459, run460, run461, run462, run463, run464, run465, run466, run467, run468, run469, run470, run471, run472, run473, run474, run475, run476, run477, run478, run479, run480, run481, run482, run483, run484, run485, run486, run487, run488, run489, run490, run491, run492, run493, run494, run495, run496, run497, run498, run499, run500, run501, run502, run503, run504, run505, run506, run507, run508, run509, run510, run511, run512, run513, run514, run515, run516, run517, run518, run519, run520, run521, run522, run523, run524}
-
-pub hold409 : RunHolds run409
-unfolding open-runs run409
-hold409 = refl
-
-pub hold410 : RunHolds run410
-unfolding open-runs run410
-hold410 = refl
-
-pub hold411 : RunHolds run411
-unfolding open-runs run411
-hold411 = refl
-
-pub hold412 : RunHolds run412
-unfolding open-runs run412
-hold412 = refl
-
-pub hold413 : RunHolds run413
-unfolding open-runs run413
-hold413 = refl
-
-pub hold414 : RunHolds run414
-unfolding open-runs run414
-hold414 = refl
-
-pub hold415 : RunHolds run415
-unfolding open-runs run415
-hold415 = refl
-
-pub hold416 : RunHolds run416
-unfolding open-runs run416
-hold416 = refl
-
-pub hold417 : RunHolds run417
-unfolding open-runs run417
-hold417 = refl
-
-pub hold418 : RunHolds run418
-unfolding open-runs run418
-hold418 = refl
-
-pub hold419 : RunHolds run419
-unfolding open-runs run419
-hold419 = refl
-
-pub hold420 : RunHolds run420
-unfolding open-runs run420
-hold420 = refl
-
-pub hold421 : RunHolds run421
-unfolding open-runs run421
-hold421 = refl
-
-pub hold422 : RunHolds run422
-unfolding open-runs run422
-hold422 = refl
-
-pub hold423 : RunHolds run423
-unfolding open-runs run423
-hold423 = refl
-
-pub hold424 : RunHolds run424
-unfolding open-runs run424
-hold424 = refl
-
-pub hold425 : RunHolds run425
-unfolding open-runs run425
-hold425 = refl
-
-pub hold426 : RunHolds run426
-unfolding open-runs run426
-hold426 = refl
-
-pub hold427 : RunHolds run427
-unfolding open-runs run427
-hold427 = refl
-
-pub hold428 : RunHolds run428
-unfolding open-runs run428
-hold428 = refl
-
-pub hold429 : RunHolds run429
-unfolding open-runs run429
-hold429 = refl
-
-pub hold430 : RunHolds run430
-unfolding open-runs run430
-hold430 = refl
-
-pub hold431 : RunHolds run431
-unfolding open-runs run431
-hold431 = refl
-
-pub hold432 : RunHolds run432
-unfolding open-runs run432
-hold432 = refl
-
-pub hold433 : RunHolds run433
-unfolding open-runs run433
-hold433 = refl
-
-pub hold434 : RunHolds run434
-unfolding open-runs run434
-hold434 = refl
-
-pub hold435 : RunHolds run435
-unfolding open-runs run435
-hold435 = refl
-
-pub hold436 : RunHolds run436
-unfolding open-runs run436
-hold436 = refl
-
-pub hold437 : RunHolds run437
-unfolding open-runs run437
-hold437 = refl
-
-pub hold438 : RunHolds run438
-unfolding open-runs run438
-hold438 = refl
-
-pub hold439 : RunHolds run439
-unfolding open-runs run439
-hold439 = refl
-
-pub hold440 : RunHolds run440
-unfolding open-runs run440
-hold440 = refl
-
-pub hold441 : RunHolds run441
-unfolding open-runs run441
-hold441 = refl
-
-pub hold442 : RunHolds run442
-unfolding open-runs run442
-hold442 = refl
-
-pub hold443 : RunHolds run443
-unfolding open-runs run443
-hold443 = refl
-
-pub hold444 : RunHolds run444
-unfolding open-runs run444
-hold444 = refl
-
-pub hold445 : RunHolds run445
-unfolding open-runs run445
-hold445 = refl
-
-pub hold446 : RunHolds run446
-unfolding open-runs run446
-hold446 = refl
-
-pub hold447 : RunHolds run447
-unfolding open-runs run447
-hold447 = refl
-
-pub hold448 : RunHolds run448
-unfolding open-runs run448
-hold448 = refl
-
-pub hold449 : RunHolds run449
-unfolding open-runs run449
-hold449 = refl
-
-pub hold450 : RunHolds run450
-unfolding open-runs run450
-hold450 = refl
-
-pub hold451 : RunHolds run451
-unfolding open-runs run451
-hold451 = refl
-
-pub hold452 : RunHolds run452
-unfolding open-runs run452
-hold452 = refl
-
-pub hold453 : RunHolds run453
-unfolding open-runs run453
-hold453 = refl
-
-pub hold454 : RunHolds run454
-unfolding open-runs run454
-hold454 = refl
-
-pub hold455 : RunHolds run455
-unfolding open-runs run455
-hold455 = refl
-
-pub hold456 : RunHolds run456
-unfolding open-runs run456
-hold456 = refl
-
-pub hold457 : RunHolds run457
-unfolding open-runs run457
-hold457 = refl
-
-pub hold458 : RunHolds run458
-unfolding open-runs run458
-hold458 = refl
-
-pub hold459 : RunHolds run459
-unfolding open-runs run459
-hold459 = refl
-
-pub hold460 : RunHolds run460
-unfolding open-runs run460
-hold460 = refl
-
-pub hold461 : RunHolds run461
-unfolding open-runs run461
-hold461 = refl
-
-pub hold462 : RunHolds run462
-unfolding open-runs run462
-hold462 = refl
-
-pub hold463 : RunHolds run463
-unfolding open-runs run463
-hold463 = refl
-
-pub hold464 : RunHolds run464
-unfolding open-runs run464
-hold464 = refl
-
-pub hold465 : RunHolds run465
-unfolding open-runs run465
-hold465 = refl
-
-pub hold466 : RunHolds run466
-unfolding open-runs run466
-hold466 = refl
-
-pub hold467 : RunHolds run467
-unfolding open-runs run467
-hold467 = refl
-
-pub hold468 : RunHolds run468
-unfolding open-runs run468
-hold468 = refl
-
-pub hold469 : RunHolds run469
-unfolding open-runs run469
-hold469 = refl
-
-pub hold470 : RunHolds run470
-unfolding open-runs run470
-hold470 = refl
-
-pub hold471 : RunHolds run471
-unfolding open-runs run471
-hold471 = refl
-
-pub hold472 : RunHolds run472
-unfolding open-runs run472
-hold472 = refl
-
-pub hold473 : RunHolds run473
-unfolding open-runs run473
-hold473 = refl
-
-pub hold474 : RunHolds run474
-unfolding open-runs run474
-hold474 = refl
-
-pub hold475 : RunHolds run475
-unfolding open-runs run475
-hold475 = refl
-
-pub hold476 : RunHolds run476
-unfolding open-runs run476
-hold476 = refl
-
-pub hold477 : RunHolds run477
-unfolding open-runs run477
-hold477 = refl
-
-pub hold478 : RunHolds run478
-unfolding open-runs run478
-hold478 = refl
-
-pub hold479 : RunHolds run479
-unfolding open-runs run479
-hold479 = refl
-
-pub hold480 : RunHolds run480
-unfolding open-runs run480
-hold480 = refl
-
-pub hold481 : RunHolds run481
-unfolding open-runs run481
-hold481 = refl
-
-pub hold482 : RunHolds run482
-unfolding open-runs run482
-hold482 = refl
-
-pub hold483 : RunHolds run483
-unfolding open-runs run483
-hold483 = refl
-
-pub hold484 : RunHolds run484
-unfolding open-runs run484
-hold484 = refl
-
-pub hold485 : RunHolds run485
-unfolding open-runs run485
-hold485 = refl
-
-pub hold486 : RunHolds run486
-unfolding open-runs run486
-hold486 = refl
-
-pub hold487 : RunHolds run487
-unfolding open-runs run487
-hold487 = refl
-
-pub hold488 : RunHolds run488
-unfolding open-runs run488
-hold488 = refl
-
-pub hold489 : RunHolds run489
-unfolding open-runs run489
-hold489 = refl
-
-pub hold490 : RunHolds run490
-unfolding open-runs run490
-hold490 = refl
-
-pub hold491 : RunHolds run491
-unfolding open-runs run491
-hold491 = refl
-
-pub hold492 : RunHolds run492
-unfolding open-runs run492
-hold492 = refl
-
-pub hold493 : RunHolds run493
-unfolding open-runs run493
-hold493 = refl
-
-pub hold494 : RunHolds run494
-unfolding open-runs run494
-hold494 = refl
-
-pub hold495 : RunHolds run495
-unfolding open-runs run495
-hold495 = refl
-
-pub hold496 : RunHolds run496
-unfolding open-runs run496
-hold496 = refl
-
-pub hold497 : RunHolds run497
-unfolding open-runs run497
-hold497 = refl
-
-pub hold498 : RunHolds run498
-unfolding open-runs run498
-hold498 = refl
-
-pub hold499 : RunHolds run499
-unfolding open-runs run499
-hold499 = refl
-
-pub hold500 : RunHolds run500
-unfolding open-runs run500
-hold500 = refl
-
-pub hold501 : RunHolds run501
-unfolding open-runs run501
-hold501 = refl
-
-pub hold502 : RunHolds run502
-unfolding open-runs run502
-hold502 = refl
-
-pub hold503 : RunHolds run503
-unfolding open-runs run503
-hold503 = refl
-
-pub hold504 : RunHolds run504
-unfolding open-runs run504
-hold504 = refl
-
-pub hold505 : RunHolds run505
-unfolding open-runs run505
-hold505 = refl
-
-pub hold506 : RunHolds run506
-unfolding open-runs run506
-hold506 = refl
-
-pub hold507 : RunHolds run507
-unfolding open-runs run507
-hold507 = refl
-
-pub hold508 : RunHolds run508
-unfolding open-runs run508
-hold508 = refl
-
-pub hold509 : RunHolds run509
-unfolding open-runs run509
-hold509 = refl
-
-pub hold510 : RunHolds run510
-unfolding open-runs run510
-hold510 = refl
-
-pub hold511 : RunHolds run511
-unfolding open-runs run511
-hold511 = refl
-
-pub hold512 : RunHolds run512
-unfolding open-runs run512
-hold512 = refl
-
-pub hold513 : RunHolds run513
-unfolding open-runs run513
-hold513 = refl
-
-pub hold514 : RunHolds run514
-unfolding open-runs run514
-hold514 = refl
-
-pub hold515 : RunHolds run515
-unfolding open-runs run515
-hold515 = refl
-
-pub hold516 : RunHolds run516
-unfolding open-runs run516
-hold516 = refl
-
-pub hold517 : RunHolds run517
-unfolding open-runs run517
-hold517 = refl
-
-pub hold518 : RunHolds run518
-unfolding open-runs run518
-hold518 = refl
-
-pub hold519 : RunHolds run519
-unfolding open-runs run519
-hold519 = refl
-
-pub hold520 : RunHolds run520
-unfolding open-runs run520
-hold520 = refl
-
-pub hold521 : RunHolds run521
-unfolding open-runs run521
-hold521 = refl
-
-pub hold522 : RunHolds run522
-unfolding open-runs run522
-hold522 = refl
-
-pub hold523 : RunHolds run523
-unfolding open-runs run523
-hold523 = refl
-
-pub hold524 : RunHolds run524
-unfolding open-runs run524
-hold524 = refl
+use Rattle.recorded.specs.Runs3.{run568, run569, run570, run571, run572, run573, run574, run575, run576, run577, run578, run579, run580, run581, run582, run583, run584, run585, run586, run587, run588, run589, run590, run591, run592, run593, run594, run595, run596, run597, run598, run599, run600, run601, run602, run603, run604, run605, run606, run607, run608, run609, run610, run611, run612, run613, run614, run615, run616, run617, run618, run619, run620, run621, run622, run623, run624, run625, run626, run627, run628, run629, run630, run631, run632, run633, run634, run635, run636, run637, run638, run639, run640, run641, run642, run643, run644, run645, run646, run647, run648, run649, run650, run651, run652, run653, run654, run655, run656, run657, run658, run659, run660, run661, run662, run663, run664, run665, run666, run667, run668, run669, run670, run671, run672, run673, run674, run675, run676, run677, run678, run679, run680, run681, run682, run683, run684, run685, run686, run687, run688, run689, run690, run691, run692, run693, run694, run695, run696, run697, run698, run699, run700, run701, run702, run703, run704, run705, run706, run707, run708, run709, run710, run711, run712, run713, run714, run715, run716, run717, run718, run719, run720, run721, run722, run723, run724, run725, run726, run727, run728, run729, run730, run731, run732, run733, run734, run735, run736, run737, run738, run739, run740, run741, run742, run743, run744, run745, run746, run747, run748, run749, run750, run751, run752, run753, run754, run755, run756, run757, run758, run759, run760}
+
+pub hold568 : RunHolds run568
+unfolding open-runs run568
+hold568 = refl
+
+pub hold569 : RunHolds run569
+unfolding open-runs run569
+hold569 = refl
+
+pub hold570 : RunHolds run570
+unfolding open-runs run570
+hold570 = refl
+
+pub hold571 : RunHolds run571
+unfolding open-runs run571
+hold571 = refl
+
+pub hold572 : RunHolds run572
+unfolding open-runs run572
+hold572 = refl
+
+pub hold573 : RunHolds run573
+unfolding open-runs run573
+hold573 = refl
+
+pub hold574 : RunHolds run574
+unfolding open-runs run574
+hold574 = refl
+
+pub hold575 : RunHolds run575
+unfolding open-runs run575
+hold575 = refl
+
+pub hold576 : RunHolds run576
+unfolding open-runs run576
+hold576 = refl
+
+pub hold577 : RunHolds run577
+unfolding open-runs run577
+hold577 = refl
+
+pub hold578 : RunHolds run578
+unfolding open-runs run578
+hold578 = refl
+
+pub hold579 : RunHolds run579
+unfolding open-runs run579
+hold579 = refl
+
+pub hold580 : RunHolds run580
+unfolding open-runs run580
+hold580 = refl
+
+pub hold581 : RunHolds run581
+unfolding open-runs run581
+hold581 = refl
+
+pub hold582 : RunHolds run582
+unfolding open-runs run582
+hold582 = refl
+
+pub hold583 : RunHolds run583
+unfolding open-runs run583
+hold583 = refl
+
+pub hold584 : RunHolds run584
+unfolding open-runs run584
+hold584 = refl
+
+pub hold585 : RunHolds run585
+unfolding open-runs run585
+hold585 = refl
+
+pub hold586 : RunHolds run586
+unfolding open-runs run586
+hold586 = refl
+
+pub hold587 : RunHolds run587
+unfolding open-runs run587
+hold587 = refl
+
+pub hold588 : RunHolds run588
+unfolding open-runs run588
+hold588 = refl
+
+pub hold589 : RunHolds run589
+unfolding open-runs run589
+hold589 = refl
+
+pub hold590 : RunHolds run590
+unfolding open-runs run590
+hold590 = refl
+
+pub hold591 : RunHolds run591
+unfolding open-runs run591
+hold591 = refl
+
+pub hold592 : RunHolds run592
+unfolding open-runs run592
+hold592 = refl
+
+pub hold593 : RunHolds run593
+unfolding open-runs run593
+hold593 = refl
+
+pub hold594 : RunHolds run594
+unfolding open-runs run594
+hold594 = refl
+
+pub hold595 : RunHolds run595
+unfolding open-runs run595
+hold595 = refl
+
+pub hold596 : RunHolds run596
+unfolding open-runs run596
+hold596 = refl
+
+pub hold597 : RunHolds run597
+unfolding open-runs run597
+hold597 = refl
+
+pub hold598 : RunHolds run598
+unfolding open-runs run598
+hold598 = refl
+
+pub hold599 : RunHolds run599
+unfolding open-runs run599
+hold599 = refl
+
+pub hold600 : RunHolds run600
+unfolding open-runs run600
+hold600 = refl
+
+pub hold601 : RunHolds run601
+unfolding open-runs run601
+hold601 = refl
+
+pub hold602 : RunHolds run602
+unfolding open-runs run602
+hold602 = refl
+
+pub hold603 : RunHolds run603
+unfolding open-runs run603
+hold603 = refl
+
+pub hold604 : RunHolds run604
+unfolding open-runs run604
+hold604 = refl
+
+pub hold605 : RunHolds run605
+unfolding open-runs run605
+hold605 = refl
+
+pub hold606 : RunHolds run606
+unfolding open-runs run606
+hold606 = refl
+
+pub hold607 : RunHolds run607
+unfolding open-runs run607
+hold607 = refl
+
+pub hold608 : RunHolds run608
+unfolding open-runs run608
+hold608 = refl
+
+pub hold609 : RunHolds run609
+unfolding open-runs run609
+hold609 = refl
+
+pub hold610 : RunHolds run610
+unfolding open-runs run610
+hold610 = refl
+
+pub hold611 : RunHolds run611
+unfolding open-runs run611
+hold611 = refl
+
+pub hold612 : RunHolds run612
+unfolding open-runs run612
+hold612 = refl
+
+pub hold613 : RunHolds run613
+unfolding open-runs run613
+hold613 = refl
+
+pub hold614 : RunHolds run614
+unfolding open-runs run614
+hold614 = refl
+
+pub hold615 : RunHolds run615
+unfolding open-runs run615
+hold615 = refl
+
+pub hold616 : RunHolds run616
+unfolding open-runs run616
+hold616 = refl
+
+pub hold617 : RunHolds run617
+unfolding open-runs run617
+hold617 = refl
+
+pub hold618 : RunHolds run618
+unfolding open-runs run618
+hold618 = refl
+
+pub hold619 : RunHolds run619
+unfolding open-runs run619
+hold619 = refl
+
+pub hold620 : RunHolds run620
+unfolding open-runs run620
+hold620 = refl
+
+pub hold621 : RunHolds run621
+unfolding open-runs run621
+hold621 = refl
+
+pub hold622 : RunHolds run622
+unfolding open-runs run622
+hold622 = refl
+
+pub hold623 : RunHolds run623
+unfolding open-runs run623
+hold623 = refl
+
+pub hold624 : RunHolds run624
+unfolding open-runs run624
+hold624 = refl
+
+pub hold625 : RunHolds run625
+unfolding open-runs run625
+hold625 = refl
+
+pub hold626 : RunHolds run626
+unfolding open-runs run626
+hold626 = refl
+
+pub hold627 : RunHolds run627
+unfolding open-runs run627
+hold627 = refl
+
+pub hold628 : RunHolds run628
+unfolding open-runs run628
+hold628 = refl
+
+pub hold629 : RunHolds run629
+unfolding open-runs run629
+hold629 = refl
+
+pub hold630 : RunHolds run630
+unfolding open-runs run630
+hold630 = refl
+
+pub hold631 : RunHolds run631
+unfolding open-runs run631
+hold631 = refl
+
+pub hold632 : RunHolds run632
+unfolding open-runs run632
+hold632 = refl
+
+pub hold633 : RunHolds run633
+unfolding open-runs run633
+hold633 = refl
+
+pub hold634 : RunHolds run634
+unfolding open-runs run634
+hold634 = refl
+
+pub hold635 : RunHolds run635
+unfolding open-runs run635
+hold635 = refl
+
+pub hold636 : RunHolds run636
+unfolding open-runs run636
+hold636 = refl
+
+pub hold637 : RunHolds run637
+unfolding open-runs run637
+hold637 = refl
+
+pub hold638 : RunHolds run638
+unfolding open-runs run638
+hold638 = refl
+
+pub hold639 : RunHolds run639
+unfolding open-runs run639
+hold639 = refl
+
+pub hold640 : RunHolds run640
+unfolding open-runs run640
+hold640 = refl
+
+pub hold641 : RunHolds run641
+unfolding open-runs run641
+hold641 = refl
+
+pub hold642 : RunHolds run642
+unfolding open-runs run642
+hold642 = refl
+
+pub hold643 : RunHolds run643
+unfolding open-runs run643
+hold643 = refl
+
+pub hold644 : RunHolds run644
+unfolding open-runs run644
+hold644 = refl
+
+pub hold645 : RunHolds run645
+unfolding open-runs run645
+hold645 = refl
+
+pub hold646 : RunHolds run646
+unfolding open-runs run646
+hold646 = refl
+
+pub hold647 : RunHolds run647
+unfolding open-runs run647
+hold647 = refl
+
+pub hold648 : RunHolds run648
+unfolding open-runs run648
+hold648 = refl
+
+pub hold649 : RunHolds run649
+unfolding open-runs run649
+hold649 = refl
+
+pub hold650 : RunHolds run650
+unfolding open-runs run650
+hold650 = refl
+
+pub hold651 : RunHolds run651
+unfolding open-runs run651
+hold651 = refl
+
+pub hold652 : RunHolds run652
+unfolding open-runs run652
+hold652 = refl
+
+pub hold653 : RunHolds run653
+unfolding open-runs run653
+hold653 = refl
+
+pub hold654 : RunHolds run654
+unfolding open-runs run654
+hold654 = refl
+
+pub hold655 : RunHolds run655
+unfolding open-runs run655
+hold655 = refl
+
+pub hold656 : RunHolds run656
+unfolding open-runs run656
+hold656 = refl
+
+pub hold657 : RunHolds run657
+unfolding open-runs run657
+hold657 = refl
+
+pub hold658 : RunHolds run658
+unfolding open-runs run658
+hold658 = refl
+
+pub hold659 : RunHolds run659
+unfolding open-runs run659
+hold659 = refl
+
+pub hold660 : RunHolds run660
+unfolding open-runs run660
+hold660 = refl
+
+pub hold661 : RunHolds run661
+unfolding open-runs run661
+hold661 = refl
+
+pub hold662 : RunHolds run662
+unfolding open-runs run662
+hold662 = refl
+
+pub hold663 : RunHolds run663
+unfolding open-runs run663
+hold663 = refl
+
+pub hold664 : RunHolds run664
+unfolding open-runs run664
+hold664 = refl
+
+pub hold665 : RunHolds run665
+unfolding open-runs run665
+hold665 = refl
+
+pub hold666 : RunHolds run666
+unfolding open-runs run666
+hold666 = refl
+
+pub hold667 : RunHolds run667
+unfolding open-runs run667
+hold667 = refl
+
+pub hold668 : RunHolds run668
+unfolding open-runs run668
+hold668 = refl
+
+pub hold669 : RunHolds run669
+unfolding open-runs run669
+hold669 = refl
+
+pub hold670 : RunHolds run670
+unfolding open-runs run670
+hold670 = refl
+
+pub hold671 : RunHolds run671
+unfolding open-runs run671
+hold671 = refl
+
+pub hold672 : RunHolds run672
+unfolding open-runs run672
+hold672 = refl
+
+pub hold673 : RunHolds run673
+unfolding open-runs run673
+hold673 = refl
+
+pub hold674 : RunHolds run674
+unfolding open-runs run674
+hold674 = refl
+
+pub hold675 : RunHolds run675
+unfolding open-runs run675
+hold675 = refl
+
+pub hold676 : RunHolds run676
+unfolding open-runs run676
+hold676 = refl
+
+pub hold677 : RunHolds run677
+unfolding open-runs run677
+hold677 = refl
+
+pub hold678 : RunHolds run678
+unfolding open-runs run678
+hold678 = refl
+
+pub hold679 : RunHolds run679
+unfolding open-runs run679
+hold679 = refl
+
+pub hold680 : RunHolds run680
+unfolding open-runs run680
+hold680 = refl
+
+pub hold681 : RunHolds run681
+unfolding open-runs run681
+hold681 = refl
+
+pub hold682 : RunHolds run682
+unfolding open-runs run682
+hold682 = refl
+
+pub hold683 : RunHolds run683
+unfolding open-runs run683
+hold683 = refl
+
+pub hold684 : RunHolds run684
+unfolding open-runs run684
+hold684 = refl
+
+pub hold685 : RunHolds run685
+unfolding open-runs run685
+hold685 = refl
+
+pub hold686 : RunHolds run686
+unfolding open-runs run686
+hold686 = refl
+
+pub hold687 : RunHolds run687
+unfolding open-runs run687
+hold687 = refl
+
+pub hold688 : RunHolds run688
+unfolding open-runs run688
+hold688 = refl
+
+pub hold689 : RunHolds run689
+unfolding open-runs run689
+hold689 = refl
+
+pub hold690 : RunHolds run690
+unfolding open-runs run690
+hold690 = refl
+
+pub hold691 : RunHolds run691
+unfolding open-runs run691
+hold691 = refl
+
+pub hold692 : RunHolds run692
+unfolding open-runs run692
+hold692 = refl
+
+pub hold693 : RunHolds run693
+unfolding open-runs run693
+hold693 = refl
+
+pub hold694 : RunHolds run694
+unfolding open-runs run694
+hold694 = refl
+
+pub hold695 : RunHolds run695
+unfolding open-runs run695
+hold695 = refl
+
+pub hold696 : RunHolds run696
+unfolding open-runs run696
+hold696 = refl
+
+pub hold697 : RunHolds run697
+unfolding open-runs run697
+hold697 = refl
+
+pub hold698 : RunHolds run698
+unfolding open-runs run698
+hold698 = refl
+
+pub hold699 : RunHolds run699
+unfolding open-runs run699
+hold699 = refl
+
+pub hold700 : RunHolds run700
+unfolding open-runs run700
+hold700 = refl
+
+pub hold701 : RunHolds run701
+unfolding open-runs run701
+hold701 = refl
+
+pub hold702 : RunHolds run702
+unfolding open-runs run702
+hold702 = refl
+
+pub hold703 : RunHolds run703
+unfolding open-runs run703
+hold703 = refl
+
+pub hold704 : RunHolds run704
+unfolding open-runs run704
+hold704 = refl
+
+pub hold705 : RunHolds run705
+unfolding open-runs run705
+hold705 = refl
+
+pub hold706 : RunHolds run706
+unfolding open-runs run706
+hold706 = refl
+
+pub hold707 : RunHolds run707
+unfolding open-runs run707
+hold707 = refl
+
+pub hold708 : RunHolds run708
+unfolding open-runs run708
+hold708 = refl
+
+pub hold709 : RunHolds run709
+unfolding open-runs run709
+hold709 = refl
+
+pub hold710 : RunHolds run710
+unfolding open-runs run710
+hold710 = refl
+
+pub hold711 : RunHolds run711
+unfolding open-runs run711
+hold711 = refl
+
+pub hold712 : RunHolds run712
+unfolding open-runs run712
+hold712 = refl
+
+pub hold713 : RunHolds run713
+unfolding open-runs run713
+hold713 = refl
+
+pub hold714 : RunHolds run714
+unfolding open-runs run714
+hold714 = refl
+
+pub hold715 : RunHolds run715
+unfolding open-runs run715
+hold715 = refl
+
+pub hold716 : RunHolds run716
+unfolding open-runs run716
+hold716 = refl
+
+pub hold717 : RunHolds run717
+unfolding open-runs run717
+hold717 = refl
+
+pub hold718 : RunHolds run718
+unfolding open-runs run718
+hold718 = refl
+
+pub hold719 : RunHolds run719
+unfolding open-runs run719
+hold719 = refl
+
+pub hold720 : RunHolds run720
+unfolding open-runs run720
+hold720 = refl
+
+pub hold721 : RunHolds run721
+unfolding open-runs run721
+hold721 = refl
+
+pub hold722 : RunHolds run722
+unfolding open-runs run722
+hold722 = refl
+
+pub hold723 : RunHolds run723
+unfolding open-runs run723
+hold723 = refl
+
+pub hold724 : RunHolds run724
+unfolding open-runs run724
+hold724 = refl
+
+pub hold725 : RunHolds run725
+unfolding open-runs run725
+hold725 = refl
+
+pub hold726 : RunHolds run726
+unfolding open-runs run726
+hold726 = refl
+
+pub hold727 : RunHolds run727
+unfolding open-runs run727
+hold727 = refl
+
+pub hold728 : RunHolds run728
+unfolding open-runs run728
+hold728 = refl
+
+pub hold729 : RunHolds run729
+unfolding open-runs run729
+hold729 = refl
+
+pub hold730 : RunHolds run730
+unfolding open-runs run730
+hold730 = refl
+
+pub hold731 : RunHolds run731
+unfolding open-runs run731
+hold731 = refl
+
+pub hold732 : RunHolds run732
+unfolding open-runs run732
+hold732 = refl
+
+pub hold733 : RunHolds run733
+unfolding open-runs run733
+hold733 = refl
+
+pub hold734 : RunHolds run734
+unfolding open-runs run734
+hold734 = refl
+
+pub hold735 : RunHolds run735
+unfolding open-runs run735
+hold735 = refl
+
+pub hold736 : RunHolds run736
+unfolding open-runs run736
+hold736 = refl
+
+pub hold737 : RunHolds run737
+unfolding open-runs run737
+hold737 = refl
+
+pub hold738 : RunHolds run738
+unfolding open-runs run738
+hold738 = refl
+
+pub hold739 : RunHolds run739
+unfolding open-runs run739
+hold739 = refl
+
+pub hold740 : RunHolds run740
+unfolding open-runs run740
+hold740 = refl
+
+pub hold741 : RunHolds run741
+unfolding open-runs run741
+hold741 = refl
+
+pub hold742 : RunHolds run742
+unfolding open-runs run742
+hold742 = refl
+
+pub hold743 : RunHolds run743
+unfolding open-runs run743
+hold743 = refl
+
+pub hold744 : RunHolds run744
+unfolding open-runs run744
+hold744 = refl
+
+pub hold745 : RunHolds run745
+unfolding open-runs run745
+hold745 = refl
+
+pub hold746 : RunHolds run746
+unfolding open-runs run746
+hold746 = refl
+
+pub hold747 : RunHolds run747
+unfolding open-runs run747
+hold747 = refl
+
+pub hold748 : RunHolds run748
+unfolding open-runs run748
+hold748 = refl
+
+pub hold749 : RunHolds run749
+unfolding open-runs run749
+hold749 = refl
+
+pub hold750 : RunHolds run750
+unfolding open-runs run750
+hold750 = refl
+
+pub hold751 : RunHolds run751
+unfolding open-runs run751
+hold751 = refl
+
+pub hold752 : RunHolds run752
+unfolding open-runs run752
+hold752 = refl
+
+pub hold753 : RunHolds run753
+unfolding open-runs run753
+hold753 = refl
+
+pub hold754 : RunHolds run754
+unfolding open-runs run754
+hold754 = refl
+
+pub hold755 : RunHolds run755
+unfolding open-runs run755
+hold755 = refl
+
+pub hold756 : RunHolds run756
+unfolding open-runs run756
+hold756 = refl
+
+pub hold757 : RunHolds run757
+unfolding open-runs run757
+hold757 = refl
+
+pub hold758 : RunHolds run758
+unfolding open-runs run758
+hold758 = refl
+
+pub hold759 : RunHolds run759
+unfolding open-runs run759
+hold759 = refl
+
+pub hold760 : RunHolds run760
+unfolding open-runs run760
+hold760 = refl
