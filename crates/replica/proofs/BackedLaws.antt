@@ -9,6 +9,7 @@ use mathlib.Core.Bool.{false, not}
 use mathlib.Core.List.{List, [], _∷_, _++_}
 use Prim.Native.Nat.{ℕ}
 use native.Mathlib.Omega.{arith}
+use lib.ListN.{length}
 use Rattle.numbers.specs.Numbers.{over}
 use Rattle.numbers.specs.Cells.{packed}
 use Rattle.numbers.specs.declared.View.{View}
@@ -51,13 +52,16 @@ own-out s x applied k =
 
 -- ---- what a call wrote
 
-module _ (u : Setup) (cs : List Call) (s : Replica) (x : Lent) (d : Called) where
-  -- the model's answer a has its messages backed
-  wrote : (a : Answer) → Means (s .setup) s x d a → AllBacked u (AskedIn u cs) (sentBy a) → WroteBacked u cs x d
-  unfolding sentBy messagesOut packed over
-  wrote (refused k) e f =
-      record { sent = []; messages = ap (λ (z : Called). z .answer .messages) e; out = ap (λ (z : Called). z .lent .core .out) e; backed = tt }
-  wrote (done m ms rs) e f = record { sent = ms; messages = e .messages; out = e .out; backed = f }
+-- the messages of the model's answer a, in the area
+record Wrote (x : Lent) (d : Called) (a : Answer) : Type 0 where
+  messages : d .answer .messages ≡ length (messagesOut (sentBy a))
+  out : d .lent .core .out ≡ over (messagesOut (sentBy a)) (x .core .out)
+
+wrote : (s : Replica) (x : Lent) (d : Called) (a : Answer) → Means (s .setup) s x d a → Wrote x d a
+unfolding sentBy messagesOut packed over
+wrote s x d (refused k) e =
+    record { messages = ap (λ (z : Called). z .answer .messages) e; out = ap (λ (z : Called). z .lent .core .out) e }
+wrote s x d (done m ms rs) e = record { messages = e .messages; out = e .out }
 
 link-means : (s : Replica) (x : Lent) (applied : List Entry) (d : Called) → Kept s x applied → (l : Link s x d)
     → Means (s .setup) s x d (answer (s .setup) (meaningOf s x applied) (callBy s x d l))
@@ -67,7 +71,7 @@ link-means s x applied d k (idled o p) = p .meaning applied o k
 
 pub chain-backed : (s : Replica) (x : Lent) (applied : List Entry) → Kept s x applied → s .starts ≡ 0 → s .sent ≡ false
     → (s′ : Replica) (x′ : Lent) (c : Chain s′ x′ s x) (d : Called) (l : Link s′ x′ d)
-    → WroteBacked (s .setup) (callsIn s′ x′ s x c ++ callBy s′ x′ d l ∷ []) x′ d
+    → WroteBacked (s .setup) (callsIn s′ x′ s x c) s′ x′ (callBy s′ x′ d l) d
 unfolding modelOf
 chain-backed s x applied k none-in not-sent s′ x′ c d l =
     let u = s .setup in
@@ -79,8 +83,14 @@ chain-backed s x applied k none-in not-sent s′ x′ c d l =
     let e = earned-from u m (λ Asked. no-votes u Asked m none-in not-sent) cs call in
     let B : Answer → Type 0 = λ a. AllBacked u (AskedIn u (cs ++ call ∷ [])) (sentBy a) in
     let f : B (answer u m′ call) = subst (λ (n : State). B (answer u n call)) (sym (w .is)) (e .backed) in
-    let g : B (answer (s′ .setup) m′ call) = subst (λ (v : Setup). B (answer v m′ call)) (sym (w .setup)) f in
-    wrote u (cs ++ call ∷ []) s′ x′ d _ (link-means s′ x′ (w .applied′) d (w .kept) l) g
+    let q = wrote s′ x′ d _ (link-means s′ x′ (w .applied′) d (w .kept) l) in
+    record {
+      applied = w .applied′;
+      kept = w .kept;
+      messages = q .messages;
+      out = q .out;
+      backed = subst (λ (v : Setup). B (answer v m′ call)) (sym (w .setup)) f;
+    }
 
 -- ---- from a creation
 
@@ -112,20 +122,20 @@ module _ (u : Setup) (x : Lent) where
 module _ (d : Called) (t : Replica) (new : d .answer .state ≡ t) (none-in : t .starts ≡ 0) (not-sent : t .sent ≡ false) (kept : Kept (d .answer .state) (d .lent) [])
     (y : Lent) (h : HandedBack (d .lent) y) where
   from-new : (s : Replica) (z : Lent) (e : Called) (c : Chain s z (d .answer .state) y) (l : Link s z e)
-      → WroteBacked (t .setup) (callsIn s z (d .answer .state) y c ++ callBy s z e l ∷ []) z e
+      → WroteBacked (t .setup) (callsIn s z (d .answer .state) y c) s z (callBy s z e l) e
   from-new s z e c l =
-      subst (λ (r : Replica). WroteBacked (r .setup) (callsIn s z (d .answer .state) y c ++ callBy s z e l ∷ []) z e) new
+      subst (λ (r : Replica). WroteBacked (r .setup) (callsIn s z (d .answer .state) y c) s z (callBy s z e l) e) new
       (chain-backed (d .answer .state) y [] (handed-kept _ _ _ _ h kept) (ap (λ (r : Replica). r .starts) new ∙ none-in)
       (ap (λ (r : Replica). r .sent) new ∙ not-sent) s z c e l)
 
 pub backed : (u : Setup) (x : Lent) (d : Called) (y : Lent) (s : Replica) (z : Lent) (e : Called) → CreatePromise u x d → d .answer .code ≡ 0
     → HandedBack (d .lent) y → (c : Chain s z (d .answer .state) y) (l : Link s z e)
-    → WroteBacked u (callsIn s z (d .answer .state) y c ++ callBy s z e l ∷ []) z e
+    → WroteBacked u (callsIn s z (d .answer .state) y c) s z (callBy s z e l) e
 backed u x d y s z e p k h =
     from-new d _ (subst (IsNew u x _) (sym (p .exact)) (create-new u x) k) refl refl (p .keeps k) y h s z e
 
 pub backed-recovered : (u : Setup) (v : View) (nonce : ℕ) (x : Lent) (d : Called) (y : Lent) (s : Replica) (z : Lent) (e : Called)
     → RecoverPromise u v nonce x d → d .answer .code ≡ 0 → HandedBack (d .lent) y → (c : Chain s z (d .answer .state) y) (l : Link s z e)
-    → WroteBacked u (callsIn s z (d .answer .state) y c ++ callBy s z e l ∷ []) z e
+    → WroteBacked u (callsIn s z (d .answer .state) y c) s z (callBy s z e l) e
 backed-recovered u v nonce x d y s z e p k h =
     from-new d _ (subst (IsNew u x _) (sym (p .exact)) (recover-new u x v nonce) k) refl refl (p .keeps k) y h s z e

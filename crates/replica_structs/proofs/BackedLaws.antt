@@ -3,7 +3,7 @@
 --     rows-backed, rows-backed-recovered    from a creation, and from a recovery, that wasn't refused
 -- Assumes nothing.
 use mathlib.Core.Path.{_≡_, subst}
-use mathlib.Core.List.{List, [], _∷_, _++_}
+use mathlib.Core.List.{List, []}
 use Prim.Native.Nat.{ℕ}
 use Rattle.numbers.specs.declared.View.{View}
 use Rattle.entries.specs.declared.Entry.{Entry}
@@ -26,17 +26,20 @@ rows-own-out s x applied k = own-out s (inBytes x) applied (k .kept)
 -- a call after a chain, where it holds of the same over the byte table
 carried : (u : Setup) (s : Replica) (x : LentRows) → KeptRows s x []
     → ((s′ : Replica) (z : LentRows) (e : CalledRows) (c : Chain s′ (inBytes z) s (inBytes x)) (l : Link s′ (inBytes z) (calledBytes e))
-    → WroteBacked u (callsIn s′ (inBytes z) s (inBytes x) c ++ callBy s′ (inBytes z) (calledBytes e) l ∷ []) (inBytes z) (calledBytes e))
+    → WroteBacked u (callsIn s′ (inBytes z) s (inBytes x) c) s′ (inBytes z) (callBy s′ (inBytes z) (calledBytes e) l) (calledBytes e))
     → (s′ : Replica) (z : LentRows) (e : CalledRows) (c : RowsChain s′ z s x) (l : RowsLink s′ z e)
-    → WroteBacked u (rowsCallsIn s′ z s x c ++ rowsCallBy s′ z e l ∷ []) (inBytes z) (calledBytes e)
+    → WroteBacked u (rowsCallsIn s′ z s x c) s′ (inBytes z) (rowsCallBy s′ z e l) (calledBytes e)
 carried u s x k f s′ z e c l =
     let r = chained s′ z s x [] k c in
     let t = linked s′ z (r .applied′) e (r .kept) l in
-    subst (λ (cs : List Call). WroteBacked u cs (inBytes z) (calledBytes e)) (λ i. (r .is i) ++ (t .is i) ∷ []) (f s′ z e (r .chain) (t .link))
+    let w = f s′ z e (r .chain) (t .link) in
+    let cs = callsIn s′ (inBytes z) s (inBytes x) (r .chain) in
+    let v = subst (λ (call : Call). WroteBacked u cs s′ (inBytes z) call (calledBytes e)) (t .is) w in
+    subst (λ (ds : List Call). WroteBacked u ds s′ (inBytes z) (rowsCallBy s′ z e l) (calledBytes e)) (r .is) v
 
 pub rows-backed : (u : Setup) (x : LentRows) (d : CalledRows) (y : LentRows) (s : Replica) (z : LentRows) (e : CalledRows) → CreateRowsPromise u x d
     → d .answer .code ≡ 0 → RowsHandedBack (d .lent) y → (c : RowsChain s z (d .answer .state) y) (l : RowsLink s z e)
-    → WroteBacked u (rowsCallsIn s z (d .answer .state) y c ++ rowsCallBy s z e l ∷ []) (inBytes z) (calledBytes e)
+    → WroteBacked u (rowsCallsIn s z (d .answer .state) y c) s (inBytes z) (rowsCallBy s z e l) (calledBytes e)
 rows-backed u x d y s z e p k h =
     let w = create-carried u x d p in
     carried u (d .answer .state) y (handed-rows _ _ _ _ h (w .1 k))
@@ -44,7 +47,7 @@ rows-backed u x d y s z e p k h =
 
 pub rows-backed-recovered : (u : Setup) (v : View) (nonce : ℕ) (x : LentRows) (d : CalledRows) (y : LentRows) (s : Replica) (z : LentRows) (e : CalledRows)
     → RecoverRowsPromise u v nonce x d → d .answer .code ≡ 0 → RowsHandedBack (d .lent) y → (c : RowsChain s z (d .answer .state) y) (l : RowsLink s z e)
-    → WroteBacked u (rowsCallsIn s z (d .answer .state) y c ++ rowsCallBy s z e l ∷ []) (inBytes z) (calledBytes e)
+    → WroteBacked u (rowsCallsIn s z (d .answer .state) y c) s (inBytes z) (rowsCallBy s z e l) (calledBytes e)
 rows-backed-recovered u v nonce x d y s z e p k h =
     let w = recover-carried u x d v nonce p in
     carried u (d .answer .state) y (handed-rows _ _ _ _ h (w .1 k))

@@ -4,15 +4,13 @@
 -- Assumes nothing.
 use mathlib.Core.Path.{_≡_, refl, sym, ap, _∙_, subst}
 use mathlib.Core.Bool.{true, false}
-use mathlib.Core.List.{List, [], _∷_, _++_}
+use mathlib.Core.List.{List, [], _∷_}
 use Prim.Native.Nat.{ℕ}
-use Rattle.numbers.specs.Numbers.{over}
 use Rattle.numbers.specs.declared.View.{View}
 use Rattle.entries.specs.declared.Entry.{Entry}
 use Rattle.config.specs.declared.Setup.{Setup}
 use Rattle.state.specs.declared.Replica.{Replica}
 use Rattle.state_bytes.specs.Layout.{stateOf, stateOk}
-use Rattle.model.specs.Sending.{messagesOut}
 use Rattle.safety.specs.Demand.{Call}
 use Rattle.replica.specs.Calls.{createCall, recoverCall}
 use Rattle.replica.specs.Lent.{Lent}
@@ -33,18 +31,22 @@ run-own-out state x applied state′ x′ g = own-out (stateOf state′) x′ _ 
 module _ (state : List ℕ) (x : Lent) (ok : stateOk state ≡ true) (kept : Kept (stateOf state) x []) (t : Replica) (holds : stateOf state ≡ t)
     (none-in : t .starts ≡ 0) (not-sent : t .sent ≡ false) where
   from-run : (state′ : List ℕ) (x′ : Lent) (d : Ran) (c : RunChain state′ x′ state x) (l : RunLink state′ x′ d)
-      → RunWroteBacked (t .setup) (runCallsIn state′ x′ state x c ++ runCallBy state′ x′ d l ∷ []) x′ d
+      → RunWroteBacked (t .setup) (runCallsIn state′ x′ state x c) state′ x′ (runCallBy state′ x′ d l) d
   from-run state′ x′ d c l =
       let r = chained state′ x′ state x ok c in
       let k = linked state′ x′ d (r .ok) l in
+      let s′ = stateOf state′ in
       let v = ap (λ (s : Replica). s .starts) holds ∙ none-in in
       let b = ap (λ (s : Replica). s .sent) holds ∙ not-sent in
-      let w = chain-backed (stateOf state) x [] kept v b (stateOf state′) x′ (r .chain) (k .call) (k .link) in
-      let cs = callsIn (stateOf state′) x′ (stateOf state) x (r .chain) ++ callBy (stateOf state′) x′ (k .call) (k .link) ∷ [] in
-      let f = subst (λ (s : Replica). WroteBacked (s .setup) cs x′ (k .call)) holds w in
-      let g = subst (λ (ds : List Call). WroteBacked (t .setup) ds x′ (k .call)) (λ i. (r .is i) ++ (k .is i) ∷ []) f in
+      let w = chain-backed (stateOf state) x [] kept v b s′ x′ (r .chain) (k .call) (k .link) in
+      let cs = callsIn s′ x′ (stateOf state) x (r .chain) in
+      let call = callBy s′ x′ (k .call) (k .link) in
+      let f = subst (λ (s : Replica). WroteBacked (s .setup) cs s′ x′ call (k .call)) holds w in
+      let h = subst (λ (ds : List Call). WroteBacked (t .setup) ds s′ x′ call (k .call)) (r .is) f in
+      let g = subst (λ (e : Call). WroteBacked (t .setup) (runCallsIn state′ x′ state x c) s′ x′ e (k .call)) (k .is) h in
       record {
-        sent = g .sent;
+        applied = g .applied;
+        kept = g .kept;
         replies = k .call .answer .replies;
         counts = k .counts ∙ ap (λ (n : ℕ). n ∷ k .call .answer .replies ∷ []) (g .messages);
         out = ap (λ (z : Lent). z .core .out) (k .lent) ∙ g .out;
@@ -53,7 +55,7 @@ module _ (state : List ℕ) (x : Lent) (ok : stateOk state ≡ true) (kept : Kep
 
 pub run-backed : (u : Setup) (state : List ℕ) (x : Lent) (d : Ran) (y : Lent) (state′ : List ℕ) (z : Lent) (e : Ran) → CreateRan u state x d
     → d .code ≡ 0 → HandedBack (d .lent) y → (c : RunChain state′ z (d .state) y) (l : RunLink state′ z e)
-    → RunWroteBacked u (runCallsIn state′ z (d .state) y c ++ runCallBy state′ z e l ∷ []) z e
+    → RunWroteBacked u (runCallsIn state′ z (d .state) y c) state′ z (runCallBy state′ z e l) e
 unfolding createRun
 run-backed u state x d y state′ z e p k h =
     let q = done-leaves state x _ _ d (p .exact) k in
@@ -63,7 +65,7 @@ run-backed u state x d y state′ z e p k h =
 
 pub run-backed-recovered : (u : Setup) (v : View) (nonce : ℕ) (state : List ℕ) (x : Lent) (d : Ran) (y : Lent) (state′ : List ℕ) (z : Lent) (e : Ran)
     → RecoverRan u v nonce state x d → d .code ≡ 0 → HandedBack (d .lent) y → (c : RunChain state′ z (d .state) y) (l : RunLink state′ z e)
-    → RunWroteBacked u (runCallsIn state′ z (d .state) y c ++ runCallBy state′ z e l ∷ []) z e
+    → RunWroteBacked u (runCallsIn state′ z (d .state) y c) state′ z (runCallBy state′ z e l) e
 unfolding recoverRun
 run-backed-recovered u v nonce state x d y state′ z e p k h =
     let q = done-leaves state x _ _ d (p .exact) k in
