@@ -2,7 +2,7 @@
 use mathlib.Core.Path.{refl}
 use Rattle.against_rust.specs.Shape.{RunHolds}
 use Rattle.against_rust.proofs.OpenRuns.{open-runs}
-use Rattle.against_rust.specs.Runs0.{run0, run1, run2, run3, run4, run5, run6, run7, run8, run9, run10, run11, run12, run13, run14, run15, run16, run17, run18, run19, run20, run21, run22, run23, run24, run25, run26, run27, run28, run29, run30, run31, run32, run33, run34, run35, run36, run37, run38, run39}
+use Rattle.against_rust.specs.Runs0.{run0, run1, run2, run3, run4, run5, run6, run7, run8, run9, run10, run11, run12, run13, run14, run15, run16, run17, run18, run19, run20, run21, run22, run23, run24, run25, run26, run27, run28, run29, run30, run31, run32, run33}
 
 pub hold0 : RunHolds run0
 unfolding open-runs run0
@@ -139,27 +139,3 @@ hold32 = refl
 pub hold33 : RunHolds run33
 unfolding open-runs run33
 hold33 = refl
-
-pub hold34 : RunHolds run34
-unfolding open-runs run34
-hold34 = refl
-
-pub hold35 : RunHolds run35
-unfolding open-runs run35
-hold35 = refl
-
-pub hold36 : RunHolds run36
-unfolding open-runs run36
-hold36 = refl
-
-pub hold37 : RunHolds run37
-unfolding open-runs run37
-hold37 = refl
-
-pub hold38 : RunHolds run38
-unfolding open-runs run38
-hold38 = refl
-
-pub hold39 : RunHolds run39
-unfolding open-runs run39
-hold39 = refl

@@ -2,7 +2,31 @@
 use mathlib.Core.Path.{refl}
 use Rattle.against_rust.specs.Shape.{RunHolds}
 use Rattle.against_rust.proofs.OpenRuns.{open-runs}
-use Rattle.against_rust.specs.Runs1.{run40, run41, run42, run43, run44, run45, run46, run47, run48, run49, run50, run51, run52, run53, run54, run55, run56, run57, run58, run59, run60, run61, run62, run63, run64, run65, run66, run67, run68, run69, run70, run71, run72, run73, run74, run75, run76, run77, run78, run79, run80, run81, run82, run83, run84, run85, run86, run87, run88, run89, run90, run91, run92, run93}
+use Rattle.against_rust.specs.Runs1.{run34, run35, run36, run37, run38, run39, run40, run41, run42, run43, run44, run45, run46, run47, run48, run49, run50, run51, run52, run53, run54, run55, run56, run57, run58, run59, run60, run61, run62, run63, run64, run65, run66, run67, run68, run69, run70, run71, run72, run73, run74, run75, run76, run77, run78, run79, run80, run81, run82, run83, run84, run85, run86, run87, run88}
+
+pub hold34 : RunHolds run34
+unfolding open-runs run34
+hold34 = refl
+
+pub hold35 : RunHolds run35
+unfolding open-runs run35
+hold35 = refl
+
+pub hold36 : RunHolds run36
+unfolding open-runs run36
+hold36 = refl
+
+pub hold37 : RunHolds run37
+unfolding open-runs run37
+hold37 = refl
+
+pub hold38 : RunHolds run38
+unfolding open-runs run38
+hold38 = refl
+
+pub hold39 : RunHolds run39
+unfolding open-runs run39
+hold39 = refl
 
 pub hold40 : RunHolds run40
 unfolding open-runs run40
@@ -199,23 +223,3 @@ hold87 = refl
 pub hold88 : RunHolds run88
 unfolding open-runs run88
 hold88 = refl
-
-pub hold89 : RunHolds run89
-unfolding open-runs run89
-hold89 = refl
-
-pub hold90 : RunHolds run90
-unfolding open-runs run90
-hold90 = refl
-
-pub hold91 : RunHolds run91
-unfolding open-runs run91
-hold91 = refl
-
-pub hold92 : RunHolds run92
-unfolding open-runs run92
-hold92 = refl
-
-pub hold93 : RunHolds run93
-unfolding open-runs run93
-hold93 = refl

@@ -2,7 +2,27 @@
 use mathlib.Core.Path.{refl}
 use Rattle.against_rust.specs.Shape.{RunHolds}
 use Rattle.against_rust.proofs.OpenRuns.{open-runs}
-use Rattle.against_rust.specs.Runs2.{run94, run95, run96, run97, run98, run99, run100, run101, run102, run103, run104, run105, run106, run107, run108, run109, run110, run111, run112}
+use Rattle.against_rust.specs.Runs2.{run89, run90, run91, run92, run93, run94, run95, run96, run97, run98, run99, run100, run101, run102, run103, run104, run105, run106}
+
+pub hold89 : RunHolds run89
+unfolding open-runs run89
+hold89 = refl
+
+pub hold90 : RunHolds run90
+unfolding open-runs run90
+hold90 = refl
+
+pub hold91 : RunHolds run91
+unfolding open-runs run91
+hold91 = refl
+
+pub hold92 : RunHolds run92
+unfolding open-runs run92
+hold92 = refl
+
+pub hold93 : RunHolds run93
+unfolding open-runs run93
+hold93 = refl
 
 pub hold94 : RunHolds run94
 unfolding open-runs run94
@@ -55,27 +75,3 @@ hold105 = refl
 pub hold106 : RunHolds run106
 unfolding open-runs run106
 hold106 = refl
-
-pub hold107 : RunHolds run107
-unfolding open-runs run107
-hold107 = refl
-
-pub hold108 : RunHolds run108
-unfolding open-runs run108
-hold108 = refl
-
-pub hold109 : RunHolds run109
-unfolding open-runs run109
-hold109 = refl
-
-pub hold110 : RunHolds run110
-unfolding open-runs run110
-hold110 = refl
-
-pub hold111 : RunHolds run111
-unfolding open-runs run111
-hold111 = refl
-
-pub hold112 : RunHolds run112
-unfolding open-runs run112
-hold112 = refl
