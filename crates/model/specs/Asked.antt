@@ -16,13 +16,13 @@ pub record OthersAsked (u : Setup) (Asked : (view r : ℕ) → Type 0) (v s : �
   pub own-out : bit s (u .id) ≡ 0
   pub asked : (r : ℕ) → r < u .n → Member r s → Asked v r
 
--- n/2 others asked for view v
+-- n/2 others, or more, asked for view v
 pub record HalfAsked (u : Setup) (Asked : (view r : ℕ) → Type 0) (v : ℕ) : Type 0 where
   pub ids : ℕ
   pub others : OthersAsked u Asked v ids
   pub half : u .n / 2 ≤ countBelow (u .n) ids
 
--- the votes of a state: those in the set asked for its view, and where our DoViewChange went out they are n/2
+-- the votes of a state: those in the set asked for its view, and where our DoViewChange went out they are n/2 or more
 pub record Voted (u : Setup) (Asked : (view r : ℕ) → Type 0) (m : State) : Type 0 where
   pub others : OthersAsked u Asked (m .place .view) (m .votes .starts)
   pub half : m .votes .sent ≡ true → u .n / 2 ≤ countBelow (u .n) (m .votes .starts)

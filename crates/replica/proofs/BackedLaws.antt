@@ -53,11 +53,11 @@ own-out s x applied k =
 -- ---- what a call wrote
 
 -- the messages of the model's answer a, in the area
-record Wrote (x : Lent) (d : Called) (a : Answer) : Type 0 where
+record InArea (x : Lent) (d : Called) (a : Answer) : Type 0 where
   messages : d .answer .messages ≡ length (messagesOut (sentBy a))
   out : d .lent .core .out ≡ over (messagesOut (sentBy a)) (x .core .out)
 
-wrote : (s : Replica) (x : Lent) (d : Called) (a : Answer) → Means (s .setup) s x d a → Wrote x d a
+wrote : (s : Replica) (x : Lent) (d : Called) (a : Answer) → Means (s .setup) s x d a → InArea x d a
 unfolding sentBy messagesOut packed over
 wrote s x d (refused k) e =
     record { messages = ap (λ (z : Called). z .answer .messages) e; out = ap (λ (z : Called). z .lent .core .out) e }
