@@ -216,8 +216,8 @@ extern "C" {
 #define WHITHERHAUL_STATE_OP_AT 22          /* 4: how many entries the log has */
 #define WHITHERHAUL_STATE_COMMIT_AT 26      /* 4: how many of them are committed */
 #define WHITHERHAUL_STATE_CLOCK_AT 30       /* heard 1 (0 or 1), waiting 4, stable 2, attempts 1 */
-#define WHITHERHAUL_STATE_STARTS_AT 38      /* 1: who sent StartViewChange for this view, a bit a
-                                               replica; bits from n on are 0 */
+#define WHITHERHAUL_STATE_STARTS_AT 38      /* 1: which others sent StartViewChange for this view,
+                                               a bit a replica; bits from n on are 0 */
 #define WHITHERHAUL_STATE_SENT_AT 39        /* 1: whether DoViewChange was sent, 0 or 1 */
 #define WHITHERHAUL_STATE_NONCE_AT 40       /* 8 */
 #define WHITHERHAUL_STATE_REPORTS_AT 48     /* 7 times: there 1, with a log 1, view 4, op 4, commit

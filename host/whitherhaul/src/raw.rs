@@ -127,7 +127,7 @@ pub mod state {
     pub const COMMIT_NUMBER: usize = 26;
     /// The idle clock: heard (1), waiting (4), stable (2), attempts (1).
     pub const CLOCK: usize = 30;
-    /// Who sent StartViewChange for this view, a bit a replica (1).
+    /// Which others sent StartViewChange for this view, a bit a replica (1).
     pub const STARTS: usize = 38;
     /// Whether DoViewChange was sent (1).
     pub const SENT: usize = 39;
