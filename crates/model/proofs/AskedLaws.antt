@@ -10,13 +10,13 @@ use native.Mathlib.Nat.{zero-div}
 use native.Mathlib.Omega.{arith}
 use mathlib.Core.Path.{_≡_, refl, sym, ap, _∙_, subst}
 use mathlib.Core.Logic.{_⊎_, inl, inr}
-use mathlib.Core.Bool.{Bool, true, false, not, false≢true}
+use mathlib.Core.Bool.{Bool, true, false, false≢true}
 use mathlib.Core.List.{List, [], _∷_, _++_}
 use mathlib.Core.Option.{Option, none, some}
-use lib.Dec.{ltb, leb, eqb}
+use lib.Dec.{ltb}
 use lib.ListN.{drop}
-use borrow.Author.Tests.{ltb-true, ltb-false, leb-true}
-use Rattle.numbers.specs.Words.{if_then_else_, _and_}
+use borrow.Author.Tests.{ltb-false, leb-true}
+use Rattle.numbers.specs.Words.{if_then_else_}
 use Rattle.numbers.specs.declared.View.{View}
 use Rattle.numbers.proofs.WordLaws.{split, and-right}
 use Rattle.entries.specs.declared.Entry.{Entry}
@@ -26,7 +26,6 @@ use Rattle.config.proofs.ReplicaLaws.{another-in, another-out, another-count}
 use Rattle.fees.specs.declared.Outcome.{Outcome}
 use Rattle.clock.specs.declared.Clock.{Clock}
 use Rattle.clock.specs.declared.Ticked.{Ticked}
-use Rattle.frames.specs.Messages.{carriedOf}
 use Rattle.frames.specs.Refusals.{checkFrame}
 use Rattle.frames.specs.declared.Status.{Status}
 use Rattle.frames.specs.declared.Message.{Message}
@@ -45,7 +44,7 @@ use Rattle.model.specs.ViewChange.{startChosen, recordDoViewChange, send
 use Rattle.model.specs.ViewChange.{onStartViewChange, onDoViewChange, joined, onStartView}
 use Rattle.model.specs.Recovery.{noted, forgotten, onRecovery, recovered, recoverWith, recoverFrom, recoverLatest, onRecoveryResponse}
 use Rattle.model.specs.Steps.{fitted, onMessage, onChecked, primaryTick, nextView, followTick, changeTick, onIdle, onFrame, onTick, newAt}
-use Rattle.model.specs.Asked.{OthersAsked, HalfAsked, Voted, Backed, AllBacked}
+use Rattle.model.specs.Asked.{OthersAsked, Voted, Backed, AllBacked}
 
 -- what a call answers: its votes follow from those before it, and each DoViewChange is backed
 pub data Fair (u : Setup) (Asked : ℕ → ℕ → Type 0) (m : State) : Answer → Type 0 where

@@ -5,7 +5,7 @@
 --     backed, backed-recovered    from a creation, and from a recovery, that wasn't refused
 -- Assumes nothing.
 use mathlib.Core.Path.{_≡_, refl, sym, ap, _∙_, subst}
-use mathlib.Core.Bool.{false, not}
+use mathlib.Core.Bool.{false}
 use mathlib.Core.List.{List, [], _∷_, _++_}
 use Prim.Native.Nat.{ℕ}
 use native.Mathlib.Omega.{arith}
@@ -27,7 +27,7 @@ use Rattle.model.specs.Sending.{messagesOut}
 use Rattle.model.specs.Asked.{AllBacked}
 use Rattle.model.proofs.AskedLaws.{no-votes}
 use Rattle.layout.specs.Layout.{modelOf}
-use Rattle.safety.specs.Demand.{Call, answer, run}
+use Rattle.safety.specs.Demand.{answer}
 use Rattle.safety.specs.Demand.Call.{tick}
 use Rattle.safety.specs.Earned.{AskedIn, sentBy}
 use Rattle.safety.proofs.Earned.{earned-from, earned}

@@ -3,7 +3,7 @@
 --     earned         from a creation that was not refused
 -- Assumes nothing.
 use Prim.Native.Nat.{ℕ}
-use mathlib.Core.Logic.{_⊎_, inl, inr}
+use mathlib.Core.Logic.{inl, inr}
 use mathlib.Core.List.{List, [], _∷_, _++_}
 use Rattle.config.specs.declared.Setup.{Setup}
 use Rattle.model.specs.State.{State, Answer, after}
