@@ -1,4 +1,5 @@
-//! Demand 3's facts, seen at run time on the library's own bytes after every call that wasn't refused.
+//! Demand 3's facts, and that the own id never joins the set of those who sent StartViewChange, seen at run time on the library's own
+//! bytes after every call that wasn't refused.
 //!
 //! What is held between calls is compared whole each time, so no change goes unnoticed: the applied entries with their results, the
 //! log as it was (one comparison of memory each), and all totals. Only what is new is worked out: entries behind the old log, and
@@ -29,6 +30,8 @@ pub struct Facts {
     /// The totals run that this makes.
     totals: Vec<u8>,
     view: u32,
+    /// The own id's bit in a set of replicas.
+    own: u8,
 }
 
 /// The number at a place of the state run.
@@ -62,6 +65,7 @@ impl Facts {
             refunds: vec![0; setup.members],
             totals: vec![0; 8 * setup.members],
             view,
+            own: 1 << setup.id,
         }
     }
 
@@ -77,6 +81,9 @@ impl Facts {
             return Err(format!("the view fell from {} to {view}", self.view));
         }
         self.view = view;
+        if memory.state[state::STARTS] & self.own != 0 {
+            return Err("the own id is among those who sent StartViewChange".into());
+        }
         let op = 32 * number(memory, state::OP_NUMBER) as usize;
         let commit = 32 * number(memory, state::COMMIT_NUMBER) as usize;
         if commit > op || op > memory.log.len() {
