@@ -1,0 +1,4 @@
+pub mod Journal
+pub mod Judging
+pub mod Steps
+pub mod Calls
