@@ -22,10 +22,10 @@ use Rattle.fees.specs.Results.{resultOf, outcomes}
 use Rattle.model.specs.Book.{resultsOf, through}
 use Rattle.model.proofs.BookLaws.{answers-length}
 use Rattle.journal.specs.Journal.{framesAfter, noTotals, journal, framedEntry, filed}
-use Rattle.journal.specs.Judging.{judged}
-use Rattle.journal.specs.Calls.{Writing, notWritten, writing, countOf, runOk, writeCall, framesIn, opsThere, appendCall}
-use Rattle.journal.specs.Calls.{Reading, notRead, readInto, readJudged, totalsThere, readCall}
-use Rattle.journal.specs.declared.Judged.{Judged}
+use Rattle.journal.specs.Examining.{examined}
+use Rattle.journal.specs.Calls.{LeftWritten, notWritten, writing, runCount, runOk, writeCall, framesIn, opsThere, appendCall}
+use Rattle.journal.specs.Calls.{LeftRead, notRead, readInto, readExamined, totalsThere, readCall}
+use Rattle.journal.specs.declared.Examined.{Examined}
 use Rattle.journal.proofs.FrameLaws.{frames-length}
 
 -- ---- writing
@@ -40,7 +40,7 @@ module _ (w area : List ℕ) (n : ℕ) (long : length w ≡ n) where
   writes-9 h = sym (if-true _ _ _ (lt-ltb (length area) (length w) (omega arith)))
 
   writes : (after : List ℕ) → n ≤ length area → after ≡ over w area
-      → _≡_ {A = Writing} (record { answer = record { code = 0; bytes = n }; area = after }) (writing w area)
+      → _≡_ {A = LeftWritten} (record { answer = record { code = 0; bytes = n }; area = after }) (writing w area)
   unfolding writing
   writes after h p =
       (λ i. record { answer = record { code = 0; bytes = sym long i }; area = p i })
@@ -57,27 +57,27 @@ module _ (M : ℕ) (run area : List ℕ) where
     write-2 e = sym (if-false _ _ _ (ap not m) ∙ if-true _ _ _ (ap not e))
 
     module _ (r : runOk run ≡ true) where
-      pub write-4 : 4096 < countOf run → notWritten 4 area ≡ writeCall M run area
+      pub write-4 : 4096 < runCount run → notWritten 4 area ≡ writeCall M run area
       unfolding writeCall
-      write-4 h = sym (if-false _ _ _ (ap not m) ∙ if-false _ _ _ (ap not r) ∙ if-true _ _ _ (lt-ltb 4096 (countOf run) h))
+      write-4 h = sym (if-false _ _ _ (ap not m) ∙ if-false _ _ _ (ap not r) ∙ if-true _ _ _ (lt-ltb 4096 (runCount run) h))
 
-      module _ (h : countOf run ≤ 4096) where
+      module _ (h : runCount run ≤ 4096) where
         abbrev w : List ℕ
-        w = journal M (entries (countOf run) run)
+        w = journal M (entries (runCount run) run)
 
         room-only : writing w area ≡ writeCall M run area
         unfolding writeCall
-        room-only = sym (if-false _ _ _ (ap not m) ∙ if-false _ _ _ (ap not r) ∙ if-false _ _ _ (le-ltb 4096 (countOf run) h))
+        room-only = sym (if-false _ _ _ (ap not m) ∙ if-false _ _ _ (ap not r) ∙ if-false _ _ _ (le-ltb 4096 (runCount run) h))
 
-        long : length w ≡ 50 * countOf run
-        long = journal-length M (entries (countOf run) run) ∙ ap (λ (k : ℕ). 50 * k) (cells-length 32 entryOf (countOf run) run)
+        long : length w ≡ 50 * runCount run
+        long = journal-length M (entries (runCount run) run) ∙ ap (λ (k : ℕ). 50 * k) (cells-length 32 entryOf (runCount run) run)
 
-        pub write-9 : length area < 50 * countOf run → notWritten 9 area ≡ writeCall M run area
-        write-9 l = writes-9 w area (50 * countOf run) long l ∙ room-only
+        pub write-9 : length area < 50 * runCount run → notWritten 9 area ≡ writeCall M run area
+        write-9 l = writes-9 w area (50 * runCount run) long l ∙ room-only
 
-        pub written : (after : List ℕ) → 50 * countOf run ≤ length area → after ≡ over (journal M (entries (countOf run) run)) area
-            → _≡_ {A = Writing} (record { answer = record { code = 0; bytes = 50 * countOf run }; area = after }) (writeCall M run area)
-        written after l p = writes w area (50 * countOf run) long after l p ∙ room-only
+        pub written : (after : List ℕ) → 50 * runCount run ≤ length area → after ≡ over (journal M (entries (runCount run) run)) area
+            → _≡_ {A = LeftWritten} (record { answer = record { code = 0; bytes = 50 * runCount run }; area = after }) (writeCall M run area)
+        written after l p = writes w area (50 * runCount run) long after l p ∙ room-only
 
 -- ---- appending
 
@@ -118,7 +118,7 @@ module _ (from to : ℕ) (log results : List ℕ) where
 
       pub appended : (after : List ℕ) → 50 * (to - from) ≤ length area
           → after ≡ over (framesAfter from (entries (to - from) (drop (entryPlace from) log)) (outcomes (to - from) (drop (resultPlace from) results))) area
-          → _≡_ {A = Writing} (record { answer = record { code = 0; bytes = 50 * (to - from) }; area = after }) (appendCall from to log results area)
+          → _≡_ {A = LeftWritten} (record { answer = record { code = 0; bytes = 50 * (to - from) }; area = after }) (appendCall from to log results area)
       unfolding framesIn
       appended after h p = writes (framesIn from to log results) area (50 * (to - from)) in-long after h p ∙ there-only
 
@@ -129,14 +129,14 @@ module _ (M : ℕ) (file area totals : List ℕ) where
   unfolding readCall
   read-1 e = sym (if-true _ _ _ (ap not e))
 
-  module _ (t : totalsThere M totals ≡ true) (j : Judged) (is : j ≡ judged M file) where
-    judged-only : readJudged M j file area totals ≡ readCall M file area totals
+  module _ (t : totalsThere M totals ≡ true) (j : Examined) (is : j ≡ examined M file) where
+    examined-only : readExamined M j file area totals ≡ readCall M file area totals
     unfolding readCall
-    judged-only = ap (λ (d : Judged). readJudged M d file area totals) is ∙ sym (if-false _ _ _ (ap not t))
+    examined-only = ap (λ (d : Examined). readExamined M d file area totals) is ∙ sym (if-false _ _ _ (ap not t))
 
     pub read-12 : (j .fault ≡ 0 → ⊥) → notRead 12 (50 * j .frames) (j .fault) area totals ≡ readCall M file area totals
-    unfolding readJudged
-    read-12 n = sym (if-false _ _ _ (ne-eqb (j .fault) 0 n)) ∙ judged-only
+    unfolding readExamined
+    read-12 n = sym (if-false _ _ _ (ne-eqb (j .fault) 0 n)) ∙ examined-only
 
     module _ (z : j .fault ≡ 0) where
       abbrev es : List Entry
@@ -146,8 +146,8 @@ module _ (M : ℕ) (file area totals : List ℕ) where
       count = cells-length 50 framedEntry (j .frames) file
 
       into-only : readInto M es area totals ≡ readCall M file area totals
-      unfolding readJudged
-      into-only = sym (if-true _ _ _ (eq-eqb (j .fault) 0 z)) ∙ judged-only
+      unfolding readExamined
+      into-only = sym (if-true _ _ _ (eq-eqb (j .fault) 0 z)) ∙ examined-only
 
       pub read-9 : length area < 32 * j .frames → notRead 9 0 0 area totals ≡ readCall M file area totals
       unfolding readInto
@@ -155,7 +155,7 @@ module _ (M : ℕ) (file area totals : List ℕ) where
 
       pub read-done : (area′ totals′ : List ℕ) → 32 * j .frames ≤ length area → area′ ≡ over (packed encodeEntry (filed (j .frames) file)) area
           → totals′ ≡ packed (big 8) (through (noTotals M) (filed (j .frames) file))
-          → _≡_ {A = Reading} (record { answer = record { code = 0; entries = j .frames; offset = 0; fault = 0 }; area = area′; totals = totals′ })
+          → _≡_ {A = LeftRead} (record { answer = record { code = 0; entries = j .frames; offset = 0; fault = 0 }; area = area′; totals = totals′ })
           (readCall M file area totals)
       unfolding readInto
       read-done area′ totals′ h p q =

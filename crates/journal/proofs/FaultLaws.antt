@@ -1,7 +1,8 @@
 -- Laws of a frame's faults.
 --     form-at       the form of the frame at a place, by places
 --     fault-form, fault-result    a frame whose form is bad; one whose form is good
---     form-good     what a good form says
+--     form-good, good-form    what a good form says, and that it is all
+--     passed        a test that would give another number has failed
 --     frame-there, entry-there, result-there    where its parts stand
 -- Assumes nothing.
 use mathlib.Core.Path.{_≡_, refl, sym, ap, _∙_}
@@ -22,7 +23,7 @@ use Rattle.entries.specs.Entries.{entryOf, entryOk}
 use Rattle.fees.specs.Results.{resultOf}
 use Rattle.model.specs.Book.{outcome}
 use Rattle.journal.specs.Journal.{framedEntry, framedResult}
-use Rattle.journal.specs.Judging.{formFault, resultFault, fault}
+use Rattle.journal.specs.Examining.{formFault, resultFault, fault}
 
 short-at : (n at : ℕ) → ltb (n - at) 50 ≡ ltb n (at + 50)
 short-at n at = go _ refl
@@ -62,7 +63,7 @@ pub record GoodForm (op : ℕ) (s : List ℕ) : Type 0 where
   pub entry-ok : entryOk (drop 9 s) ≡ true
 
 -- a test that would give another number than 0 has failed
-passed : (b : Bool) (k rest : ℕ) → 0 < k → (if b then k else rest) ≡ 0 → (b ≡ false) × (rest ≡ 0)
+pub passed : (b : Bool) (k rest : ℕ) → 0 < k → (if b then k else rest) ≡ 0 → (b ≡ false) × (rest ≡ 0)
 unfolding if_then_else_
 passed true k rest p e = absurd (omega arith)
 passed false k rest p e = (refl, e)
@@ -82,6 +83,13 @@ form-good op s e =
       op-is = eqb-true _ _ (not-false _ (d .0));
       entry-ok = not-false _ (f .0);
     }
+
+pub good-form : (op : ℕ) (s : List ℕ) → GoodForm op s → formFault op s ≡ 0
+unfolding formFault
+good-form op s g =
+    if-false _ _ _ (le-ltb (length s) 50 (g .long)) ∙ if-false _ _ _ (ap not (eq-eqb (num 4 0 s) 46 (g .length-is)))
+    ∙ if-false _ _ _ (ap not (eq-eqb (num 1 4 s) 1 (g .version-is))) ∙ if-false _ _ _ (ap not (eq-eqb (num 4 5 s) op (g .op-is)))
+    ∙ if-false _ _ _ (ap not (g .entry-ok))
 
 module _ (at : ℕ) (s : List ℕ) where
   pub frame-there : (op : ℕ) → formFault op (drop at s) ≡ 0 → at + 50 ≤ length s

@@ -1,6 +1,10 @@
 pub mod FrameLaws
 pub mod FaultLaws
 pub mod TotalLaws
-pub mod JudgeLaws
+pub mod ExamineLaws
 pub mod TakingLaws
 pub mod CallLaws
+pub mod SmallLaws
+pub mod GoodLaws
+pub mod WholeLaws
+pub mod RoundLaws

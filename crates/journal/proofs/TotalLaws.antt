@@ -61,7 +61,7 @@ zero-bytes zero i = omega arith
 zero-bytes (suc n) zero = omega arith
 zero-bytes (suc n) (suc i) = zero-bytes n i
 
-abbrev TotalFits : ℕ → Type 0
+abbrev pub TotalFits : ℕ → Type 0
 TotalFits t = t < 2 ^ 64
 
 pub total-codec : Codec 8 totalOf (big 8) TotalFits

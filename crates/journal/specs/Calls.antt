@@ -19,8 +19,8 @@ use Rattle.model.specs.Book.{through}
 use Rattle.layout.specs.Layout.{totalOf}
 use Rattle.safety.specs.Money.{sum}
 use Rattle.journal.specs.Journal.{framesAfter, noTotals, journal, framedEntry, framedResult, filed}
-use Rattle.journal.specs.Judging.{formFault, judged}
-use Rattle.journal.specs.declared.Judged.{Judged}
+use Rattle.journal.specs.Examining.{formFault, examined}
+use Rattle.journal.specs.declared.Examined.{Examined}
 use Rattle.journal.specs.declared.Written.{Written}
 use Rattle.journal.specs.declared.ReadBack.{ReadBack}
 use Rattle.journal.specs.declared.Framed.{Framed}
@@ -29,32 +29,32 @@ use Rattle.journal.specs.declared.Added.{Added}
 -- ---- writing and appending
 
 -- what a call that writes frames leaves
-pub record Writing : Type 0 where
+pub record LeftWritten : Type 0 where
   pub answer : Written
   pub area : List ℕ
 
-abbrev pub notWritten : (code : ℕ) (area : List ℕ) → Writing
+abbrev pub notWritten : (code : ℕ) (area : List ℕ) → LeftWritten
 notWritten k area = record { answer = record { code = k; bytes = 0 }; area = area }
 
 -- the bytes w at the front of the area, where they fit
-unfoldable pub writing : (w area : List ℕ) → Writing
+unfoldable pub writing : (w area : List ℕ) → LeftWritten
 writing w area =
     if ltb (length area) (length w) then notWritten 9 area else
     record { answer = record { code = 0; bytes = length w }; area = over w area }
 
 -- a run of entries, 32 bytes each; a rest of fewer bytes is an entry outside its rules
-abbrev pub countOf : (run : List ℕ) → ℕ
-countOf run = length run / 32
+abbrev pub runCount : (run : List ℕ) → ℕ
+runCount run = length run / 32
 
 unfoldable pub runOk : (run : List ℕ) → Bool
-runOk run = eqb (length run % 32) 0 and entriesOk (countOf run) run
+runOk run = eqb (length run % 32) 0 and entriesOk (runCount run) run
 
-unfoldable pub writeCall : (M : ℕ) (run area : List ℕ) → Writing
+unfoldable pub writeCall : (M : ℕ) (run area : List ℕ) → LeftWritten
 writeCall M run area =
     if not (within 1 4096 M) then notWritten 1 area else
     if not (runOk run) then notWritten 2 area else
-    if ltb 4096 (countOf run) then notWritten 4 area else
-    writing (journal M (entries (countOf run) run)) area
+    if ltb 4096 (runCount run) then notWritten 4 area else
+    writing (journal M (entries (runCount run) run)) area
 
 -- the frames of ops from + 1 to `to` out of a replica's log and results
 unfoldable pub framesIn : (from to : ℕ) (log results : List ℕ) → List ℕ
@@ -66,7 +66,7 @@ unfoldable pub opsThere : (from to : ℕ) (log results : List ℕ) → Bool
 opsThere from to log results =
     leb from to and leb to 4096 and leb (entryPlace to) (length log) and leb (resultPlace to) (length results)
 
-unfoldable pub appendCall : (from to : ℕ) (log results area : List ℕ) → Writing
+unfoldable pub appendCall : (from to : ℕ) (log results area : List ℕ) → LeftWritten
 appendCall from to log results area =
     if not (opsThere from to log results) then notWritten 1 area else
     writing (framesIn from to log results) area
@@ -74,16 +74,16 @@ appendCall from to log results area =
 -- ---- reading
 
 -- what reading leaves: the area for the entries, and the run of totals
-pub record Reading : Type 0 where
+pub record LeftRead : Type 0 where
   pub answer : ReadBack
   pub area : List ℕ
   pub totals : List ℕ
 
-abbrev pub notRead : (code offset fault : ℕ) (area totals : List ℕ) → Reading
+abbrev pub notRead : (code offset fault : ℕ) (area totals : List ℕ) → LeftRead
 notRead k p f area totals = record { answer = record { code = k; entries = 0; offset = p; fault = f }; area = area; totals = totals }
 
 -- a file that is good: its entries over the front of the area, where they fit, and the members' totals after them
-unfoldable pub readInto : (M : ℕ) → List Entry → (area totals : List ℕ) → Reading
+unfoldable pub readInto : (M : ℕ) → List Entry → (area totals : List ℕ) → LeftRead
 readInto M es area totals =
     if ltb (length area) (32 * length es) then notRead 9 0 0 area totals else
     record {
@@ -92,8 +92,8 @@ readInto M es area totals =
       totals = packed (big 8) (through (noTotals M) es);
     }
 
-unfoldable pub readJudged : (M : ℕ) → Judged → (file area totals : List ℕ) → Reading
-readJudged M j file area totals =
+unfoldable pub readExamined : (M : ℕ) → Examined → (file area totals : List ℕ) → LeftRead
+readExamined M j file area totals =
     if eqb (j .fault) 0 then readInto M (filed (j .frames) file) area totals else
     notRead 12 (50 * j .frames) (j .fault) area totals
 
@@ -101,10 +101,10 @@ readJudged M j file area totals =
 unfoldable pub totalsThere : (M : ℕ) (totals : List ℕ) → Bool
 totalsThere M totals = within 1 4096 M and eqb (length totals) (8 * M)
 
-unfoldable pub readCall : (M : ℕ) (file area totals : List ℕ) → Reading
+unfoldable pub readCall : (M : ℕ) (file area totals : List ℕ) → LeftRead
 readCall M file area totals =
     if not (totalsThere M totals) then notRead 1 0 0 area totals else
-    readJudged M (judged M file) file area totals
+    readExamined M (examined M file) file area totals
 
 -- ---- looking at a journal
 

@@ -1,4 +1,5 @@
 pub mod Journal
-pub mod Judging
+pub mod Examining
 pub mod Steps
 pub mod Calls
+pub mod Laws

@@ -6,7 +6,7 @@ use entries::Entry;
 use fees::Outcome;
 
 mod writing; // frames into an area
-mod judging; // the first bad frame of a file
+mod examining; // the first bad frame of a file
 
 // The refusal's number, 0 where the call is done, and how many bytes were written.
 pub struct Written {
@@ -15,7 +15,7 @@ pub struct Written {
 }
 
 // So many good frames, and what is wrong with what follows, by number: 1 cut short, 2 length, 3 version, 4 op number, 5 entry, 6 outcome, 7 total, 8 past op number 4,096. 0: nothing follows.
-pub struct Judged {
+pub struct Examined {
     pub frames: usize,
     pub fault: u8,
 }
@@ -111,7 +111,7 @@ fn totals_there(members: u32, totals: &[u8]) -> bool
     totals.len() == 8 * members as usize
 }
 
-// A file's entries into the area, 32 bytes each, and the members' totals after them. The whole file is judged first, on totals of the call's own: what is lent keeps no trace of a bad one.
+// A file's entries into the area, 32 bytes each, and the members' totals after them. The whole file is examined first, on totals of the call's own: what is lent keeps no trace of a bad one.
 pub fn read(members: u32, file: &[u8], area: &mut [u8], totals: &mut [u8]) -> ReadBack
     ensures { λ r. ⌜ (record { answer = r; area = last area; totals = last totals }) ≡ readCall members (was file) (was area) (was totals) ⌝ }
 {
@@ -119,14 +119,14 @@ pub fn read(members: u32, file: &[u8], area: &mut [u8], totals: &mut [u8]) -> Re
         return not_read(1, 0, 0);
     }
     let mut own: [u8; 32768] = [0; 32768];
-    let j = judging::judge(members, file, &mut own);
+    let j = examining::examine(members, file, &mut own);
     if j.fault != 0 {
         return not_read(12, 50 * j.frames, j.fault);
     }
     if area.len() < 32 * j.frames {
         return not_read(9, 0, 0);
     }
-    judging::copy_entries(file, j.frames, area);
+    examining::copy_entries(file, j.frames, area);
     numbers::copy(totals, &own, 8 * members as usize);
     ReadBack {
         code: 0,
@@ -159,7 +159,7 @@ pub fn frame(file: &[u8], i: usize) -> Framed
     if 4096 <= i {
         return not_framed(8);
     }
-    let fault = judging::form_fault(file, 50 * i, (i + 1) as u32);
+    let fault = examining::form_fault(file, 50 * i, (i + 1) as u32);
     if fault != 0 {
         return not_framed(fault);
     }

@@ -45,7 +45,7 @@ use Rattle.numbers.specs.declared.View.{View}
 use Rattle.journal.specs.Journal.{framesAfter, noTotals, journal}
 use Rattle.journal.specs.Calls.{framesIn, opsThere}
 use Rattle.journal.proofs.FrameLaws.{frames-join}
-use Rattle.kept_journal.specs.Appended.{framesOf, opsOf, appendedBy, appendedIn, runAppendedBy, runAppendedIn, Completes, Journaled, JournalKept}
+use Rattle.kept_journal.specs.Appended.{framesOf, opsOf, journaledBy, journaledIn, runJournaledBy, runJournaledIn, Completes, Journaled, JournalKept}
 
 -- frames out of bytes, from any op on, complete those before it
 frames-split : (from to : ℕ) (log results : List ℕ) → from ≤ to
@@ -174,7 +174,7 @@ stays s x applied k =
     record { applied′ = applied; kept = k; setup = refl; safe = safe-kept s x applied k; is = append-nil (journal (s .setup .members) applied) }
 
 pub journaled : (s′ : Replica) (x′ : Lent) (s : Replica) (x : Lent) (applied : List Entry) → Kept s x applied → (c : Chain s′ x′ s x)
-    → Journaled s applied s′ x′ (appendedIn s′ x′ s x c)
+    → Journaled s applied s′ x′ (journaledIn s′ x′ s x c)
 journaled s′ x′ s x applied k none = stays s′ x′ applied k
 journaled s′ x′ s x applied k (more _ _ d y l h c) =
     let t = d .answer .state in
@@ -184,7 +184,7 @@ journaled s′ x′ s x applied k (more _ _ d y l h c) =
 -- the same at the C boundary
 pub run-journaled : (state′ : List ℕ) (x′ : Lent) (state : List ℕ) (x : Lent) (applied : List Entry) → stateOk state ≡ true
     → Kept (stateOf state) x applied → (c : RunChain state′ x′ state x)
-    → Journaled (stateOf state) applied (stateOf state′) x′ (runAppendedIn state′ x′ state x c)
+    → Journaled (stateOf state) applied (stateOf state′) x′ (runJournaledIn state′ x′ state x c)
 run-journaled state′ x′ state x applied ok k no-run = stays (stateOf state′) x′ applied k
 run-journaled state′ x′ state x applied ok k (more-runs _ _ d y l h c) =
     let t = stateOf (d .state) in
@@ -207,16 +207,16 @@ from-nothing s s′ x′ w r =
     }
 
 pub journal-kept : (u : Setup) (x : Lent) (d : Called) (y : Lent) (s : Replica) (z : Lent) → CreatePromise u x d → d .answer .code ≡ 0
-    → HandedBack (d .lent) y → (c : Chain s z (d .answer .state) y) → JournalKept s z (appendedIn s z (d .answer .state) y c)
+    → HandedBack (d .lent) y → (c : Chain s z (d .answer .state) y) → JournalKept s z (journaledIn s z (d .answer .state) y c)
 journal-kept u x d y s z p e h c = from-nothing _ _ _ _ (journaled s z _ y [] (handed-kept _ _ _ _ h (p .keeps e)) c)
 
 pub journal-kept-recovered : (u : Setup) (v : View) (nonce : ℕ) (x : Lent) (d : Called) (y : Lent) (s : Replica) (z : Lent)
     → RecoverPromise u v nonce x d → d .answer .code ≡ 0 → HandedBack (d .lent) y → (c : Chain s z (d .answer .state) y)
-    → JournalKept s z (appendedIn s z (d .answer .state) y c)
+    → JournalKept s z (journaledIn s z (d .answer .state) y c)
 journal-kept-recovered u v nonce x d y s z p e h c = from-nothing _ _ _ _ (journaled s z _ y [] (handed-kept _ _ _ _ h (p .keeps e)) c)
 
 pub run-journal-kept : (u : Setup) (state : List ℕ) (x : Lent) (d : Ran) (y : Lent) (state′ : List ℕ) (z : Lent) → CreateRan u state x d
-    → d .code ≡ 0 → HandedBack (d .lent) y → (c : RunChain state′ z (d .state) y) → JournalKept (stateOf state′) z (runAppendedIn state′ z (d .state) y c)
+    → d .code ≡ 0 → HandedBack (d .lent) y → (c : RunChain state′ z (d .state) y) → JournalKept (stateOf state′) z (runJournaledIn state′ z (d .state) y c)
 unfolding createRun
 run-journal-kept u state x d y state′ z p e h c =
     let b = begun state y (createCall u x) d (done-leaves state x _ _ d (p .exact) e) (p .next e) (p .call .keeps) e h in
@@ -224,7 +224,7 @@ run-journal-kept u state x d y state′ z p e h c =
 
 pub run-journal-kept-recovered : (u : Setup) (v : View) (nonce : ℕ) (state : List ℕ) (x : Lent) (d : Ran) (y : Lent) (state′ : List ℕ) (z : Lent)
     → RecoverRan u v nonce state x d → d .code ≡ 0 → HandedBack (d .lent) y → (c : RunChain state′ z (d .state) y)
-    → JournalKept (stateOf state′) z (runAppendedIn state′ z (d .state) y c)
+    → JournalKept (stateOf state′) z (runJournaledIn state′ z (d .state) y c)
 unfolding recoverRun
 run-journal-kept-recovered u v nonce state x d y state′ z p e h c =
     let b = begun state y (recoverCall u v nonce x) d (done-leaves state x _ _ d (p .exact) e) (p .next e) (p .call .keeps) e h in

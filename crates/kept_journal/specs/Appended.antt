@@ -27,21 +27,21 @@ abbrev pub opsOf : (from to : ℕ) → Lent → Type 0
 opsOf from to x = opsThere from to (x .core .runs .log) (x .core .runs .money .results) ≡ true
 
 -- after a call: the ops that it committed, out of what it left
-abbrev pub appendedBy : Replica → Called → List ℕ
-appendedBy s d = framesOf (s .commit .0) (d .answer .state .commit .0) (d .lent)
+abbrev pub journaledBy : Replica → Called → List ℕ
+journaledBy s d = framesOf (s .commit .0) (d .answer .state .commit .0) (d .lent)
 
 -- after each call of a chain, one after the other
-abbrev pub appendedIn : (s′ : Replica) (x′ : Lent) (s : Replica) (x : Lent) → Chain s′ x′ s x → List ℕ
-appendedIn s′ x′ s x none = []
-appendedIn s′ x′ s x (more _ _ d y l h c) = appendedBy s d ++ appendedIn s′ x′ (d .answer .state) y c
+abbrev pub journaledIn : (s′ : Replica) (x′ : Lent) (s : Replica) (x : Lent) → Chain s′ x′ s x → List ℕ
+journaledIn s′ x′ s x none = []
+journaledIn s′ x′ s x (more _ _ d y l h c) = journaledBy s d ++ journaledIn s′ x′ (d .answer .state) y c
 
 -- the same at the C boundary, where the state lies in a run
-abbrev pub runAppendedBy : (state : List ℕ) → Ran → List ℕ
-runAppendedBy state d = framesOf (stateOf state .commit .0) (stateOf (d .state) .commit .0) (d .lent)
+abbrev pub runJournaledBy : (state : List ℕ) → Ran → List ℕ
+runJournaledBy state d = framesOf (stateOf state .commit .0) (stateOf (d .state) .commit .0) (d .lent)
 
-abbrev pub runAppendedIn : (state′ : List ℕ) (x′ : Lent) (state : List ℕ) (x : Lent) → RunChain state′ x′ state x → List ℕ
-runAppendedIn state′ x′ state x no-run = []
-runAppendedIn state′ x′ state x (more-runs _ _ d y l h c) = runAppendedBy state d ++ runAppendedIn state′ x′ (d .state) y c
+abbrev pub runJournaledIn : (state′ : List ℕ) (x′ : Lent) (state : List ℕ) (x : Lent) → RunChain state′ x′ state x → List ℕ
+runJournaledIn state′ x′ state x no-run = []
+runJournaledIn state′ x′ state x (more-runs _ _ d y l h c) = runJournaledBy state d ++ runJournaledIn state′ x′ (d .state) y c
 
 -- State s and memory x, with the entries that were applied: any of the last ops, taken out of memory, complete the journal of those before them.
 pub record Completes (s : Replica) (x : Lent) (applied : List Entry) (from : ℕ) : Type 0 where

@@ -2,16 +2,16 @@
 use mathlib.Core.List.{List, [], _∷_}
 use Prim.Native.Nat.{ℕ}
 use lib.ListN.{getD}
-use Rattle.journal.specs.Calls.{Writing, Reading}
+use Rattle.journal.specs.Calls.{LeftWritten, LeftRead}
 use Rattle.journal.specs.declared.Framed.{Framed}
 use Rattle.journal.specs.declared.Added.{Added}
 
 -- a call that writes frames: it returned this number, and left these bytes written and this area
-abbrev pub wrote : (code bytes : ℕ) (area : List ℕ) → Writing
+abbrev pub wrote : (code bytes : ℕ) (area : List ℕ) → LeftWritten
 wrote k n area = record { answer = record { code = k; bytes = n }; area = area }
 
 -- a file read: it returned this number, and left entries, offset and fault, this area and these totals
-abbrev pub readAs : (code : ℕ) (answers area totals : List ℕ) → Reading
+abbrev pub readAs : (code : ℕ) (answers area totals : List ℕ) → LeftRead
 readAs k answers area totals =
     record {
       answer = record { code = k; entries = getD answers 0 0; offset = getD answers 1 0; fault = getD answers 2 0 };

@@ -8,7 +8,7 @@ use borrow.Author.Tests.{not-true, not-false}
 use lib.ListN.{length-replicate}
 use Rattle.model.specs.Book.{through}
 use Rattle.journal.specs.Journal.{filed}
-use Rattle.journal.specs.Judging.{judged, judgedAfter}
+use Rattle.journal.specs.Examining.{examined, examinedAfter}
 use Rattle.journal.specs.declared.ReadBack.{ReadBack}
 use Rattle.journal.proofs.TotalLaws.{zero-totals, totals-written}
 use Rattle.journal.proofs.TakingLaws.{there-is}
@@ -23,15 +23,15 @@ returns c =
     ap (λ (x : ReadBack). record { answer = x; area = a .area .now; totals = a .totals .now }) (c .not-read .ensures)
     ∙ read-1 (a .members) (a .file .now) (a .area .now) (a .totals .now) (sym (t .totals-there .ensures) ∙ not-true _ (c .before .if1 .taken))
 
-judge-requires : tie.Need-judge-requires
-judge-requires c κs =
+examine-requires : tie.Need-examine-requires
+examine-requires c κs =
     let t = c .before .before in
     let a = t .before .before .before .before .before .args in
     let h = there-is (a .members) (a .totals .now) (sym (t .totals-there .ensures) ∙ not-false _ (c .before .if1 .left)) in
     simp length-replicate (omega (arith, h .few))
 
 returns-2 : tie.Need-returns-2
-unfolding judged
+unfolding examined
 returns-2 c =
     let j = c .before .before .before .before .before in
     let t = j .before .before .before in
@@ -39,11 +39,11 @@ returns-2 c =
     let e = sym (t .totals-there .ensures) ∙ not-false _ (j .before .before .if1 .left) in
     let z = zero-totals (a .members) 32768 (omega (arith, there-is (a .members) (a .totals .now) e .few)) in
     ap (λ (x : ReadBack). record { answer = x; area = a .area .now; totals = a .totals .now }) (c .not-read2 .ensures)
-    ∙ read-12 (a .members) (a .file .now) (a .area .now) (a .totals .now) e (j .judge .result)
-    (j .judge .ensures .is ∙ ap (λ (ts : List ℕ). judgedAfter 4096 0 ts (a .file .now)) z) (c .before .before .if2 .taken)
+    ∙ read-12 (a .members) (a .file .now) (a .area .now) (a .totals .now) e (j .examine .result)
+    (j .examine .ensures .is ∙ ap (λ (ts : List ℕ). examinedAfter 4096 0 ts (a .file .now)) z) (c .before .before .if2 .taken)
 
 returns-3 : tie.Need-returns-3
-unfolding judged
+unfolding examined
 returns-3 c =
     let j = c .before .before .before .before .before .before in
     let t = j .before .before .before in
@@ -51,8 +51,8 @@ returns-3 c =
     let e = sym (t .totals-there .ensures) ∙ not-false _ (j .before .before .if1 .left) in
     let z = zero-totals (a .members) 32768 (omega (arith, there-is (a .members) (a .totals .now) e .few)) in
     ap (λ (x : ReadBack). record { answer = x; area = a .area .now; totals = a .totals .now }) (c .not-read3 .ensures)
-    ∙ read-9 (a .members) (a .file .now) (a .area .now) (a .totals .now) e (j .judge .result)
-    (j .judge .ensures .is ∙ ap (λ (ts : List ℕ). judgedAfter 4096 0 ts (a .file .now)) z) (c .before .before .before .if2 .left) (c .before .if3 .taken)
+    ∙ read-9 (a .members) (a .file .now) (a .area .now) (a .totals .now) e (j .examine .result)
+    (j .examine .ensures .is ∙ ap (λ (ts : List ℕ). examinedAfter 4096 0 ts (a .file .now)) z) (c .before .before .before .if2 .left) (c .before .if3 .taken)
 
 copy-requires : tie.Need-copy-requires
 copy-requires c κs =
@@ -60,10 +60,10 @@ copy-requires c κs =
     let t = j .before .before .before in
     let a = t .before .before .before .before .before .args in
     let h = there-is (a .members) (a .totals .now) (sym (t .totals-there .ensures) ∙ not-false _ (j .before .before .if1 .left)) in
-    (omega (arith, h .long), omega (arith, j .judge .kept, length-replicate {A = ℕ} 32768 0, h .few))
+    (omega (arith, h .long), omega (arith, j .examine .kept, length-replicate {A = ℕ} 32768 0, h .few))
 
 returns-4 : tie.Need-returns-4
-unfolding judged
+unfolding examined
 returns-4 c =
     let j = c .before .before .before .before .before .before .before .before .before .before .before .before .before .before in
     let f = c .before .before .before .before .before .before .before .before .before .before .before in
@@ -73,12 +73,12 @@ returns-4 c =
     let e = sym (t .totals-there .ensures) ∙ not-false _ (j .before .before .if1 .left) in
     let h = there-is M (a .totals .now) e in
     let z = zero-totals M 32768 (omega (arith, h .few)) in
-    let o = j .judge .ensures in
-    let s = o .totals (f .if2 .left) ∙ ap (λ (ts : List ℕ). through ts (filed (j .judge .result .frames) (a .file .now))) z in
-    read-done M (a .file .now) (a .area .now) (a .totals .now) e (j .judge .result)
-    (o .is ∙ ap (λ (ts : List ℕ). judgedAfter 4096 0 ts (a .file .now)) z) (f .if2 .left) _ _
+    let o = j .examine .ensures in
+    let s = o .totals (f .if2 .left) ∙ ap (λ (ts : List ℕ). through ts (filed (j .examine .result .frames) (a .file .now))) z in
+    read-done M (a .file .now) (a .area .now) (a .totals .now) e (j .examine .result)
+    (o .is ∙ ap (λ (ts : List ℕ). examinedAfter 4096 0 ts (a .file .now)) z) (f .if2 .left) _ _
     (c .before .before .before .before .before .before .before .before .before .if3 .left) (c .before .before .before .before .before .before .before .copy-entries .ensures)
-    (c .before .before .copy .ensures ∙ totals-written M _ (a .totals .now) _ (o .bytes (f .if2 .left)) (omega (arith, j .judge .kept, length-replicate {A = ℕ} 32768 0, h .few)) (h .long) s)
+    (c .before .before .copy .ensures ∙ totals-written M _ (a .totals .now) _ (o .bytes (f .if2 .left)) (omega (arith, j .examine .kept, length-replicate {A = ℕ} 32768 0, h .few)) (h .long) s)
 
 pub read-spec : {M : Type 1} → statement M
 read-spec =
@@ -89,7 +89,7 @@ read-spec =
     (λ c. search needs)
     returns
     (λ c. search needs)
-    judge-requires
+    examine-requires
     (λ c. search needs)
     (λ c κs. search needs)
     (λ c. search needs)

@@ -11,7 +11,7 @@ use Rattle.numbers.proofs.NumberLaws.{within-both}
 use Rattle.entries.specs.Entries.{entries}
 use Rattle.model.specs.Book.{resultsOf}
 use Rattle.journal.specs.Journal.{framesAfter, journal}
-use Rattle.journal.specs.Calls.{countOf}
+use Rattle.journal.specs.Calls.{runCount}
 use Rattle.journal.specs.declared.Written.{Written}
 use Rattle.journal.proofs.TotalLaws.{zero-totals}
 use Rattle.journal.proofs.CallLaws.{write-1, write-2, write-4, write-9, written}
@@ -67,7 +67,7 @@ returns-5 c =
     let d = r .before .before in
     let a = d .before .before .before .args in
     let M = a .members in
-    let es = entries (countOf (a .run .now)) (a .run .now) in
+    let es = entries (runCount (a .run .now)) (a .run .now) in
     let m = sym (d .within .ensures) ∙ not-false _ (r .before .if1 .left) in
     let z = zero-totals M 32768 (omega (arith, within-both 1 4096 M m .1)) in
     written M (a .run .now) (a .area .now) m (sym (r .run-ok .ensures) ∙ not-false _ (w .before .before .before .before .before .if2 .left))

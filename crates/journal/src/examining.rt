@@ -7,9 +7,9 @@ ghost use Rattle.numbers.specs.Cells.{packed};
 ghost use Rattle.numbers.specs.Lending.{was, last};
 ghost use Rattle.entries.specs.Entries.{encodeEntry};
 ghost use Rattle.journal.specs.Journal.{filed};
-ghost use Rattle.journal.specs.Judging.{formFault, resultFault};
-ghost use Rattle.journal.specs.Steps.{JudgesOne, Judges};
-use crate::Judged;
+ghost use Rattle.journal.specs.Examining.{formFault, resultFault};
+ghost use Rattle.journal.specs.Steps.{ExaminesOne, Examines};
+use crate::Examined;
 use fees::Outcome;
 
 // What is wrong with the form of the frame at place `at`, which has to have this op number.
@@ -49,9 +49,9 @@ fn result_fault(given: Outcome, stands: Outcome) -> u8
 }
 
 // What is wrong with frame number i + 1 of a file, on the members' totals before it. Where it is nothing, they are left as they are after it.
-fn judge_one(members: u32, file: &[u8], i: usize, totals: &mut [u8]) -> u8
+fn examine_one(members: u32, file: &[u8], i: usize, totals: &mut [u8]) -> u8
     requires { ⌜ (i < 4096) × (8 * members ≤ length (now totals)) ⌝ }
-    ensures { λ r. ⌜ JudgesOne members (was file) i (was totals) (last totals) r ⌝ }
+    ensures { λ r. ⌜ ExaminesOne members (was file) i (was totals) (last totals) r ⌝ }
 {
     let at = 50 * i;
     let fault = form_fault(file, at, (i + 1) as u32);
@@ -63,25 +63,25 @@ fn judge_one(members: u32, file: &[u8], i: usize, totals: &mut [u8]) -> u8
 }
 
 // A file up to its first bad frame, by the fee rules on these totals. They are left as they are after the last frame, where all are good.
-pub fn judge(members: u32, file: &[u8], totals: &mut [u8]) -> Judged
+pub fn examine(members: u32, file: &[u8], totals: &mut [u8]) -> Examined
     requires { ⌜ 8 * members ≤ length (now totals) ⌝ }
-    ensures { λ r. ⌜ Judges members (was file) (was totals) (last totals) r ⌝ }
+    ensures { λ r. ⌜ Examines members (was file) (was totals) (last totals) r ⌝ }
 {
     let mut i: usize = 0;
     while 50 * i < file.len() {
         if i == 4096 {
-            return Judged {
+            return Examined {
                 frames: i,
                 fault: 8,
             };
         }
-        let fault = judge_one(members, file, i, totals);
+        let fault = examine_one(members, file, i, totals);
         if fault != 0 {
-            return Judged { frames: i, fault };
+            return Examined { frames: i, fault };
         }
         i += 1;
     }
-    Judged {
+    Examined {
         frames: i,
         fault: 0,
     }

@@ -1,5 +1,5 @@
 -- Document 02, which frame of a journal is bad: one that is cut short; one whose length, version or entry is wrong; op numbers that don't run 1, 2, 3
--- to at most 4,096; an outcome or a total that the fee rules don't give. A file is judged frame by frame up to its first bad one. Assumes nothing.
+-- to at most 4,096; an outcome or a total that the fee rules don't give. A file is examined frame by frame up to its first bad one. Assumes nothing.
 use mathlib.Core.Bool.{Bool, not}
 use mathlib.Core.List.{List}
 use Prim.Native.Nat.{ℕ, zero, suc}
@@ -11,7 +11,7 @@ use Rattle.entries.specs.Entries.{entryOk}
 use Rattle.fees.specs.declared.Outcome.{Outcome}
 use Rattle.model.specs.Book.{outcome, totalsAfter}
 use Rattle.journal.specs.Journal.{noTotals, framedEntry, framedResult}
-use Rattle.journal.specs.declared.Judged.{Judged}
+use Rattle.journal.specs.declared.Examined.{Examined}
 
 -- What is wrong with the frame at the front of s, which has to have this op number: 1 cut short, 2 length, 3 version, 4 op number, 5 entry. 0: nothing.
 unfoldable pub formFault : (op : ℕ) (s : List ℕ) → ℕ
@@ -37,17 +37,17 @@ fault op ts s =
     formFault op s
 
 -- so many good frames, and what is wrong with what follows; 0: nothing follows
-abbrev pub judgedAs : (frames fault : ℕ) → Judged
-judgedAs k f = record { frames = k; fault = f }
+abbrev pub examinedAs : (frames fault : ℕ) → Examined
+examinedAs k f = record { frames = k; fault = f }
 
 -- What is left of a file behind i good frames, after which the members have totals ts, where k more may come. 8: frames past the last that may come.
-unfoldable pub judgedAfter : (k i : ℕ) (ts s : List ℕ) → Judged
-judgedAfter zero i ts s = if eqb (length s) 0 then judgedAs i 0 else judgedAs i 8
-judgedAfter (suc k) i ts s =
-    if eqb (length s) 0 then judgedAs i 0 else
-    if eqb (fault (suc i) ts s) 0 then judgedAfter k (suc i) (totalsAfter ts (framedEntry s)) (drop 50 s) else
-    judgedAs i (fault (suc i) ts s)
+unfoldable pub examinedAfter : (k i : ℕ) (ts s : List ℕ) → Examined
+examinedAfter zero i ts s = if eqb (length s) 0 then examinedAs i 0 else examinedAs i 8
+examinedAfter (suc k) i ts s =
+    if eqb (length s) 0 then examinedAs i 0 else
+    if eqb (fault (suc i) ts s) 0 then examinedAfter k (suc i) (totalsAfter ts (framedEntry s)) (drop 50 s) else
+    examinedAs i (fault (suc i) ts s)
 
 -- a file, for M members
-unfoldable pub judged : (M : ℕ) (file : List ℕ) → Judged
-judged M file = judgedAfter 4096 0 (noTotals M) file
+unfoldable pub examined : (M : ℕ) (file : List ℕ) → Examined
+examined M file = examinedAfter 4096 0 (noTotals M) file

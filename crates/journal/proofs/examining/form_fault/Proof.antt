@@ -1,10 +1,10 @@
--- `journal::judging::form_fault` meets its contract. Assumes nothing.
+-- `journal::examining::form_fault` meets its contract. Assumes nothing.
 use borrow.Author.Needs.{needs}
 use borrow.Author.Tests.{lt-ltb, le-ltb, ne-eqb, eq-eqb, not-true, not-false}
 use Rattle.numbers.specs.Words.{if_then_else_}
 use Rattle.journal.proofs.FaultLaws.{form-at}
-use Rattle.journal.proofs.judging.form_fault.Statement.{statement}
-use Rattle.journal.proofs.judging.form_fault.Tie as tie
+use Rattle.journal.proofs.examining.form_fault.Statement.{statement}
+use Rattle.journal.proofs.examining.form_fault.Tie as tie
 
 returns : tie.Need-returns
 unfolding if_then_else_

@@ -1,9 +1,9 @@
--- `journal::judging::result_fault` meets its contract. Assumes nothing.
+-- `journal::examining::result_fault` meets its contract. Assumes nothing.
 use borrow.Author.Tests.{ne-eqb, eq-eqb}
 use Rattle.numbers.specs.Words.{if_then_else_}
-use Rattle.journal.specs.Judging.{resultFault}
-use Rattle.journal.proofs.judging.result_fault.Statement.{statement}
-use Rattle.journal.proofs.judging.result_fault.Tie as tie
+use Rattle.journal.specs.Examining.{resultFault}
+use Rattle.journal.proofs.examining.result_fault.Statement.{statement}
+use Rattle.journal.proofs.examining.result_fault.Tie as tie
 
 returns : tie.Need-returns
 unfolding if_then_else_ resultFault

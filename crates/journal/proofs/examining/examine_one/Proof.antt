@@ -1,4 +1,4 @@
--- `journal::judging::judge_one` meets its contract. Assumes nothing.
+-- `journal::examining::examine_one` meets its contract. Assumes nothing.
 use mathlib.Core.Path.{_≡_, refl, sym, ap, _∙_}
 use Prim.Native.Nat.{_+_, _*_}
 use native.Mathlib.Omega.{arith}
@@ -9,11 +9,11 @@ use Rattle.fees.specs.Fees.{totalBytesAfter}
 use Rattle.model.specs.Book.{outcome}
 use Rattle.layout.specs.Layout.{totalOf}
 use Rattle.journal.specs.Journal.{framedEntry}
-use Rattle.journal.specs.Judging.{resultFault}
+use Rattle.journal.specs.Examining.{resultFault}
 use Rattle.journal.proofs.FaultLaws.{fault-form, fault-result, frame-there, entry-there, result-there}
 use Rattle.journal.proofs.TotalLaws.{given-is}
-use Rattle.journal.proofs.judging.judge_one.Statement.{statement}
-use Rattle.journal.proofs.judging.judge_one.Tie as tie
+use Rattle.journal.proofs.examining.examine_one.Statement.{statement}
+use Rattle.journal.proofs.examining.examine_one.Tie as tie
 
 returns : tie.Need-returns
 returns c =
@@ -60,8 +60,8 @@ returns-2 c =
       totals = λ _. o .ensures .1 ∙ ap (totalBytesAfter M (a .totals .now)) q;
     }
 
-pub judge-one-spec : {M : Type 1} → statement M
-judge-one-spec =
+pub examine-one-spec : {M : Type 1} → statement M
+examine-one-spec =
     tie.close
     (tie.spec
     (λ c. search needs)

@@ -1,4 +1,4 @@
--- `journal::judging::copy_entries` meets its contract. Assumes nothing.
+-- `journal::examining::copy_entries` meets its contract. Assumes nothing.
 use mathlib.Core.Path.{_≡_, refl, ap, _∙_}
 use Prim.Native.Nat.{ℕ, _-_, _≤_}
 use native.Mathlib.Omega.{arith}
@@ -9,8 +9,8 @@ use Rattle.numbers.specs.Cells.{packed}
 use Rattle.entries.specs.Entries.{encodeEntry}
 use Rattle.journal.specs.Journal.{filed}
 use Rattle.journal.proofs.FrameLaws.{entries-none, entries-more}
-use Rattle.journal.proofs.judging.copy_entries.Statement.{statement}
-use Rattle.journal.proofs.judging.copy_entries.Tie as tie
+use Rattle.journal.proofs.examining.copy_entries.Statement.{statement}
+use Rattle.journal.proofs.examining.copy_entries.Tie as tie
 
 abbrev Inv-loop : tie.InvT-loop
 Inv-loop file k area₀ j₀ area j = (j ≤ k) × (length area ≡ length area₀) × (area ≡ over (packed encodeEntry (filed j file)) area₀)

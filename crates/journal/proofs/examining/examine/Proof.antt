@@ -1,4 +1,4 @@
--- `journal::judging::judge` meets its contract. Assumes nothing.
+-- `journal::examining::examine` meets its contract. Assumes nothing.
 use mathlib.Core.Path.{_≡_, refl, sym, _∙_}
 use Prim.Native.Nat.{_-_, _*_, _≤_, _<_}
 use native.Mathlib.Omega.{arith}
@@ -9,18 +9,18 @@ use Rattle.numbers.specs.Cells.{cells}
 use Rattle.model.specs.Book.{through}
 use Rattle.layout.specs.Layout.{totalOf}
 use Rattle.journal.specs.Journal.{framedEntry, filed}
-use Rattle.journal.specs.Judging.{judgedAfter}
-use Rattle.journal.proofs.JudgeLaws.{judged-end, stops-past, stops-bad, goes-on, good-there}
+use Rattle.journal.specs.Examining.{examinedAfter}
+use Rattle.journal.proofs.ExamineLaws.{examined-end, stops-past, stops-bad, goes-on, good-there}
 use Rattle.journal.proofs.TotalLaws.{through-none, through-more, after-is}
-use Rattle.journal.proofs.judging.judge.Statement.{statement}
-use Rattle.journal.proofs.judging.judge.Tie as tie
+use Rattle.journal.proofs.examining.examine.Statement.{statement}
+use Rattle.journal.proofs.examining.examine.Tie as tie
 
 -- i frames are good, the totals are those after them, and the whole answer is that of what is left
 abbrev Inv-loop : tie.InvT-loop
 Inv-loop members file totals₀ i₀ totals i =
     (i ≤ 4096) × (50 * i ≤ length file) × (length totals ≡ length totals₀) × Bytes totals
     × (cells 8 totalOf members totals ≡ through (cells 8 totalOf members totals₀) (filed i file))
-    × (judgedAfter 4096 0 (cells 8 totalOf members totals₀) file ≡ judgedAfter (4096 - i) i (cells 8 totalOf members totals) (drop (50 * i) file))
+    × (examinedAfter 4096 0 (cells 8 totalOf members totals₀) file ≡ examinedAfter (4096 - i) i (cells 8 totalOf members totals) (drop (50 * i) file))
 
 abbrev μ-loop : tie.MeasureT-loop
 μ-loop members file totals₀ i₀ totals i = 4096 - i
@@ -49,7 +49,7 @@ returns-2 c =
     let d = c .before .before .before .before .before in
     let l = d .before .before .loop in
     let a = d .before .before .before .before .before .args in
-    let o = c .before .before .before .judge-one in
+    let o = c .before .before .before .examine-one in
     let ts = cells 8 totalOf (a .members) (l .totals) in
     let r : l .i < 4096 = omega (arith, d .if1 .left, l .inv .0) in
     let t = stops-bad 4096 (l .i) ts (a .file .now) (d .before .loop-test .taken) r (o .result) (o .ensures .is) (c .if2 .taken) in
@@ -67,7 +67,7 @@ loop-again c =
     let l = d .before .before .loop in
     let g = d .before .before .before .before .before in
     let a = g .args in
-    let o = c .before .before .before .judge-one in
+    let o = c .before .before .before .examine-one in
     let M = a .members in
     let file = a .file .now in
     let s = drop (50 * l .i) file in
@@ -91,15 +91,15 @@ returns-3 c =
     let ts = cells 8 totalOf (a .members) (l .totals) in
     let z : length (drop (50 * l .i) (a .file .now)) ≡ 0 = simp length-drop (omega (arith, c .loop-test .left)) in
     record {
-      is = sym (l .inv .5 ∙ judged-end (l .i) ts (drop (50 * l .i) (a .file .now)) (4096 - l .i) z);
+      is = sym (l .inv .5 ∙ examined-end (l .i) ts (drop (50 * l .i) (a .file .now)) (4096 - l .i) z);
       few = l .inv .0;
       there = l .inv .1;
       bytes = λ _. l .inv .3;
       totals = λ _. l .inv .4;
     }
 
-pub judge-spec : {M : Type 1} → statement M
-judge-spec =
+pub examine-spec : {M : Type 1} → statement M
+examine-spec =
     tie.close
     (tie.spec
     Inv-loop
