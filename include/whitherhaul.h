@@ -141,7 +141,7 @@ extern "C" {
 #define WHITHERHAUL_REFUSED_MALFORMED 2
 /* 3: addressee isn't this replica, or sender not below n. */
 #define WHITHERHAUL_REFUSED_REPLICA 3
-/* 4: an op number above L, or an append at L entries. */
+/* 4: an op number above L, or an append at L entries; journal: more than 4,096 entries. */
 #define WHITHERHAUL_REFUSED_ROOM 4
 /* 5: a commit number past the carried log, or a commit past the own log. */
 #define WHITHERHAUL_REFUSED_COMMIT 5
@@ -151,12 +151,14 @@ extern "C" {
 #define WHITHERHAUL_REFUSED_COMMITTED 7
 /* 8: a tick would move past view 4,294,967,295. */
 #define WHITHERHAUL_REFUSED_LAST_VIEW 8
-/* 9: the messages don't fit `out`, or a client's frames its area. */
+/* 9: the messages don't fit `out`, or a client's frames or what a journal's call writes its area. */
 #define WHITHERHAUL_REFUSED_MESSAGES 9
 /* 10: the replies don't fit `reps`. */
 #define WHITHERHAUL_REFUSED_REPLIES 10
 /* 11: client: the next request number is 2^64-1. */
 #define WHITHERHAUL_REFUSED_NUMBERS 11
+/* 12: a frame of a journal is bad (whitherhaul_journal.h). */
+#define WHITHERHAUL_REFUSED_JOURNAL 12
 
 /*
  * Sizes: n is 3 to 7, an id 0 to n-1, T (timeout, in ticks) 1 to 65,535, L and M 1 to 4,096. A
@@ -397,7 +399,7 @@ static inline const char *whitherhaul_words(uint8_t number)
     case WHITHERHAUL_REFUSED_REPLICA:
         return "for another replica, or from one that isn't there";
     case WHITHERHAUL_REFUSED_ROOM:
-        return "past the room of the log";
+        return "past the room of the log, or of a journal";
     case WHITHERHAUL_REFUSED_COMMIT:
         return "a commit number past the log";
     case WHITHERHAUL_REFUSED_RISING:
@@ -407,11 +409,13 @@ static inline const char *whitherhaul_words(uint8_t number)
     case WHITHERHAUL_REFUSED_LAST_VIEW:
         return "past the last view, 4294967295";
     case WHITHERHAUL_REFUSED_MESSAGES:
-        return "the messages don't fit their area";
+        return "the messages, or a journal's bytes, don't fit their area";
     case WHITHERHAUL_REFUSED_REPLIES:
         return "the replies don't fit their area";
     case WHITHERHAUL_REFUSED_NUMBERS:
         return "the next request number is 2^64-1";
+    case WHITHERHAUL_REFUSED_JOURNAL:
+        return "bad journal frame";
     default:
         return "no number of this library";
     }

@@ -1,7 +1,7 @@
-//! Links the proved library, `libwhitherhaul.a`: that of the repository, or of the folder that
-//! `WHITHERHAUL_ARCHIVE_DIR` names.
+//! Links the proved library, `libwhitherhaul_journal.a` and with the feature `replica`
+//! `libwhitherhaul.a`: those of the repository, or of the folder that `WHITHERHAUL_ARCHIVE_DIR` names.
 //!
-//! Without it `cargo check` and `cargo doc` still work. Whatever has to be linked fails, and the
+//! Without them `cargo check` and `cargo doc` still work. Whatever has to be linked fails, and the
 //! warning says why.
 
 use std::env;
@@ -23,18 +23,26 @@ fn main() {
         );
         return;
     }
-    let archive = folder.join("libwhitherhaul.a");
+    println!("cargo::rustc-link-search=native={}", folder.display());
+    link(&folder, "whitherhaul_journal");
+    if env::var_os("CARGO_FEATURE_REPLICA").is_some() {
+        link(&folder, "whitherhaul");
+    }
+}
+
+/// Links the archive with this name.
+fn link(folder: &Path, name: &str) {
+    let archive = folder.join(format!("lib{name}.a"));
     println!("cargo::rerun-if-changed={}", archive.display());
     if !archive.exists() {
-        missing(&archive);
+        missing(&archive, name);
     }
-    println!("cargo::rustc-link-search=native={}", folder.display());
-    println!("cargo::rustc-link-lib=static=whitherhaul");
+    println!("cargo::rustc-link-lib=static={name}");
 }
 
 /// Says what to do. Cargo runs this program again as long as a path that it watches isn't there, and
 /// one that never is sees to it that an archive is noticed also where its time is an old one.
-fn missing(archive: &Path) {
+fn missing(archive: &Path, name: &str) {
     let out = env::var_os("OUT_DIR").expect("cargo says where");
     let never = Path::new(&out).join("never");
     println!("cargo::rerun-if-changed={}", never.display());
@@ -42,7 +50,7 @@ fn missing(archive: &Path) {
         "cargo::warning={} isn't there, so nothing can be linked.",
         archive.display()
     );
-    println!("cargo::warning=Run `tools/native-archive whitherhaul` in Whitherhaul's repository, or name the archive's folder by {OVERRIDE}.");
+    println!("cargo::warning=Run `tools/native-archive {name}` in Whitherhaul's repository, or name the archive's folder by {OVERRIDE}.");
 }
 
 /// The repository's root, where this crate lies in it.

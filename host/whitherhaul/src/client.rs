@@ -1,8 +1,8 @@
 //! A client: a desk that charges fees.
 
-use crate::entries::{u32_at, u64_at, Operation, Reply};
+use crate::entries::{u32_at, u64_at, Operation};
 use crate::frames::{Frames, Messages, ADDRESSEE};
-use crate::{raw, Refusal};
+use crate::{raw, Refusal, Reply};
 use std::fmt;
 
 /// How long a Request frame is.

@@ -1,6 +1,4 @@
-//! What frames carry: entries, what they gave, and Replies, read from document 01's bytes.
-
-use crate::{raw, Refusal};
+//! What frames carry: entries, and what they gave, by document 01's bytes.
 
 /// What an entry asks for.
 #[derive(Clone, Copy, Debug, PartialEq, Eq, Hash)]
@@ -11,6 +9,18 @@ pub enum Operation {
     Refund,
     /// The total is asked for: 0 cents.
     Ask,
+}
+
+impl Operation {
+    /// The operation with this number, 1 to 3.
+    pub fn from_number(number: u8) -> Option<Operation> {
+        Some(match number {
+            1 => Operation::Fee,
+            2 => Operation::Refund,
+            3 => Operation::Ask,
+            _ => return None,
+        })
+    }
 }
 
 /// What an entry gave when it was applied.
@@ -66,45 +76,21 @@ impl Entry {
         Entry {
             client: u64_at(bytes, 0),
             request: u64_at(bytes, 8),
-            operation: match bytes[16] {
-                1 => Operation::Fee,
-                2 => Operation::Refund,
-                _ => Operation::Ask,
-            },
+            operation: Operation::from_number(bytes[16]).unwrap_or(Operation::Ask),
             member: u32_at(bytes, 20),
             cents: u64_at(bytes, 24),
         }
     }
-}
 
-/// What a Reply says.
-#[derive(Clone, Copy, Debug, PartialEq, Eq, Hash)]
-pub struct Reply {
-    /// The view in which it was sent, which a client follows.
-    pub view: u32,
-    /// The client that it is for.
-    pub client: u64,
-    /// The request that it answers.
-    pub request: u64,
-    /// What the request gave.
-    pub outcome: Outcome,
-    /// The member's total after it; 0 where there is no such member.
-    pub total: u64,
-}
-
-impl Reply {
-    /// Reads a Reply. [`Refusal::Malformed`] where the bytes are no well-formed one.
-    pub fn read(frame: &[u8]) -> Result<Reply, Refusal> {
-        let (number, said, offset) = raw::read_reply(frame);
-        Refusal::check_frame(number, offset, frame)?;
-        let [view, client, request, outcome, total] = said;
-        Ok(Reply {
-            view: view as u32,
-            client,
-            request,
-            outcome: Outcome::from_number(outcome as u8).expect("a Reply's outcome is 1 to 6"),
-            total,
-        })
+    /// Its 32 bytes.
+    pub(crate) fn bytes(&self) -> [u8; 32] {
+        let mut bytes = [0; 32];
+        bytes[..8].copy_from_slice(&self.client.to_be_bytes());
+        bytes[8..16].copy_from_slice(&self.request.to_be_bytes());
+        bytes[16] = self.operation as u8;
+        bytes[20..24].copy_from_slice(&self.member.to_be_bytes());
+        bytes[24..].copy_from_slice(&self.cents.to_be_bytes());
+        bytes
     }
 }
 

@@ -1,6 +1,6 @@
 //! Frames as they stand in a run of bytes, and what a call sent.
 
-use crate::entries::Reply;
+use crate::Reply;
 use std::fmt;
 use std::iter::FusedIterator;
 

@@ -79,12 +79,45 @@
 //! assert_eq!(asked, [0, 2]);
 //! ```
 //!
+//! # A journal
+//!
+//! What is applied can be kept on disk, a frame of 50 bytes for each entry. After a call the owner
+//! appends the frames behind those that he has. Whoever reads them back gets the entries and, by the
+//! fee rules, the totals; a file that isn't what these rules give is refused at its first bad frame
+//! ([`Fault`] says what is wrong with it). Here with a file in memory, and a charge that one other
+//! replica holds too:
+//!
+//! ```
+//! use whitherhaul::{Client, Journal, Operation, Replica, Setup};
+//!
+//! # fn main() -> Result<(), whitherhaul::Refusal> {
+//! let setup = Setup { replicas: 3, id: 0, timeout: 3, room: 8, members: 8 };
+//! let mut replica = Replica::new(&setup)?;
+//! let mut desk = Client::new(3, 7)?;
+//! replica.on_message(desk.on_request(Operation::Fee, 3, 4_500)?.frame)?;
+//! replica.on_message(&[0, 0, 0, 12, 1, 3, 0, 0, 0, 0, 0, 0, 0, 0, 1, 1])?; // PrepareOk of 1
+//!
+//! let mut file = Vec::new();
+//! file.extend(replica.journal_since(0)?);
+//! file.extend(replica.journal_since(1)?); // nothing new
+//! let journal = Journal::read(setup.members, &file)?;
+//! assert_eq!(journal.entries(), [replica.entry(1)]);
+//! assert_eq!((journal.total(3), journal.takings()), (4_500, 4_500));
+//! # Ok(())
+//! # }
+//! ```
+//!
 //! # What is linked
 //!
-//! The proved library is the archive `libwhitherhaul.a`, which `tools/native-archive whitherhaul`
-//! writes to `target/staticlib/native` of the repository. The build takes it from there, or from
-//! the folder that the environment variable `WHITHERHAUL_ARCHIVE_DIR` names by an absolute path.
-//! `cargo check` and `cargo doc` work without it, with a warning; a build fails.
+//! The proved library is two archives, which `tools/native-archive whitherhaul` and
+//! `tools/native-archive whitherhaul_journal` write to `target/staticlib/native` of the repository:
+//! `libwhitherhaul.a`, and for journals `libwhitherhaul_journal.a`. The build takes them from there,
+//! or from the folder that the environment variable `WHITHERHAUL_ARCHIVE_DIR` names by an absolute
+//! path. `cargo check` and `cargo doc` work without them, with a warning; a build fails.
+//!
+//! A program that has to do with journals alone takes this crate with `default-features = false`.
+//! Then [`Journal`], [`journal`] and the journal's calls in [`raw`] are there, and only the second
+//! archive is linked. Everything else is of the feature `replica`.
 //!
 //! # Where the rules are
 //!
@@ -97,18 +130,33 @@
 #![deny(missing_debug_implementations)]
 #![deny(unsafe_code)]
 
+#[cfg(feature = "replica")]
 mod client;
 mod entries;
+mod fault;
+#[cfg(feature = "replica")]
 mod frames;
+pub mod journal;
 #[allow(unsafe_code)]
 pub mod raw;
 mod refusal;
+#[cfg(feature = "replica")]
 mod replica;
+#[cfg(feature = "replica")]
+mod reply;
 
+#[cfg(feature = "replica")]
 pub use client::{Client, Requested};
-pub use entries::{Entry, Operation, Outcome, Reply};
+pub use entries::{Entry, Operation, Outcome};
+pub use fault::Fault;
+#[cfg(feature = "replica")]
 pub use frames::{addressee, kind, Frames, Messages, Replies, Sent};
+pub use journal::{Journal, JournalFrame};
+#[cfg(feature = "replica")]
 #[doc(inline)]
 pub use raw::Counts;
 pub use refusal::Refusal;
+#[cfg(feature = "replica")]
 pub use replica::{Replica, Setup, Status, DEFAULT_TIMEOUT};
+#[cfg(feature = "replica")]
+pub use reply::Reply;

@@ -1,12 +1,15 @@
 //! Why a call was refused.
 
+use crate::journal::FRAME_LENGTH;
+use crate::Fault;
 use std::fmt;
 
-/// Document 01's refusals. A refused call left the replica, or the client, and every lent byte as
-/// they were.
+/// Why a call was refused: document 01's refusals, and the journal's. A refused call left the
+/// replica, or the client, and every lent byte as they were.
 ///
 /// Each has a number ([`Refusal::number`]), and 2 is two of them: a frame that is malformed, which
-/// says where, and a client's own request outside the entry rules, where there is no frame.
+/// says where, and an entry outside the entry rules that a client or the writer of a journal was
+/// given, where there is no frame.
 ///
 /// A later release may add numbers, so a `match` outside this crate needs an arm for those that it
 /// doesn't name:
@@ -28,7 +31,8 @@ use std::fmt;
 #[non_exhaustive]
 pub enum Refusal {
     /// 1: the setup is outside the sizes, the own id isn't below n, a number of the state is out of
-    /// range, or a lent run has another length than the setup gives it.
+    /// range, or a lent run has another length than the setup gives it; of a journal: M isn't 1 to
+    /// 4,096, or the ops asked for aren't committed.
     OutsideSizes,
     /// 2 on a frame, a replica's or a Reply: it is malformed.
     ///
@@ -62,11 +66,13 @@ pub enum Refusal {
         /// How many bytes were handed over as the frame.
         length: usize,
     },
-    /// 2 of a client's request: operation or cents outside the entry rules.
+    /// 2 of a client's request, or of an entry for a journal: operation or cents outside the entry
+    /// rules.
     OutsideEntryRules,
     /// 3: the frame is for another replica, or its sender isn't below n.
     WrongReplica,
-    /// 4: an op number above the log's room, or an append to a full log.
+    /// 4: an op number above the log's room, or an append to a full log; of a journal: more than
+    /// 4,096 entries.
     PastRoom,
     /// 5: a commit number above the carried log, or a commit past the own log.
     CommitPastLog,
@@ -77,16 +83,23 @@ pub enum Refusal {
     CommittedAltered,
     /// 8: a tick would move past the last view, 4,294,967,295.
     PastLastView,
-    /// 9: the messages don't fit their area.
+    /// 9: the messages don't fit their area, or what a journal's call writes doesn't.
     MessagesDontFit,
     /// 10: the replies don't fit their area.
     RepliesDontFit,
     /// 11: of a client: the next request number is 2^64-1.
     NumbersUsedUp,
+    /// 12: a frame of a journal is bad, the first that is.
+    BadFrame {
+        /// Where its first byte stands in the file: 50 for each good frame before it.
+        offset: usize,
+        /// What is wrong with it.
+        fault: Fault,
+    },
 }
 
 impl Refusal {
-    /// Document 01's number: 1 to 11 in this release.
+    /// Its number: 1 to 12 in this release.
     pub fn number(self) -> u8 {
         match self {
             Refusal::OutsideSizes => 1,
@@ -100,24 +113,27 @@ impl Refusal {
             Refusal::MessagesDontFit => 9,
             Refusal::RepliesDontFit => 10,
             Refusal::NumbersUsedUp => 11,
+            Refusal::BadFrame { .. } => 12,
         }
     }
 
     /// What a number alone says; none where this release has no such number. The refusal itself
-    /// says more of 2: which of its two cases it is, and where in the frame.
+    /// says more of 2: which of its two cases it is, and where in the frame; and of 12: where in the
+    /// file, and what is wrong there.
     pub fn words(number: u8) -> Option<&'static str> {
         Some(match number {
             1 => "setup or state outside the sizes, or a lent run of another length",
             2 => "malformed frame, or operation or cents outside the entry rules",
             3 => "for another replica, or from one that isn't there",
-            4 => "past the room of the log",
+            4 => "past the room of the log, or of a journal",
             5 => "a commit number past the log",
             6 => "request numbers of a client that don't rise along the log",
             7 => "committed entries would be shortened or altered",
             8 => "past the last view, 4294967295",
-            9 => "the messages don't fit their area",
+            9 => "the messages, or a journal's bytes, don't fit their area",
             10 => "the replies don't fit their area",
             11 => "the next request number is 2^64-1",
+            12 => "bad journal frame",
             _ => return None,
         })
     }
@@ -131,6 +147,7 @@ impl Refusal {
     }
 
     /// The same of a call that reads a frame, with the offset that it gave.
+    #[cfg(feature = "replica")]
     pub(crate) fn check_frame(number: u8, offset: usize, frame: &[u8]) -> Result<(), Refusal> {
         match number {
             0 => Ok(()),
@@ -138,7 +155,16 @@ impl Refusal {
         }
     }
 
+    /// The same of a call that reads a journal, with the offset and the fault that it gave.
+    pub(crate) fn check_journal(number: u8, offset: usize, fault: u8) -> Result<(), Refusal> {
+        match (number, Fault::from_number(fault)) {
+            (12, Some(fault)) => Err(Refusal::BadFrame { offset, fault }),
+            _ => Refusal::check(number),
+        }
+    }
+
     /// The refusal with this number, of a frame. Most calls are done, and don't come here.
+    #[cfg(feature = "replica")]
     #[cold]
     fn of_frame(number: u8, offset: usize, length: usize) -> Refusal {
         match number {
@@ -162,7 +188,7 @@ impl Refusal {
             9 => Refusal::MessagesDontFit,
             10 => Refusal::RepliesDontFit,
             11 => Refusal::NumbersUsedUp,
-            _ => panic!("{number} is no number of document 01"),
+            _ => panic!("{number} is no number of a refusal"),
         }
     }
 }
@@ -184,7 +210,11 @@ impl fmt::Display for Refusal {
                 )
             }
             Refusal::OutsideEntryRules => f.write_str("operation or cents outside the entry rules"),
-            _ => f.write_str(Refusal::words(number).expect("a number of document 01")),
+            Refusal::BadFrame { offset, fault } => {
+                let op = offset / FRAME_LENGTH + 1;
+                write!(f, "bad journal frame at byte {offset} (op {op}): {fault}")
+            }
+            _ => f.write_str(Refusal::words(number).expect("a refusal's number")),
         }
     }
 }

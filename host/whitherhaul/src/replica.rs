@@ -2,6 +2,7 @@
 
 use crate::entries::{u32_at, u64_at, Entry, Outcome};
 use crate::frames::Sent;
+use crate::journal::{FRAME_LENGTH, MOST_FRAMES};
 use crate::raw::{self, state, Bytes, Counts, Memory};
 use crate::Refusal;
 use std::fmt;
@@ -220,6 +221,25 @@ impl Replica {
     pub fn total(&self, member: u32) -> u64 {
         assert!(member < self.setup.members, "no such member");
         u64_at(&self.memory.totals, 8 * member as usize)
+    }
+
+    /// The journal's frames of the entries behind op number `op` that are committed: what an owner
+    /// who has those up to `op` on disk appends to them. Refusal 1 where `op` is above the commit
+    /// number. [`Journal`](crate::Journal) reads them back.
+    pub fn journal_since(&self, op: u32) -> Result<Vec<u8>, Refusal> {
+        let ops = self.commit_number().saturating_sub(op) as usize;
+        let mut frames = vec![0; FRAME_LENGTH * ops.min(MOST_FRAMES)];
+        self.journal_since_into(op, &mut frames)?;
+        Ok(frames)
+    }
+
+    /// As [`Replica::journal_since`], with an area that the caller lends; how many bytes stand in
+    /// it. Bytes behind these stay as they were. Refusal 9 where the area is too short: 50 bytes an
+    /// entry are enough.
+    pub fn journal_since_into(&self, op: u32, area: &mut [u8]) -> Result<usize, Refusal> {
+        let Memory { log, results, .. } = &self.memory;
+        let (number, bytes) = raw::journal_append(op, self.commit_number(), log, results, area);
+        Refusal::check(number).map(|()| bytes)
     }
 
     /// The lent runs, for tests: the bytes that the C calls work on.

@@ -1,7 +1,8 @@
 //! What is shown to people: refusals in words, and all else in a line, however long the log is.
 
 use std::fmt::Debug;
-use whitherhaul::{Client, Frames, Operation, Refusal, Replica, Setup, DEFAULT_TIMEOUT};
+use whitherhaul::DEFAULT_TIMEOUT;
+use whitherhaul::{journal, Client, Fault, Frames, Journal, Operation, Refusal, Replica, Setup};
 
 /// The longest runs that there are.
 const SETUP: Setup = Setup {
@@ -29,7 +30,7 @@ fn charged() -> Replica {
 }
 
 /// One of each refusal, in the order of their numbers; 2 is two of them.
-const REFUSALS: [Refusal; 12] = [
+const REFUSALS: [Refusal; 13] = [
     Refusal::OutsideSizes,
     Refusal::Malformed {
         offset: 14,
@@ -45,18 +46,55 @@ const REFUSALS: [Refusal; 12] = [
     Refusal::MessagesDontFit,
     Refusal::RepliesDontFit,
     Refusal::NumbersUsedUp,
+    BAD,
 ];
+
+/// The second frame of a journal with a wrong total.
+const BAD: Refusal = Refusal::BadFrame {
+    offset: 50,
+    fault: Fault::Total,
+};
 
 #[test]
 fn refusals_have_numbers_and_words() {
     let numbers = REFUSALS.map(Refusal::number);
-    assert_eq!(numbers, [1, 2, 2, 3, 4, 5, 6, 7, 8, 9, 10, 11]);
-    for refusal in REFUSALS.into_iter().filter(|r| r.number() != 2) {
+    assert_eq!(numbers, [1, 2, 2, 3, 4, 5, 6, 7, 8, 9, 10, 11, 12]);
+    let by_number = |refusal: &Refusal| ![2, 12].contains(&refusal.number());
+    for refusal in REFUSALS.into_iter().filter(by_number) {
         let number = refusal.number();
         let words = Refusal::words(number).unwrap();
         assert_eq!(refusal.to_string(), format!("refusal {number}: {words}"));
     }
-    assert_eq!((Refusal::words(0), Refusal::words(12)), (None, None));
+    assert_eq!((Refusal::words(0), Refusal::words(13)), (None, None));
+}
+
+/// A bad frame in words: where it is, and each fault.
+#[test]
+fn refusals_with_number_12() {
+    let words = Refusal::words(12).unwrap();
+    assert_eq!(
+        BAD.to_string(),
+        format!("refusal 12: {words} at byte 50 (op 2): the total isn't what the fee rules give")
+    );
+    let faults: Vec<Fault> = (1..=8).filter_map(Fault::from_number).collect();
+    for (number, fault) in (1..).zip(&faults) {
+        assert_eq!(fault.number(), number);
+        assert_eq!(Some(fault.to_string().as_str()), Fault::words(number));
+    }
+    assert_eq!(faults.len(), 8);
+    for number in [0, 9, 255] {
+        assert_eq!(
+            (Fault::from_number(number), Fault::words(number)),
+            (None, None)
+        );
+    }
+    let past = Refusal::BadFrame {
+        offset: 204_800,
+        fault: Fault::PastLast,
+    };
+    assert!(past
+        .to_string()
+        .contains(" at byte 204800 (op 4097): it is past the last op number"));
 }
 
 /// Both refusals with the number 2 in words, and where in the frame.
@@ -93,7 +131,8 @@ fn a_later_refusal_breaks_no_caller() {
         | Refusal::PastLastView
         | Refusal::MessagesDontFit
         | Refusal::RepliesDontFit
-        | Refusal::NumbersUsedUp => Some(refusal.number()),
+        | Refusal::NumbersUsedUp
+        | Refusal::BadFrame { .. } => Some(refusal.number()),
         _ => None,
     };
     assert!(REFUSALS
@@ -143,6 +182,23 @@ fn what_was_sent_in_a_line() {
     let frames = Frames::new(sent.message_bytes());
     assert_eq!(shown(frames), "Frames { left: 6, .. }");
     assert_eq!(shown(sent.replies()), "Replies { left: 0, .. }");
+}
+
+#[test]
+fn a_journal_in_a_line() {
+    let mut replica = charged();
+    replica.parts_mut().state[whitherhaul::raw::state::COMMIT_NUMBER + 3] = 1;
+    replica.parts_mut().results[0] = 1;
+    replica.parts_mut().results[7..9].copy_from_slice(&[0x11, 0x94]);
+    let file = replica.journal_since(0).unwrap();
+    assert_eq!(
+        shown(Journal::read(4096, &file).unwrap()),
+        "Journal { members: 4096, entries: 1, takings: 4500, .. }"
+    );
+    assert_eq!(
+        shown(journal::frames(&file)),
+        "JournalFrames { offset: 0, length: 50, .. }"
+    );
 }
 
 #[test]
