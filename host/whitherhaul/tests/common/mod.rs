@@ -1,0 +1,5 @@
+//! What the tests of journals share. Each of them uses a part.
+#![allow(dead_code)]
+
+pub mod lent;
+pub mod model;
