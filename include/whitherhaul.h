@@ -151,7 +151,7 @@ extern "C" {
 #define WHITHERHAUL_REFUSED_COMMITTED 7
 /* 8: a tick would move past view 4,294,967,295. */
 #define WHITHERHAUL_REFUSED_LAST_VIEW 8
-/* 9: the messages don't fit `out`, or a client's frames or what a journal's call writes its area. */
+/* 9: the messages don't fit `out`, or a client's frames or a journal's bytes their area. */
 #define WHITHERHAUL_REFUSED_MESSAGES 9
 /* 10: the replies don't fit `reps`. */
 #define WHITHERHAUL_REFUSED_REPLIES 10
