@@ -1,4 +1,5 @@
-//! Times the same calls through Whitherhaul and through vsr-rs, and prints the ratios.
+//! Times the same calls through Whitherhaul and through vsr-rs, and prints the ratios; those of a journal, which vsr-rs
+//! doesn't have, beside plain Rust.
 //!
 //! Every round of a case is played by each side in turn, so that a busy machine hits all alike; of the rounds the median
 //! counts. After each round the sides must stand alike, or the figures would compare unlike things.
@@ -6,8 +7,10 @@
 mod axis;
 mod cases;
 mod cluster;
+mod journal;
 mod measure;
 mod options;
+mod plain;
 mod plot;
 mod sides;
 mod stopwatch;
@@ -26,6 +29,7 @@ fn main() -> ExitCode {
             Task::Help => println!("{}", options::HELP),
             Task::Cases { word, only } => cases(&word, only, rounds)?,
             Task::Plot(file) => plot::plot(&file, rounds)?,
+            Task::Journal => journal::compare(rounds),
         }
         Ok(())
     });

@@ -46,7 +46,8 @@ fn each(rounds: &[Round]) -> Time {
     Some(sum.as_nanos() as f64 / pieces as f64 / f64::from(first.calls))
 }
 
-fn median(mut took: Vec<Duration>) -> Duration {
+/// The middle one of some times.
+pub fn median(mut took: Vec<Duration>) -> Duration {
     took.sort();
     took[took.len() / 2]
 }

@@ -5,6 +5,7 @@ use std::path::PathBuf;
 pub const HELP: &str = "\
 usage: bench [--rounds N] [--case WORD] [--side ours|theirs|framed]
        bench [--rounds N] --plot FILE.svg
+       bench [--rounds N] --journal
 
 Times each case through Whitherhaul (ours), vsr-rs as it is, structs handed over (theirs), and vsr-rs with the same frames
 written and read around it (framed). Ratios are theirs by ours: above 1 ours is faster. A case that vsr-rs doesn't have,
@@ -16,6 +17,7 @@ a refusal, has - in its place.
   --plot FILE   in place of the cases: how what a call takes grows, drawn as an SVG to this file, and the figures as a table.
                 A StartView of 16 to 4,096 entries, of 16 clients and of as many clients as entries; a committed request
                 of 1 to 2,000 clients, each with a row already; a committed request of 3 to 7 replicas and 16 clients
+  --journal     in place of the cases: a journal read, written and appended to, beside plain Rust that does the same
   --help        this text";
 
 /// One of the three that are timed.
@@ -36,6 +38,8 @@ pub enum Task {
     },
     /// The growth, drawn to this file.
     Plot(PathBuf),
+    /// The journal's calls.
+    Journal,
     Help,
 }
 
@@ -48,7 +52,7 @@ pub struct Options {
 /// Reads the words behind the program's name; what is wrong is said in one sentence.
 pub fn read(mut words: impl Iterator<Item = String>) -> Result<Options, String> {
     let mut rounds = 15;
-    let (mut case, mut only, mut plot) = (None, None, None);
+    let (mut case, mut only, mut plot, mut journal) = (None, None, None, false);
     while let Some(option) = words.next() {
         let mut value = || {
             words
@@ -64,22 +68,38 @@ pub fn read(mut words: impl Iterator<Item = String>) -> Result<Options, String> 
             "--case" => case = Some(value()?),
             "--side" => only = Some(side(&value()?)?),
             "--plot" => plot = Some(PathBuf::from(value()?)),
+            "--journal" => journal = true,
             _ => return Err(format!("{option} is no option; --help lists them")),
         }
     }
-    let task = match plot {
-        None => Task::Cases {
+    let task = task(case, only, plot, journal)?;
+    Ok(Options { rounds, task })
+}
+
+/// What is asked for by all options together.
+fn task(
+    case: Option<String>,
+    only: Option<Only>,
+    plot: Option<PathBuf>,
+    journal: bool,
+) -> Result<Task, String> {
+    let narrowed = case.is_some() || only.is_some();
+    let told = |why| Err(String::from(why));
+    match plot {
+        Some(_) if narrowed => told(
+            "--plot has points of its own through all sides, so neither --case nor --side goes with it",
+        ),
+        Some(_) if journal => told("--plot and --journal don't go together"),
+        None if journal && narrowed => told(
+            "--journal has cases and sides of its own, so neither --case nor --side goes with it",
+        ),
+        Some(file) => Ok(Task::Plot(file)),
+        None if journal => Ok(Task::Journal),
+        None => Ok(Task::Cases {
             word: case.unwrap_or_default(),
             only,
-        },
-        Some(_) if case.is_some() || only.is_some() => {
-            return Err(String::from(
-                "--plot has points of its own through all sides, so neither --case nor --side goes with it",
-            ))
-        }
-        Some(file) => Task::Plot(file),
-    };
-    Ok(Options { rounds, task })
+        }),
+    }
 }
 
 fn number(word: &str) -> Result<usize, String> {
@@ -127,6 +147,15 @@ mod tests {
     }
 
     #[test]
+    fn a_journal_has_its_rounds() {
+        let task = Task::Journal;
+        assert_eq!(
+            told("--journal --rounds 4"),
+            Ok(Options { rounds: 4, task })
+        );
+    }
+
+    #[test]
     fn help_is_asked_for_by_either_word() {
         for words in ["--help", "-h", "--rounds 3 --help"] {
             assert_eq!(told(words).map(|options| options.task), Ok(Task::Help));
@@ -144,6 +173,9 @@ mod tests {
             ("--side both", "not both"),
             ("--plot x.svg --side ours", "neither --case nor --side"),
             ("--case request --plot x.svg", "neither --case nor --side"),
+            ("--journal --case read", "neither --case nor --side"),
+            ("--journal --side ours", "neither --case nor --side"),
+            ("--journal --plot x.svg", "don't go together"),
         ] {
             let why = told(words).expect_err(words);
             assert!(why.contains(part), "{words}: {why}");

@@ -19,6 +19,20 @@ pub fn row(name: &str, [ours, as_it_is, framed]: Times) {
     ]);
 }
 
+/// What stands above the columns of a journal's calls.
+pub fn beside_plain_heading() {
+    two(["", "ours", "plain Rust", "ratio"]);
+}
+
+/// A journal's call, and plain Rust that does the same.
+pub fn beside_plain(name: &str, [ours, plain]: [Time; 2]) {
+    two([name, &shown(ours), &shown(plain), &ratio(plain, ours)]);
+}
+
+fn two([name, ours, plain, ratio]: [&str; 4]) {
+    println!("{name:<50}{ours:>12}{plain:>12}{ratio:>8}");
+}
+
 /// A case through one side.
 pub fn single(name: &str, time: Time) {
     println!("{name:<50}{:>12}", shown(time));
