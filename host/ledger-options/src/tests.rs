@@ -1,0 +1,112 @@
+use super::*;
+
+fn asked(line: &str) -> Result<Asked, String> {
+    read(
+        line.split(' ')
+            .filter(|w| !w.is_empty())
+            .map(OsString::from),
+    )
+}
+
+fn file(name: &str) -> Source {
+    Source::File(PathBuf::from(name))
+}
+
+#[test]
+fn every_word_has_its_place() {
+    let two = Asked::Check(vec![file("a"), file("b")], 8);
+    assert_eq!(asked("check a b --members 8"), Ok(two));
+    let mixed = Asked::Check(vec![file("a"), Source::Input], 4_096);
+    assert_eq!(asked("check a --members 4096 -"), Ok(mixed));
+    assert_eq!(asked("show a"), Ok(Asked::Show(file("a"), None)));
+    let shown = Asked::Show(Source::Input, Some(1));
+    assert_eq!(asked("show --members 1 - --members 1"), Ok(shown));
+}
+
+#[test]
+fn texts_are_asked_for() {
+    for (line, text) in [
+        ("--help", HELP),
+        ("-h x", HELP),
+        ("--version", VERSION),
+        ("check --help", CHECK_HELP),
+        ("check a --members 3 -h", CHECK_HELP),
+        ("show --help --harm", SHOW_HELP),
+        ("show a --version", VERSION),
+    ] {
+        assert_eq!(asked(line), Ok(Asked::Say(text)), "{line}");
+    }
+}
+
+#[test]
+fn what_is_wrong_is_said() {
+    let members = "check needs --members M, how many members the ledger has, 1 to 4096";
+    let file = "needs a journal: the name of its file, or - for standard input";
+    for (line, why) in [
+        ("", "check or show? --help says more"),
+        (
+            "list a",
+            "\"list\" is neither check nor show; --help says more",
+        ),
+        (
+            "--members 3",
+            "\"--members\" is no option; --help lists them",
+        ),
+        ("check", &format!("check {file}")),
+        ("show --members 3", &format!("show {file}")),
+        ("check a", members),
+        ("show a b", "show takes one journal at a time"),
+        (
+            "show a --harm",
+            "\"--harm\" is no option; --help lists them",
+        ),
+        ("check a --members", "--members needs a number behind it"),
+        (
+            "check a --members x",
+            "--members needs a number, and \"x\" is none",
+        ),
+        (
+            "check a --members +3",
+            "--members needs a number, and \"+3\" is none",
+        ),
+        (
+            "check a --members 3 --members 4",
+            "--members stands there twice",
+        ),
+        (
+            "check - - --members 3",
+            "standard input (-) can be read only once",
+        ),
+    ] {
+        assert_eq!(asked(line), Err(String::from(why)), "{line}");
+    }
+    for number in [
+        "0",
+        "4097",
+        "4294967295",
+        "4294967297",
+        "18446744073709551617",
+    ] {
+        let why = format!("--members {number} can't be: a ledger has 1 to 4096 members");
+        assert_eq!(asked(&format!("check a --members {number}")), Err(why));
+    }
+}
+
+#[test]
+fn an_empty_name_is_no_file() {
+    let words = ["show", ""].map(OsString::from);
+    assert_eq!(
+        read(words.into_iter()),
+        Err(String::from("a file's name is empty"))
+    );
+}
+
+#[test]
+fn help_names_every_option() {
+    for text in [HELP, CHECK_HELP, SHOW_HELP] {
+        for option in ["members M", "help", "version"] {
+            assert!(text.contains(&format!("\n  --{option} ")), "{option}");
+        }
+        assert!(text.lines().all(|line| line.len() <= 100));
+    }
+}
