@@ -144,29 +144,9 @@ fn charge(operation: Operation, member: u32, cents: u64) -> Charge {
     }
 }
 
-/// Cents as people write them: 12,345.60.
-pub fn money(cents: u64) -> String {
-    let whole = (cents / 100).to_string();
-    let mut grouped = String::new();
-    for (place, digit) in whole.chars().enumerate() {
-        if place > 0 && place % 3 == whole.len() % 3 {
-            grouped.push(',');
-        }
-        grouped.push(digit);
-    }
-    format!("{grouped}.{:02}", cents % 100)
-}
-
 #[cfg(test)]
 mod tests {
     use super::*;
-
-    #[test]
-    fn money_is_grouped() {
-        let shown = [5, 150, 99_999, 100_000, 123_456_789].map(money);
-        let expected = ["0.05", "1.50", "999.99", "1,000.00", "1,234,567.89"];
-        assert_eq!(shown, expected);
-    }
 
     #[test]
     fn no_refund_exceeds_what_was_paid() {

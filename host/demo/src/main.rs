@@ -19,7 +19,7 @@ mod tests;
 mod theirs;
 mod words;
 
-use clubs::{money, List, CLUBS};
+use clubs::{List, CLUBS};
 use day::{Counts, Evening};
 use demo_options::{Asked, Options};
 use ledgers::Ledgers;
@@ -30,7 +30,7 @@ use tally::Tally;
 use teller::Teller;
 use whitherhaul::Operation;
 use wire::random::Random;
-use words::{charges, count};
+use words::{charges, count, money};
 
 /// The most lines that are printed of what isn't as it has to be.
 const MOST_WRONG: usize = 12;

@@ -1,8 +1,8 @@
 //! Says what happens, a line each, and no more of them than people read.
 
-use crate::clubs::{club_of, money, name_of, Charge, CLUBS};
+use crate::clubs::{club_of, name_of, Charge, CLUBS};
 use crate::day::Counts;
-use crate::words::charges;
+use crate::words::{charges, money};
 use std::time::{Duration, Instant};
 use whitherhaul::Operation;
 

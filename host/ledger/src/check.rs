@@ -1,6 +1,8 @@
 //! A journal judged by the fee rules.
 
+use crate::input;
 use crate::words::{bad_frame, count, money};
+use ledger_options::Source;
 use std::fmt;
 use whitherhaul::{Fault, Journal, Refusal};
 
@@ -39,6 +41,35 @@ impl Verdict {
     }
 }
 
+/// A journal that was read and judged.
+#[derive(Clone, Debug)]
+pub struct Checked {
+    /// What it is called.
+    pub name: String,
+    /// The bytes that decide.
+    pub content: Vec<u8>,
+    /// What it is.
+    pub verdict: Verdict,
+}
+
+/// The line of `ledger check`.
+impl fmt::Display for Checked {
+    fn fmt(&self, f: &mut fmt::Formatter<'_>) -> fmt::Result {
+        write!(f, "{}: {}", self.name, self.verdict)
+    }
+}
+
+/// Reads a journal and judges it; what keeps it from being read is said in one sentence.
+pub fn check(source: &Source, members: u32) -> Result<Checked, String> {
+    let content = input::read(source)?;
+    let verdict = judge(members, &content).map_err(|refusal| refusal.to_string())?;
+    Ok(Checked {
+        name: input::name(source),
+        content,
+        verdict,
+    })
+}
+
 /// Judges a journal of a ledger with so many members. Refused by 1 where these aren't 1 to 4,096.
 pub fn judge(members: u32, file: &[u8]) -> Result<Verdict, Refusal> {
     match read(members, file) {
@@ -60,7 +91,7 @@ fn read(members: u32, file: &[u8]) -> Result<Sum, Refusal> {
     })
 }
 
-/// The line of `ledger check`, without the journal's name.
+/// The same without the journal's name.
 impl fmt::Display for Verdict {
     fn fmt(&self, f: &mut fmt::Formatter<'_>) -> fmt::Result {
         match *self {

@@ -2,9 +2,8 @@
 //! or an option is wrong.
 
 use ledger::bar::Bar;
-use ledger::check::{judge, Verdict};
 use ledger::words::count;
-use ledger::{input, table};
+use ledger::{check, input, table};
 use ledger_options::{print, read, Asked, Source};
 use std::process::ExitCode;
 
@@ -30,11 +29,10 @@ fn fault(why: &str) -> ExitCode {
 fn check(files: &[Source], members: u32) -> Result<u8, String> {
     let mut worst = 0;
     for file in files {
-        let status = match input::read(file) {
-            Ok(content) => {
-                let verdict = judged(members, &content)?;
-                print(&format!("{}: {verdict}\n", input::name(file)))?;
-                verdict.status()
+        let status = match check::check(file, members) {
+            Ok(checked) => {
+                print(&format!("{checked}\n"))?;
+                checked.verdict.status()
             }
             Err(why) => {
                 eprintln!("ledger: {why}");
@@ -46,27 +44,22 @@ fn check(files: &[Source], members: u32) -> Result<u8, String> {
     Ok(worst)
 }
 
-fn judged(members: u32, file: &[u8]) -> Result<Verdict, String> {
-    judge(members, file).map_err(|refusal| refusal.to_string())
-}
-
 /// The table of a journal, and behind it what was checked.
 fn show(file: &Source, members: Option<u32>) -> Result<u8, String> {
-    let content = input::read(file)?;
-    let mut table = table::table(&content);
-    let (end, status) = match members {
+    let (content, checked) = match members {
         Some(members) => {
-            let verdict = judged(members, &content)?;
-            let line = format!("{}: {verdict}", input::name(file));
-            (line, verdict.status())
+            let checked = check::check(file, members)?;
+            let line = format!("{checked}");
+            (checked.content, Some((line, checked.verdict.status())))
         }
-        None => {
-            let frames = count(table.frames as u64, "entry", "entries");
-            let line =
-                format!("{frames}; outcomes and totals not checked (--members M checks them)");
-            (line, u8::from(!table.readable))
-        }
+        None => (input::read(file)?, None),
     };
+    let mut table = table::table(&content);
+    let (end, status) = checked.unwrap_or_else(|| {
+        let entries = count(table.frames as u64, "entry", "entries");
+        let line = format!("{entries}; outcomes and totals not checked (--members M checks them)");
+        (line, u8::from(!table.readable))
+    });
     table.lines.extend([String::new(), end]);
     print_lines(&table.lines)?;
     Ok(status)
