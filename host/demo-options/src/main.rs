@@ -5,7 +5,7 @@ use demo_options::{read, Asked, HELP};
 use std::process::ExitCode;
 
 fn main() -> ExitCode {
-    match read(std::env::args().skip(1)) {
+    match read(std::env::args_os().skip(1)) {
         Ok(Asked::Day(_)) => ExitCode::SUCCESS,
         Ok(Asked::Help) => {
             println!("{HELP}");

@@ -4,6 +4,7 @@
 
 use crate::clubs::{Charge, List};
 use crate::damage::Damage;
+use crate::journals::Journals;
 use crate::library::{Library, Standing};
 use crate::machines::Machine;
 use crate::network::{Network, Traffic};
@@ -69,7 +70,7 @@ pub struct Day<'a, L: Library> {
     /// What damage takes from chance, so that the rest of a day is the same without it.
     pub ill_luck: Random,
     answered: usize,
-    wrong: Vec<String>,
+    pub wrong: Vec<String>,
     /// At how many committed charges machines crash, the next one last.
     pub crashes: Vec<u64>,
     /// The most that any replica has committed.
@@ -92,9 +93,15 @@ pub struct Evening<L: Library> {
     pub wrong: Vec<String>,
 }
 
-/// Plays the day to its end, or until a large number of steps is over, or many without a majority.
-pub fn play<L: Library>(options: &Options, list: &List, teller: Teller) -> Evening<L> {
-    let mut day = Day::<L>::new(options, list, teller);
+/// Plays the day to its end, or until a large number of steps is over, or many without a majority. Where there are journals, each
+/// machine keeps its own.
+pub fn play<L: Library>(
+    options: &Options,
+    list: &List,
+    teller: Teller,
+    journals: Option<&Journals>,
+) -> Evening<L> {
+    let mut day = Day::<L>::new(options, list, teller, journals);
     let most = 100_000 + 2_000 * options.requests;
     while !day.over() && !day.forlorn() && day.counts.steps < most {
         day.step();
@@ -106,15 +113,21 @@ pub fn play<L: Library>(options: &Options, list: &List, teller: Teller) -> Eveni
 }
 
 impl<'a, L: Library> Day<'a, L> {
-    fn new(options: &'a Options, list: &'a List, teller: Teller) -> Day<'a, L> {
+    fn new(
+        options: &'a Options,
+        list: &'a List,
+        teller: Teller,
+        journals: Option<&Journals>,
+    ) -> Day<'a, L> {
         let mut random = Random::new(options.seed);
         let crashes = crashes(options.requests, &mut random);
         let desk = |place| desk(place, options.desks, list);
+        let machine = |id| Machine::new(id, list, journals);
         Day {
             options,
             list,
             teller,
-            machines: (0..REPLICAS).map(|id| Machine::new(id, list)).collect(),
+            machines: (0..REPLICAS).map(machine).collect(),
             desks: (0..options.desks).map(desk).collect(),
             network: Network::new(random, options.loss as usize),
             counts: Counts::default(),

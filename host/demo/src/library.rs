@@ -53,6 +53,10 @@ pub trait Library {
     /// The entries that were applied, in order.
     fn applied(replica: &Self::Replica) -> Vec<Entry>;
     fn total(replica: &Self::Replica, member: u32) -> u64;
+    /// The journal's frames of what was applied behind this op. Of a library without a journal there are none.
+    fn journal_since(_: &Self::Replica, _op: u32) -> Vec<u8> {
+        Vec::new()
+    }
 
     fn desk(replicas: u32, id: u64) -> Self::Desk;
     /// Sends a charge: its number, and the message with its addressee.

@@ -3,24 +3,27 @@
 use crate::clubs::List;
 use crate::damage::Damage;
 use crate::day::{Day, Parcel, REPLICAS};
+use crate::journals::{self, Journals};
 use crate::library::{Answer, Library, Standing};
 use crate::stops;
 use crate::words::charges;
+use std::path::PathBuf;
 use whitherhaul::Setup;
 
 /// Idle periods without the leader before a backup asks for the next view.
 const TIMEOUT: u32 = 5;
 
-/// A machine: its replica, or the step at which it is back; and the view, which survives a crash.
+/// A machine: its replica, or the step at which it is back; and the view and the journal, which survive a crash.
 pub struct Machine<L: Library> {
     setup: Setup,
     view: u32,
+    journal: Option<PathBuf>,
     pub runs: Result<L::Replica, u64>,
 }
 
 impl<L: Library> Machine<L> {
     /// A machine's first start. Its log has room for the whole list.
-    pub fn new(id: u8, list: &List) -> Machine<L> {
+    pub fn new(id: u8, list: &List, journals: Option<&Journals>) -> Machine<L> {
         let setup = Setup {
             replicas: REPLICAS.into(),
             id: id.into(),
@@ -31,6 +34,7 @@ impl<L: Library> Machine<L> {
         Machine {
             setup,
             view: 0,
+            journal: journals.map(|journals| journals.of(id)),
             runs: Ok(L::replica(&setup)),
         }
     }
@@ -54,6 +58,23 @@ impl<L: Library> Machine<L> {
             ),
         }
     }
+
+    /// Writes to its journal what a call committed. One that can't be written is given up, and what keeps it from being
+    /// written is said in a sentence.
+    fn write_down(&mut self, before: Standing, after: Standing) -> Option<String> {
+        let committed = after.commit_number;
+        let (Some(file), Ok(replica)) = (&self.journal, &self.runs) else {
+            return None;
+        };
+        if committed <= before.commit_number {
+            return None;
+        }
+        let written = journals::append(file, committed, |op| L::journal_since(replica, op));
+        let fault = written.err()?;
+        let why = format!("{} can't be written: {fault}", file.display());
+        self.journal = None;
+        Some(why)
+    }
 }
 
 impl<L: Library> Day<'_, L> {
@@ -75,11 +96,13 @@ impl<L: Library> Day<'_, L> {
         }
     }
 
-    /// What a call of a running replica gave goes out, and before that its view is kept.
+    /// What a call of a running replica gave goes out, and before that its view is kept and its journal written.
     pub fn give(&mut self, id: u8, before: Standing, answer: Answer<L::Message>) {
         let machine = &mut self.machines[usize::from(id)];
         let after = machine.standing().expect("a replica that runs");
         machine.view = after.view;
+        let unwritten = machine.write_down(before, after);
+        self.wrong.extend(unwritten);
         self.tell(id, before, after);
         if let Some(refused) = answer.refused {
             self.counts.refused += 1;

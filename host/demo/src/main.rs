@@ -4,6 +4,7 @@ mod arrivals;
 mod clubs;
 mod damage;
 mod day;
+mod journals;
 mod ledgers;
 mod library;
 mod machines;
@@ -22,6 +23,7 @@ mod words;
 use clubs::{List, CLUBS};
 use day::{Counts, Evening};
 use demo_options::{Asked, Options};
+use journals::Journals;
 use ledgers::Ledgers;
 use library::Library;
 use network::REPEATED;
@@ -36,17 +38,25 @@ use words::{charges, count, money};
 const MOST_WRONG: usize = 12;
 
 fn main() -> ExitCode {
-    match demo_options::read(std::env::args().skip(1)) {
+    match demo_options::read(std::env::args_os().skip(1)) {
         Ok(Asked::Help) => {
             println!("{}", demo_options::HELP);
             ExitCode::SUCCESS
         }
-        Ok(Asked::Day(options)) => day(&options),
-        Err(why) => {
-            eprintln!("demo: {why}");
-            ExitCode::from(2)
+        Ok(Asked::Day(options)) => {
+            let journals = options.journal.as_deref().map(Journals::new).transpose();
+            match journals {
+                Ok(journals) => day(&options, journals.as_ref()),
+                Err(why) => refused(&why),
+            }
         }
+        Err(why) => refused(&why),
     }
+}
+
+fn refused(why: &str) -> ExitCode {
+    eprintln!("demo: {why}");
+    ExitCode::from(2)
 }
 
 /// A library's day: its ledgers, what was counted, and what damage did.
@@ -57,12 +67,12 @@ struct Played {
     tally: Tally,
 }
 
-/// One day through both libraries.
-fn day(options: &Options) -> ExitCode {
+/// One day through both libraries. Journals are kept by ours alone.
+fn day(options: &Options, journals: Option<&Journals>) -> ExitCode {
     stops::silence();
     let list = List::new(options.requests, &mut Random::new(options.seed));
     opening(options, &list);
-    let mut ours = played::<ours::Whitherhaul>(options, &list, true);
+    let mut ours = played::<ours::Whitherhaul>(options, &list, true, journals);
     ours.ledgers.wrong.extend(ours.tally.wrong());
     println!();
     let theirs = beside(options, &list);
@@ -83,6 +93,7 @@ fn day(options: &Options) -> ExitCode {
             println!("vsr-rs: not played beside it, since this demo was built without ../shared")
         }
     }
+    good &= journals.is_none_or(|journals| journals.checked(list.members));
     match good {
         true => ExitCode::SUCCESS,
         false => ExitCode::FAILURE,
@@ -90,8 +101,14 @@ fn day(options: &Options) -> ExitCode {
 }
 
 /// Plays the day through a library and looks at its ledgers.
-fn played<L: Library>(options: &Options, list: &List, speaks: bool) -> Played {
-    let evening: Evening<L> = day::play(options, list, Teller::new(L::NAME, speaks));
+fn played<L: Library>(
+    options: &Options,
+    list: &List,
+    speaks: bool,
+    journals: Option<&Journals>,
+) -> Played {
+    let teller = Teller::new(L::NAME, speaks);
+    let evening: Evening<L> = day::play(options, list, teller, journals);
     Played {
         name: L::NAME,
         ledgers: ledgers::look(list, &evening),
@@ -105,7 +122,7 @@ fn beside(options: &Options, list: &List) -> Option<Played> {
     if options.damage > 0 {
         println!("The same list through vsr-rs, of which only the damage is told:\n");
     }
-    let mut theirs = played::<theirs::VsrRs>(options, list, false);
+    let mut theirs = played::<theirs::VsrRs>(options, list, false, None);
     if options.damage > 0 {
         println!();
     } else {

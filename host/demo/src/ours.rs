@@ -84,6 +84,11 @@ impl Library for Whitherhaul {
         replica.total(member)
     }
 
+    fn journal_since(replica: &Replica, op: u32) -> Vec<u8> {
+        let frames = replica.journal_since(op);
+        frames.expect("an op that isn't above the commit number")
+    }
+
     fn desk(replicas: u32, id: u64) -> Client {
         Client::new(replicas, id).expect("a number of replicas inside the sizes")
     }

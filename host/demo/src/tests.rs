@@ -16,9 +16,10 @@ fn evening<L: Library>(seed: u64, damage: u64) -> (Evening<L>, Vec<String>) {
         desks: 3,
         requests: 60,
         damage,
+        journal: None,
     };
     let list = List::new(options.requests, &mut Random::new(seed));
-    let evening = play::<L>(&options, &list, Teller::new(L::NAME, false));
+    let evening = play::<L>(&options, &list, Teller::new(L::NAME, false), None);
     let wrong = look(&list, &evening).wrong;
     (evening, wrong)
 }

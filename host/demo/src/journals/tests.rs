@@ -1,0 +1,117 @@
+use super::*;
+use crate::clubs::List;
+use crate::day::{play, Evening};
+use crate::library::Library;
+use crate::ours::Whitherhaul;
+use crate::teller::Teller;
+use demo_options::Options;
+use whitherhaul::Journal;
+use wire::random::Random;
+
+/// A folder for one test, which isn't there yet and is removed in the end.
+struct Folder(PathBuf);
+
+impl Folder {
+    fn new(name: &str) -> Folder {
+        let own = format!("whitherhaul-demo-{}-{name}", std::process::id());
+        Folder(std::env::temp_dir().join(own))
+    }
+}
+
+impl Drop for Folder {
+    fn drop(&mut self) {
+        let _ = fs::remove_dir_all(&self.0);
+    }
+}
+
+/// A day of 60 charges with journals, its list, and what stands in them.
+fn day(folder: &Folder, seed: u64) -> (List, Evening<Whitherhaul>, Journals) {
+    let options = Options {
+        seed,
+        loss: 10,
+        desks: 3,
+        requests: 60,
+        damage: 0,
+        journal: None,
+    };
+    let list = List::new(options.requests, &mut Random::new(seed));
+    let journals = Journals::new(&folder.0).expect("a new folder");
+    let teller = Teller::new(Whitherhaul::NAME, false);
+    let evening = play(&options, &list, teller, Some(&journals));
+    (list, evening, journals)
+}
+
+/// After a day with crashes each journal has every charge, once and in the order of the machine's own ledger.
+#[test]
+fn a_journal_has_what_its_machine_applied() {
+    for seed in 1..=3 {
+        let folder = Folder::new(&format!("day-{seed}"));
+        let (list, evening, journals) = day(&folder, seed);
+        assert!(evening.counts.crashes > 0);
+        assert_eq!((evening.replicas.len(), evening.wrong.len()), (3, 0));
+        for (id, replica) in &evening.replicas {
+            let file = fs::read(&journals.0[*id]).expect("there");
+            let journal = Journal::read(list.members, &file).expect("good");
+            assert_eq!(journal.entries().len(), 60);
+            assert_eq!(journal.entries(), Whitherhaul::applied(replica));
+            assert_eq!(journal.totals(), list.totals);
+        }
+        assert!(journals.checked(list.members));
+    }
+}
+
+#[test]
+fn a_file_that_is_there_stays_as_it_is() {
+    let folder = Folder::new("there");
+    fs::create_dir(&folder.0).expect("a folder");
+    let there = folder.0.join("replica-1.journal");
+    fs::write(&there, "kept").expect("written");
+    let why = Journals::new(&folder.0).err().expect("refused");
+    let words = "is there already, and no journal is written over: name another folder";
+    assert_eq!(why, format!("{} {words}", there.display()));
+    assert_eq!(fs::read(&there).expect("there"), b"kept");
+    let files = fs::read_dir(&folder.0).expect("there").count();
+    assert_eq!(files, 1);
+    let why = Journals::new(&there).err().expect("refused");
+    assert!(why.contains(" can't be made: "), "{why}");
+}
+
+/// A file is told how long it is by itself, and what is committed already isn't written again.
+#[test]
+fn appending_goes_on_behind_the_last_op() {
+    let folder = Folder::new("append");
+    let file = Journals::new(&folder.0).expect("a new folder").of(2);
+    let mut asked = Vec::new();
+    for committed in [1, 1, 3] {
+        let frames = |op| {
+            asked.push(op);
+            vec![7; FRAME_LENGTH * (committed as usize - op as usize)]
+        };
+        append(&file, committed, frames).expect("written");
+    }
+    assert_eq!(asked, [0, 1]);
+    assert_eq!(fs::read(&file).expect("there"), [7; 150]);
+}
+
+#[test]
+fn a_journal_that_isnt_as_it_has_to_be_is_noticed() {
+    let folder = Folder::new("noticed");
+    let (list, _, journals) = day(&folder, 4);
+    let whole = fs::read(journals.of(0)).expect("there");
+    let good = |journal: &[u8]| {
+        fs::write(journals.of(1), journal).expect("written");
+        journals.checked(list.members)
+    };
+    assert!(good(&whole));
+    // A machine that lags behind, or never committed anything.
+    assert!(good(&whole[..500]));
+    assert!(good(b""));
+    // Cut inside a frame, and a desk's number changed, which leaves a good journal but another one.
+    assert!(!good(&whole[..499]));
+    let mut other = whole.clone();
+    other[16] += 1;
+    assert!(Journal::read(list.members, &other).is_ok());
+    assert!(!good(&other));
+    fs::remove_file(journals.of(1)).expect("removed");
+    assert!(!journals.checked(list.members));
+}
