@@ -4,7 +4,9 @@ use crate::day::{play, Evening};
 use crate::library::Library;
 use crate::ours::Whitherhaul;
 use crate::teller::Teller;
-use demo_options::Options;
+use demo_options::{Asked, Options};
+use ledger::check::judge;
+use ledger::table::table;
 use whitherhaul::Journal;
 use wire::random::Random;
 
@@ -24,20 +26,24 @@ impl Drop for Folder {
     }
 }
 
-/// A day of 60 charges with journals, its list, and what stands in them.
-fn day(folder: &Folder, seed: u64) -> (List, Evening<Whitherhaul>, Journals) {
-    let options = Options {
+/// A short day's choices.
+fn short(seed: u64) -> Options {
+    Options {
         seed,
         loss: 10,
         desks: 3,
         requests: 60,
         damage: 0,
         journal: None,
-    };
-    let list = List::new(options.requests, &mut Random::new(seed));
+    }
+}
+
+/// A day with journals in this folder, and its list.
+fn day(folder: &Folder, options: &Options) -> (List, Evening<Whitherhaul>, Journals) {
+    let list = List::new(options.requests, &mut Random::new(options.seed));
     let journals = Journals::new(&folder.0).expect("a new folder");
     let teller = Teller::new(Whitherhaul::NAME, false);
-    let evening = play(&options, &list, teller, Some(&journals));
+    let evening = play(options, &list, teller, Some(&journals));
     (list, evening, journals)
 }
 
@@ -46,7 +52,7 @@ fn day(folder: &Folder, seed: u64) -> (List, Evening<Whitherhaul>, Journals) {
 fn a_journal_has_what_its_machine_applied() {
     for seed in 1..=3 {
         let folder = Folder::new(&format!("day-{seed}"));
-        let (list, evening, journals) = day(&folder, seed);
+        let (list, evening, journals) = day(&folder, &short(seed));
         assert!(evening.counts.crashes > 0);
         assert_eq!((evening.replicas.len(), evening.wrong.len()), (3, 0));
         for (id, replica) in &evening.replicas {
@@ -96,7 +102,7 @@ fn appending_goes_on_behind_the_last_op() {
 #[test]
 fn a_journal_that_isnt_as_it_has_to_be_is_noticed() {
     let folder = Folder::new("noticed");
-    let (list, _, journals) = day(&folder, 4);
+    let (list, _, journals) = day(&folder, &short(4));
     let whole = fs::read(journals.of(0)).expect("there");
     let good = |journal: &[u8]| {
         fs::write(journals.of(1), journal).expect("written");
@@ -114,4 +120,32 @@ fn a_journal_that_isnt_as_it_has_to_be_is_noticed() {
     assert!(!good(&other));
     fs::remove_file(journals.of(1)).expect("removed");
     assert!(!journals.checked(list.members));
+}
+
+/// The README's lines under its heading for a treasurer, of the usual day.
+#[test]
+fn the_readme_shows_what_is_printed() {
+    let readme = include_str!("../../../../README.md");
+    let (_, section) = readme
+        .split_once("\n## For a treasurer\n")
+        .expect("a section");
+    let (section, _) = section.split_once("\n## ").expect("another one");
+    let lines = section.lines().filter_map(|line| line.strip_prefix("    "));
+    let shown: Vec<&str> = lines.filter(|line| !line.starts_with("$ ")).collect();
+    let folder = Folder::new("readme");
+    let Ok(Asked::Day(options)) = demo_options::read(std::iter::empty()) else {
+        panic!("a day");
+    };
+    let (list, _, journals) = day(&folder, &options);
+    let file = fs::read(journals.of(0)).expect("there");
+    let judged = |file| judge(list.members, file).expect("members inside the sizes");
+    let mut printed = table(&file).lines;
+    printed.truncate(4);
+    printed.extend([
+        format!("fees/replica-0.journal: {}", judged(&file)),
+        format!("standard input: {}", judged(&file[..170])),
+    ]);
+    assert_eq!(shown, printed);
+    let members = format!("--members {}\n", list.members);
+    assert_eq!(section.matches(&members).count(), 2);
 }
