@@ -38,57 +38,56 @@ fn texts_are_asked_for() {
     }
 }
 
+/// Each of these lines is refused with this sentence.
+fn refused(lines: &[(&str, &str)]) {
+    for (line, why) in lines {
+        assert_eq!(asked(line), Err(String::from(*why)), "{line}");
+    }
+}
+
 #[test]
 fn what_is_wrong_is_said() {
-    let members = "check needs --members M, how many members the ledger has, 1 to 4096";
     let file = "needs a journal: the name of its file, or - for standard input";
-    for (line, why) in [
+    let other = "is neither check nor show; --help says more";
+    let option = "is no option; --help lists them";
+    refused(&[
         ("", "check or show? --help says more"),
-        (
-            "list a",
-            "\"list\" is neither check nor show; --help says more",
-        ),
-        (
-            "--members 3",
-            "\"--members\" is no option; --help lists them",
-        ),
+        ("list a", &format!("\"list\" {other}")),
+        ("--members 3", &format!("\"--members\" {option}")),
+        ("show a --harm", &format!("\"--harm\" {option}")),
         ("check", &format!("check {file}")),
         ("show --members 3", &format!("show {file}")),
-        ("check a", members),
         ("show a b", "show takes one journal at a time"),
-        (
-            "show a --harm",
-            "\"--harm\" is no option; --help lists them",
-        ),
-        ("check a --members", "--members needs a number behind it"),
-        (
-            "check a --members x",
-            "--members needs a number, and \"x\" is none",
-        ),
-        (
-            "check a --members +3",
-            "--members needs a number, and \"+3\" is none",
-        ),
-        (
-            "check a --members 3 --members 4",
-            "--members stands there twice",
-        ),
         (
             "check - - --members 3",
             "standard input (-) can be read only once",
         ),
-    ] {
-        assert_eq!(asked(line), Err(String::from(why)), "{line}");
-    }
-    for number in [
-        "0",
-        "4097",
-        "4294967295",
-        "4294967297",
-        "18446744073709551617",
-    ] {
+    ]);
+}
+
+#[test]
+fn wrong_numbers_of_members_are_said() {
+    let needs = "--members needs a number";
+    let missing = "check needs --members M, how many members the ledger has, 1 to 4096";
+    refused(&[
+        ("check a", missing),
+        ("check a --members", &format!("{needs} behind it")),
+        (
+            "check a --members x",
+            &format!("{needs}, and \"x\" is none"),
+        ),
+        (
+            "check a --members +3",
+            &format!("{needs}, and \"+3\" is none"),
+        ),
+        (
+            "show a --members 3 --members 4",
+            "--members stands there twice",
+        ),
+    ]);
+    for number in ["0", "4097", "4294967297", "18446744073709551617"] {
         let why = format!("--members {number} can't be: a ledger has 1 to 4096 members");
-        assert_eq!(asked(&format!("check a --members {number}")), Err(why));
+        refused(&[(&format!("check a --members {number}"), &why)]);
     }
 }
 

@@ -40,11 +40,17 @@ fn short(seed: u64) -> Options {
 
 /// A day with journals in this folder, and its list.
 fn day(folder: &Folder, options: &Options) -> (List, Evening<Whitherhaul>, Journals) {
-    let list = List::new(options.requests, &mut Random::new(options.seed));
     let journals = Journals::new(&folder.0).expect("a new folder");
-    let teller = Teller::new(Whitherhaul::NAME, false);
-    let evening = play(options, &list, teller, Some(&journals));
+    let (list, evening) = played(&journals, options);
     (list, evening, journals)
+}
+
+/// A day with these journals, and its list.
+fn played(journals: &Journals, options: &Options) -> (List, Evening<Whitherhaul>) {
+    let list = List::new(options.requests, &mut Random::new(options.seed));
+    let teller = Teller::new(Whitherhaul::NAME, false);
+    let evening = play(options, &list, teller, Some(journals));
+    (list, evening)
 }
 
 /// After a day with crashes each journal has every charge, once and in the order of the machine's own ledger.
@@ -97,6 +103,26 @@ fn appending_goes_on_behind_the_last_op() {
     }
     assert_eq!(asked, [0, 1]);
     assert_eq!(fs::read(&file).expect("there"), [7; 150]);
+}
+
+/// A journal that can't be written is told once, and the day goes on without it.
+#[test]
+fn what_cant_be_written_is_told() {
+    let folder = Folder::new("unwritten");
+    let journals = Journals::new(&folder.0).expect("a new folder");
+    fs::remove_file(journals.of(1)).expect("removed");
+    let (_, evening) = played(&journals, &short(5));
+    let [why] = &evening.wrong[..] else {
+        panic!("{:?}", evening.wrong);
+    };
+    let expected = format!(
+        "{} can't be written: No such file",
+        journals.of(1).display()
+    );
+    assert!(why.starts_with(&expected), "{why}");
+    let lengths = [0, 2].map(|id| fs::metadata(journals.of(id)).expect("there").len());
+    assert_eq!(lengths, [3_000; 2]);
+    assert!(!journals.of(1).exists());
 }
 
 #[test]
