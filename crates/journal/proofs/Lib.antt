@@ -8,3 +8,4 @@ pub mod SmallLaws
 pub mod GoodLaws
 pub mod WholeLaws
 pub mod RoundLaws
+pub mod UntouchedLaws

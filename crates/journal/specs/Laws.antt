@@ -12,7 +12,7 @@ use Rattle.model.specs.Book.{through}
 use Rattle.layout.specs.Layout.{totalOf}
 use Rattle.safety.specs.Money.{feesOf, refundsOf, allFees, allRefunds, sum}
 use Rattle.journal.specs.Journal.{noTotals}
-use Rattle.journal.specs.Calls.{LeftWritten, LeftRead, runCount, writeCall, readCall, takingsOf}
+use Rattle.journal.specs.Calls.{LeftWritten, notWritten, LeftRead, notRead, runCount, writeCall, readCall, takingsOf}
 
 -- the bytes that a call wrote, and the run of entries that a call read
 abbrev pub fileOf : LeftWritten → List ℕ
@@ -47,3 +47,12 @@ pub record Balanced (M : ℕ) (es : List Entry) (ts : List ℕ) : Type 0 where
 pub record BalancedRead (M : ℕ) (d : LeftRead) : Type 0 where
   pub balanced : Balanced M (entries (d .answer .entries) (d .area)) (cells 8 totalOf M (d .totals))
   pub takings : takingsOf M (d .totals) ≡ record { code = 0; cents = sum (cells 8 totalOf M (d .totals)) }
+
+-- Demand 1: a call that is refused leaves what was lent as it was, and answers 0 but for its number; a reading also where the first bad frame is and what
+-- is wrong with it, with 12 alone.
+abbrev pub UntouchedByWriting : (area : List ℕ) → LeftWritten → Type 0
+UntouchedByWriting area d = (d .answer .code ≡ 0 → ⊥) → d ≡ notWritten (d .answer .code) area
+
+pub record UntouchedByReading (area totals : List ℕ) (d : LeftRead) : Type 0 where
+  pub as-before : (d .answer .code ≡ 0 → ⊥) → d ≡ notRead (d .answer .code) (d .answer .offset) (d .answer .fault) area totals
+  pub else-nothing : (d .answer .code ≡ 12 → ⊥) → (d .answer .offset ≡ 0) × (d .answer .fault ≡ 0)
