@@ -1,5 +1,5 @@
-"""A journal as document 02 has it, written and judged, and the runs and files of ../shared/vectors/orders/FORMAT.md. Written without regard to the
-definitions of crates/journal, which tools/recorded-journal holds against it."""
+"""A journal as document 02 has it, written and examined, and the runs and files of ../shared/vectors/orders/FORMAT.md. It shares no text with the
+definitions of crates/journal, which tools/recorded-journal holds against it; who wrote it had read them."""
 
 FRAME = 50
 MOST = 4096                                # op numbers
