@@ -68,10 +68,10 @@
  * caller owes is the same as there: pointers and lengths that are true, and no two places of a call
  * that share a byte.
  *
- * Writing and reading keep 32,768 bytes of totals on the stack. Two calls may run at once where
- * they share no run that one of them writes. Link target/staticlib/native/libwhitherhaul_journal.a,
- * which needs the C library for memcpy and memset only; of whitherhaul.h only the numbers and the
- * words are used, but for the last helper here.
+ * No call keeps memory for all totals: writing and reading have those of 64 members on the stack.
+ * Two calls may run at once where they share no run that one of them writes. Link
+ * target/staticlib/native/libwhitherhaul_journal.a, which needs the C library for memcpy and memset
+ * only; of whitherhaul.h only the numbers and the words are used, but for the last helper here.
  */
 #ifndef WHITHERHAUL_JOURNAL_H
 #define WHITHERHAUL_JOURNAL_H

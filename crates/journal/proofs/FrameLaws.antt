@@ -3,13 +3,12 @@
 --     frame-length, frames-length     50 bytes a frame
 --     frames-join, frames-more        frames behind frames, and one more
 --     copied-none, copied-more        a turn of the frames that are made out of log and results
---     written-none, written-more      a turn of those that are made by the fee rules
 --     entries-none, entries-more      a turn of the entries that are read back
 -- Assumes nothing.
 use mathlib.Core.Path.{_≡_, refl, sym, ap, _∙_}
 use mathlib.Core.List.{List, [], _∷_, _++_, append-assoc, append-nil}
 use Prim.Native.Nat.{ℕ, zero, suc, _+_, _-_, _*_}
-use native.Mathlib.Nat.{mul-zero, mul-suc, add-comm, add-zero, zero-add}
+use native.Mathlib.Nat.{mul-zero, mul-suc, add-comm, add-zero}
 use native.Mathlib.Numerals.{add-one}
 use native.Mathlib.Omega.{arith}
 use lib.ListN.{length, take, drop, length-append}
@@ -24,8 +23,6 @@ use Rattle.entries.specs.declared.Entry.{Entry}
 use Rattle.entries.proofs.EntryLaws.{entry-codec}
 use Rattle.fees.specs.Results.{resultOf, encodeResult, resultIn, outcomes}
 use Rattle.fees.specs.declared.Outcome.{Outcome}
-use Rattle.model.specs.Book.{outcome, through, resultsOf}
-use Rattle.model.proofs.BookLaws.{answers-length, answers-append}
 use Rattle.journal.specs.Journal.{journalFrame, framesAfter, framedEntry, filed}
 
 -- ---- cells
@@ -104,31 +101,6 @@ module _ (from : ℕ) (log results area : List ℕ) where
       ∙ ap (λ (s : List ℕ). over s area)
       (sym (frames-more from j (es j) (os j) e o n m)
       ∙ rw (q, r, add-one, es-last j, os-last j))
-
--- ---- by the fee rules
-
-module _ (ts run area : List ℕ) where
-  pub written-none : area ≡ over (framesAfter 0 (entries 0 run) (resultsOf ts (entries 0 run))) area
-  unfolding framesAfter cells
-  written-none = over-nil area
-
-  pub written-more : (k : ℕ) (cur : List ℕ) {part : List ℕ} (e : Entry) (o : Outcome)
-      → cur ≡ over (framesAfter 0 (entries k run) (resultsOf ts (entries k run))) area → e ≡ entryOf (drop (32 * k) run)
-      → o ≡ outcome (through ts (entries k run)) e
-      → part ≡ over (journalFrame (k + 1) e o) (take (length cur - 50 * k) (drop (50 * k) cur))
-      → take (50 * k) cur ++ (part ++ drop (length cur - 50 * k) (drop (50 * k) cur))
-      ≡ over (framesAfter 0 (entries (k + 1) run) (resultsOf ts (entries (k + 1) run))) area
-  unfolding resultsOf
-  written-more k cur e o p q r w =
-      let es = entries k run in
-      let n = cells-length 32 entryOf k run in
-      let m = answers-length ts es ∙ n in
-      let l : length (framesAfter 0 es (resultsOf ts es)) ≡ 50 * k = frames-length 0 es (resultsOf ts es) (n ∙ sym m) ∙ ap (λ (j : ℕ). 50 * j) n in
-      over-lend (framesAfter 0 es (resultsOf ts es)) (journalFrame (k + 1) e o) area (50 * k) l p w
-      ∙ ap (λ (s : List ℕ). over s area)
-      (ap (λ (i : ℕ). framesAfter 0 es (resultsOf ts es) ++ journalFrame (i + 1) e o) (sym (zero-add k))
-      ∙ sym (frames-more 0 k es (resultsOf ts es) e o n m)
-      ∙ rw (r, q, add-one, cells-last 32 entryOf k run, answers-append ts es (entryOf (drop (32 * k) run) ∷ [])))
 
 -- ---- entries read back
 

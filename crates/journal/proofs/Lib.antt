@@ -1,7 +1,10 @@
 pub mod FrameLaws
 pub mod FaultLaws
 pub mod TotalLaws
+pub mod GroupLaws
 pub mod ExamineLaws
+pub mod BelowLaws
+pub mod WrittenLaws
 pub mod TakingLaws
 pub mod CallLaws
 pub mod SmallLaws

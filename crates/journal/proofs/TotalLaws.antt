@@ -2,18 +2,21 @@
 --     given-is, after-is, after-bytes    the fee rules on a run of totals are those on the list that it stands for
 --     through-none, through-more         a turn of the entries of a run
 --     zero-totals, zero-bytes            totals of 0
---     totals-written                     a run of totals written whole
+--     totals-are                         a run of totals as a whole
 -- Assumes nothing.
 use mathlib.Core.Path.{_≡_, refl, sym, ap, _∙_}
-use mathlib.Core.List.{List, [], _∷_, append-nil}
+use mathlib.Core.List.{List, [], _∷_}
 use Prim.Native.Nat.{ℕ, zero, suc, _+_, _-_, _*_, _^_, _≤_, _<_}
 use native.Mathlib.Numerals.{add-one}
 use native.Mathlib.Omega.{arith}
-use lib.ListN.{length, take, drop, replicate, replicate-append-replicate, drop-of-length-le}
-use lib.Seq.{length-take-le}
-use Rattle.numbers.specs.Numbers.{num, big, over, Bytes}
+use lib.Dec.{ltb}
+use lib.ListN.{length, drop, replicate, replicate-append-replicate}
+use lib.Seq.{take-all}
+use Rattle.numbers.specs.Numbers.{num, big, Bytes}
 use Rattle.numbers.specs.Cells.{cells, packed, Codec}
-use Rattle.numbers.proofs.NumberLaws.{be-big, big-num, num-front}
+use Rattle.numbers.proofs.WordLaws.{split}
+use Rattle.numbers.proofs.NumberLaws.{be-big, big-num, big-bytes, num-front}
+use Rattle.numbers.proofs.RunLaws.{put-bytes}
 use Rattle.numbers.proofs.CellLaws.{packed-cells}
 use Rattle.entries.specs.declared.Entry.{Entry}
 use Rattle.fees.specs.Fees.{outcomeOn, totalBytesAfter}
@@ -46,6 +49,13 @@ module _ (M : ℕ) (totals : List ℕ) (e : Entry) where
       → cells 8 totalOf M after ≡ totalsAfter (cells 8 totalOf M totals) e
   after-is after b w p = ap (cells 8 totalOf M) p ∙ totals-lift M totals e b w
 
+  pub after-bytes : Bytes totals → Bytes (totalBytesAfter M totals e)
+  unfolding totalBytesAfter
+  after-bytes b =
+      split Bytes (ltb (e .member) M) _ _
+      (λ _. put-bytes (8 * e .member) (big 8 (outcomeOn M totals e .total)) totals (big-bytes 8 (outcomeOn M totals e .total)) b)
+      (λ _. b)
+
 -- ---- totals of 0, and a run written from totals
 
 -- M totals of 0 at the front of a run of zeros
@@ -68,11 +78,9 @@ pub total-codec : Codec 8 totalOf (big 8) TotalFits
 unfolding num big
 total-codec = record { width = λ x. refl; front = λ s t h. num-front 8 0 s t h; back = λ x t f. be-big 8 x f }
 
--- a run that stands for these totals, over a run of their length
-pub totals-written : (M : ℕ) (own totals : List ℕ) (ts : List ℕ) → Bytes own → 8 * M ≤ length own → length totals ≡ 8 * M
-    → cells 8 totalOf M own ≡ ts → over (take (8 * M) own) totals ≡ packed (big 8) ts
-unfolding over
-totals-written M own totals ts b w l p =
-    let n : length (take (8 * M) own) ≡ 8 * M = length-take-le (8 * M) own w in
-    rw (drop-of-length-le totals {i = length (take (8 * M) own)} (omega arith), append-nil)
-    (sym (packed-cells 8 totalOf (big 8) TotalFits total-codec (λ s h r. big-num 8 0 s h (omega arith)) M own b w) ∙ ap (packed (big 8)) p)
+-- a run of M totals is their bytes, one after the other
+pub totals-are : (M : ℕ) (run : List ℕ) (ts : List ℕ) → Bytes run → length run ≡ 8 * M → cells 8 totalOf M run ≡ ts → run ≡ packed (big 8) ts
+totals-are M run ts b l p =
+    sym (take-all (8 * M) run (omega arith))
+    ∙ sym (packed-cells 8 totalOf (big 8) TotalFits total-codec (λ s h r. big-num 8 0 s h (omega arith)) M run b (omega arith))
+    ∙ ap (packed (big 8)) p

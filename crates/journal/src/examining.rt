@@ -1,15 +1,17 @@
-// The first bad frame of a file; and the entries of the good ones.
+// The first bad frame of a file; and the entries and totals of a good one.
 ghost use mathlib.Core.Path.{_≡_};
 ghost use Prim.Native.Nat.{_+_, _*_, _≤_, _<_};
 ghost use lib.ListN.{length, drop};
-ghost use Rattle.numbers.specs.Numbers.{over};
+ghost use Rattle.numbers.specs.Numbers.{big, over};
 ghost use Rattle.numbers.specs.Cells.{packed};
 ghost use Rattle.numbers.specs.Lending.{was, last};
 ghost use Rattle.entries.specs.Entries.{encodeEntry};
-ghost use Rattle.journal.specs.Journal.{filed};
+ghost use Rattle.model.specs.Book.{through};
+ghost use Rattle.journal.specs.Journal.{noTotals, filed};
 ghost use Rattle.journal.specs.Examining.{formFault, resultFault};
-ghost use Rattle.journal.specs.Steps.{ExaminesOne, Examines};
+ghost use Rattle.journal.specs.Steps.{ExaminesForms, ExaminedBelow, Examines};
 use crate::Examined;
+use crate::grouping;
 use fees::Outcome;
 
 // What is wrong with the form of the frame at place `at`, which has to have this op number.
@@ -48,24 +50,9 @@ fn result_fault(given: Outcome, stands: Outcome) -> u8
     0
 }
 
-// What is wrong with frame number i + 1 of a file, on the members' totals before it. Where it is nothing, they are left as they are after it.
-fn examine_one(members: u32, file: &[u8], i: usize, totals: &mut [u8]) -> u8
-    requires { ⌜ (i < 4096) × (8 * members ≤ length (now totals)) ⌝ }
-    ensures { λ r. ⌜ ExaminesOne members (was file) i (was totals) (last totals) r ⌝ }
-{
-    let at = 50 * i;
-    let fault = form_fault(file, at, (i + 1) as u32);
-    if fault != 0 {
-        return fault;
-    }
-    let given = fees::apply(totals, members, entries::entry_at(file, at + 9));
-    result_fault(given, fees::result_at(file, at + 41))
-}
-
-// A file up to its first bad frame, by the fee rules on these totals. They are left as they are after the last frame, where all are good.
-pub fn examine(members: u32, file: &[u8], totals: &mut [u8]) -> Examined
-    requires { ⌜ 8 * members ≤ length (now totals) ⌝ }
-    ensures { λ r. ⌜ Examines members (was file) (was totals) (last totals) r ⌝ }
+// A file up to the first frame whose form is bad.
+fn examine_forms(file: &[u8]) -> Examined
+    ensures { λ r. ⌜ ExaminesForms (was file) r ⌝ }
 {
     let mut i: usize = 0;
     while 50 * i < file.len() {
@@ -75,7 +62,7 @@ pub fn examine(members: u32, file: &[u8], totals: &mut [u8]) -> Examined
                 fault: 8,
             };
         }
-        let fault = examine_one(members, file, i, totals);
+        let fault = form_fault(file, 50 * i, (i + 1) as u32);
         if fault != 0 {
             return Examined { frames: i, fault };
         }
@@ -87,6 +74,41 @@ pub fn examine(members: u32, file: &[u8], totals: &mut [u8]) -> Examined
     }
 }
 
+// A file up to the first frame that is bad by its form, or by its result where that is of this group of members or one before. j is what was found before this group.
+fn examine_group(members: u32, low: u32, file: &[u8], j: Examined) -> Examined
+    requires { ⌜ (members ≤ 4096) × ((low < members) × ExaminedBelow members low (now file) j) ⌝ }
+    ensures { λ r. ⌜ ExaminedBelow members (low + 64) (was file) r ⌝ }
+{
+    let mut totals: [u8; 512] = [0; 512];
+    let mut i: usize = 0;
+    while i < j.frames {
+        let e = entries::entry_at(file, 50 * i + 9);
+        if grouping::in_group(members, low, e.member) {
+            let given = grouping::apply(&mut totals, members, low, e);
+            let fault = result_fault(given, fees::result_at(file, 50 * i + 41));
+            if fault != 0 {
+                return Examined { frames: i, fault };
+            }
+        }
+        i += 1;
+    }
+    j
+}
+
+// A file up to its first bad frame. It is looked over once for the forms, and once for the results of each group of members.
+pub fn examine(members: u32, file: &[u8]) -> Examined
+    requires { ⌜ (1 ≤ members) × (members ≤ 4096) ⌝ }
+    ensures { λ r. ⌜ Examines members (was file) r ⌝ }
+{
+    let mut j = examine_forms(file);
+    let mut low: u32 = 0;
+    while low < members {
+        j = examine_group(members, low, file, j);
+        low += 64;
+    }
+    j
+}
+
 // The entries of the first k frames into the area, 32 bytes each.
 pub fn copy_entries(file: &[u8], k: usize, area: &mut [u8])
     requires { ⌜ (k ≤ 4096) × ((50 * k ≤ length (now file)) × (32 * k ≤ length (now area))) ⌝ }
@@ -95,6 +117,19 @@ pub fn copy_entries(file: &[u8], k: usize, area: &mut [u8])
     let mut j: usize = 0;
     while j < k {
         entries::write_entry(&mut area[32 * j..], entries::entry_at(file, 50 * j + 9));
+        j += 1;
+    }
+}
+
+// The totals after the first k frames over a run of M totals.
+pub fn put_totals(members: u32, file: &[u8], k: usize, totals: &mut [u8])
+    requires { ⌜ (k ≤ 4096) × ((50 * k ≤ length (now file)) × (length (now totals) ≡ 8 * members)) ⌝ }
+    ensures { λ r. ⌜ last totals ≡ packed (big 8) (through (noTotals members) (filed k (was file))) ⌝ }
+{
+    numbers::fill(totals, totals.len(), 0);
+    let mut j: usize = 0;
+    while j < k {
+        fees::apply(totals, members, entries::entry_at(file, 50 * j + 9));
         j += 1;
     }
 }

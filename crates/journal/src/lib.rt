@@ -5,6 +5,7 @@ ghost use Rattle.journal.specs.Calls.{writeCall, appendCall, totalsThere
 use entries::Entry;
 use fees::Outcome;
 
+mod grouping; // the fee rules on the totals of 64 members
 mod writing; // frames into an area
 mod examining; // the first bad frame of a file
 
@@ -47,7 +48,7 @@ fn not_written(code: u8) -> Written
     Written { code, bytes: 0 }
 }
 
-// The journal of a run of entries, 32 bytes each, into the area. Outcomes and totals are worked out by the fee rules from zero, on totals of the call's own.
+// The journal of a run of entries, 32 bytes each, into the area. Outcomes and totals are worked out by the fee rules from zero.
 pub fn write(members: u32, run: &[u8], area: &mut [u8]) -> Written
     ensures { λ r. ⌜ (record { answer = r; area = last area }) ≡ writeCall members (was run) (was area) ⌝ }
 {
@@ -64,8 +65,7 @@ pub fn write(members: u32, run: &[u8], area: &mut [u8]) -> Written
     if area.len() < 50 * n {
         return not_written(9);
     }
-    let mut totals: [u8; 32768] = [0; 32768];
-    writing::write_frames(members, run, n, &mut totals, area);
+    writing::write_frames(members, run, n, area);
     Written {
         code: 0,
         bytes: 50 * n,
@@ -111,15 +111,14 @@ fn totals_there(members: u32, totals: &[u8]) -> bool
     totals.len() == 8 * members as usize
 }
 
-// A file's entries into the area, 32 bytes each, and the members' totals after them. The whole file is examined first, on totals of the call's own: what is lent keeps no trace of a bad one.
+// A file's entries into the area, 32 bytes each, and the members' totals after them. The whole file is examined before any byte is written: what is lent keeps no trace of a bad one.
 pub fn read(members: u32, file: &[u8], area: &mut [u8], totals: &mut [u8]) -> ReadBack
     ensures { λ r. ⌜ (record { answer = r; area = last area; totals = last totals }) ≡ readCall members (was file) (was area) (was totals) ⌝ }
 {
     if !totals_there(members, totals) {
         return not_read(1, 0, 0);
     }
-    let mut own: [u8; 32768] = [0; 32768];
-    let j = examining::examine(members, file, &mut own);
+    let j = examining::examine(members, file);
     if j.fault != 0 {
         return not_read(12, 50 * j.frames, j.fault);
     }
@@ -127,7 +126,7 @@ pub fn read(members: u32, file: &[u8], area: &mut [u8], totals: &mut [u8]) -> Re
         return not_read(9, 0, 0);
     }
     examining::copy_entries(file, j.frames, area);
-    numbers::copy(totals, &own, 8 * members as usize);
+    examining::put_totals(members, file, j.frames, totals);
     ReadBack {
         code: 0,
         entries: j.frames,

@@ -1,17 +1,16 @@
 // Frames into an area, each straight after the one before it.
 ghost use mathlib.Core.Path.{_≡_};
-ghost use Prim.Native.Nat.{_+_, _*_, _≤_};
+ghost use Prim.Native.Nat.{_+_, _*_, _≤_, _<_};
 ghost use lib.ListN.{length, drop};
 ghost use Rattle.numbers.specs.Numbers.{over};
-ghost use Rattle.numbers.specs.Cells.{cells};
 ghost use Rattle.numbers.specs.Lending.{was, last};
 ghost use Rattle.entries.specs.Entries.{entries};
 ghost use Rattle.entries.specs.Places.{entryPlace, resultPlace};
 ghost use Rattle.fees.specs.Results.{outcomes};
-ghost use Rattle.model.specs.Book.{resultsOf};
-ghost use Rattle.layout.specs.Layout.{totalOf};
-ghost use Rattle.journal.specs.Journal.{journalFrame, framesAfter};
+ghost use Rattle.journal.specs.Journal.{journalFrame, framesAfter, journal};
+ghost use Rattle.journal.specs.Steps.{WritesGroup};
 ghost use Rattle.journal.specs.Calls.{runOk, opsThere};
+use crate::grouping;
 use entries::Entry;
 use fees::Outcome;
 
@@ -37,17 +36,32 @@ pub fn run_ok(run: &[u8]) -> bool
     entries::entries_ok(run, 0, run.len() / 32)
 }
 
-// The frames of the first n entries of a run, with what the fee rules give for each on these totals.
-pub fn write_frames(members: u32, run: &[u8], n: usize, totals: &mut [u8], area: &mut [u8])
-    requires { ⌜ (n ≤ 4096) × ((32 * n ≤ length (now run)) × ((8 * members ≤ length (now totals)) × (50 * n ≤ length (now area)))) ⌝ }
-    ensures { λ r. ⌜ last area ≡ over (framesAfter 0 (entries n (was run)) (resultsOf (cells 8 totalOf members (was totals)) (entries n (was run)))) (was area) ⌝ }
+// The frames of those entries that are of a group's members, among the first n of a run.
+fn write_group(members: u32, low: u32, run: &[u8], n: usize, area: &mut [u8])
+    requires { ⌜ (members ≤ 4096) × ((low < members) × ((n ≤ 4096) × ((32 * n ≤ length (now run)) × (50 * n ≤ length (now area))))) ⌝ }
+    ensures { λ r. ⌜ WritesGroup members low n (was run) (was area) (last area) ⌝ }
 {
+    let mut totals: [u8; 512] = [0; 512];
     let mut k: usize = 0;
     while k < n {
         let e = entries::entry_at(run, 32 * k);
-        let o = fees::apply(totals, members, e);
-        write_frame(&mut area[50 * k..], (k + 1) as u32, e, o);
+        if grouping::in_group(members, low, e.member) {
+            let o = grouping::apply(&mut totals, members, low, e);
+            write_frame(&mut area[50 * k..], (k + 1) as u32, e, o);
+        }
         k += 1;
+    }
+}
+
+// The frames of the first n entries of a run, with what the fee rules give for each from totals of 0. The run is looked over once for each group of members.
+pub fn write_frames(members: u32, run: &[u8], n: usize, area: &mut [u8])
+    requires { ⌜ (1 ≤ members) × ((members ≤ 4096) × ((n ≤ 4096) × ((32 * n ≤ length (now run)) × (50 * n ≤ length (now area))))) ⌝ }
+    ensures { λ r. ⌜ last area ≡ over (journal members (entries n (was run))) (was area) ⌝ }
+{
+    let mut low: u32 = 0;
+    while low < members {
+        write_group(members, low, run, n, area);
+        low += 64;
     }
 }
 
