@@ -9,6 +9,10 @@ use whitherhaul::{Entry, Journal, Refusal};
 /// How many journals are tried, each whole and with five damages.
 const JOURNALS: usize = 3000;
 
+/// Members that come again and again, also where there are many: the library takes them in groups
+/// of 64, and these are at the groups' edges.
+const OFTEN: [u32; 7] = [0, 62, 63, 64, 65, 127, 128];
+
 /// Numbers by xorshift, the same in every run.
 struct Random(u64);
 
@@ -28,7 +32,10 @@ impl Random {
     fn entry(&mut self, members: u32) -> Vec<u8> {
         let (client, request) = (self.0, self.below(3) as u64);
         let beyond = self.of(&[members, members + 1, u32::MAX]);
-        let member = self.below(members as usize + 1) as u32;
+        let member = match self.below(2) {
+            0 => self.of(&OFTEN),
+            _ => self.below(members as usize + 1) as u32,
+        };
         let member = if member == members { beyond } else { member };
         let cents = self.of(&[1, 2, 255, 256, 4500, 999_999, 1_000_000]);
         match self.of(&[1, 1, 2, 3]) {
@@ -126,13 +133,13 @@ fn random_journals_and_damage() {
     let mut random = Random(0x5eed_0001);
     let mut met = [0; 8];
     for _ in 0..JOURNALS {
-        let members = random.of(&[1, 2, 3, 8, 4096]);
+        let members = random.of(&[1, 2, 3, 8, 63, 64, 65, 129, 4096]);
         let file = model::write(members, &random.run(members));
         met[tried(&mut random, members, &file)] += 1;
         for _ in 0..5 {
             let damaged = damaged(&mut random, &file);
             let members = if random.below(8) == 0 {
-                random.of(&[1, 2, 3, 9])
+                random.of(&[1, 2, 3, 9, 64, 128])
             } else {
                 members
             };
@@ -149,7 +156,7 @@ fn random_runs_of_entries() {
     let mut random = Random(0x5eed_0002);
     let mut met = [0; 10];
     for _ in 0..JOURNALS {
-        let members = random.of(&[0, 1, 2, 3, 8, 4096, 4097]);
+        let members = random.of(&[0, 1, 2, 3, 8, 63, 64, 65, 129, 4096, 4097]);
         let mut run = random.run(members.clamp(1, 4096));
         if !run.is_empty() && random.below(3) == 0 {
             let place = random.below(run.len());
