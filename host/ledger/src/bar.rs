@@ -1,9 +1,9 @@
 //! A bar on standard error, for what takes long.
 //!
-//! It is drawn only where standard error is a terminal and standard output is a file on disk. An
-//! output on the same terminal, or in a pager that shows it there, would have the bar in its midst.
-//! Long is what takes more than half a second. A journal from disk takes milliseconds, so that the
-//! bar is for a slow pipe, or a table that goes to a slow disk.
+//! It is drawn only where standard error is a terminal, and where no output comes into its midst:
+//! none into a pipe, whose reader may show it on the same terminal, and beside what is printed none
+//! on a terminal. Long is what takes more than half a second. A journal from disk takes
+//! milliseconds, so that the bar is for a slow pipe, or a table that goes to a slow disk.
 
 use crate::words::grouped;
 use std::fs::File;
@@ -30,9 +30,23 @@ pub struct Bar<W: Write = Stderr> {
 }
 
 impl Bar {
-    /// A bar on standard error for so many of something.
-    pub fn new(what: &'static str, most: usize, unit: &'static str) -> Bar {
-        let out = (io::stderr().is_terminal() && output_is_file()).then(io::stderr);
+    /// A bar on standard error for so many of something, before anything is printed.
+    pub fn before_output(what: &'static str, most: usize, unit: &'static str) -> Bar {
+        Bar::where_free(
+            output_is_file() || io::stdout().is_terminal(),
+            what,
+            most,
+            unit,
+        )
+    }
+
+    /// A bar on standard error for so many of something that is printed.
+    pub fn beside_output(what: &'static str, most: usize, unit: &'static str) -> Bar {
+        Bar::where_free(output_is_file(), what, most, unit)
+    }
+
+    fn where_free(free: bool, what: &'static str, most: usize, unit: &'static str) -> Bar {
+        let out = (io::stderr().is_terminal() && free).then(io::stderr);
         Bar::on(out, what, most, unit, Instant::now())
     }
 }

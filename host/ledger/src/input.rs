@@ -45,7 +45,7 @@ fn standard_input() -> io::Result<Vec<u8>> {
 
 fn pieces(input: impl Read) -> io::Result<Vec<u8>> {
     let mut input = input.take(LONGEST as u64 + 1);
-    let mut bar = Bar::new("reading", LONGEST, "bytes");
+    let mut bar = Bar::before_output("reading", LONGEST, "bytes");
     let mut content = Vec::new();
     let mut piece = [0; 4096];
     loop {

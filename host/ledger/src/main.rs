@@ -66,7 +66,7 @@ fn show(file: &Source, members: Option<u32>) -> Result<u8, String> {
 }
 
 fn print_lines(lines: &[String]) -> Result<(), String> {
-    let mut bar = Bar::new("printing", lines.len(), "lines");
+    let mut bar = Bar::beside_output("printing", lines.len(), "lines");
     let mut done = 0;
     for piece in lines.chunks(PIECE) {
         print(&format!("{}\n", piece.join("\n")))?;
