@@ -11,8 +11,10 @@ use whitherhaul::raw;
 /// How many entries a journal can have, and members a ledger.
 const MOST: usize = 4096;
 
-/// A run of entries, its journal, and what a replica that applied it holds of it.
+/// The entries of a ledger with so many members, their journal, and what a replica that applied
+/// them holds of it.
 struct Day {
+    members: u32,
     run: Vec<u8>,
     file: Vec<u8>,
     results: Vec<u8>,
@@ -20,7 +22,7 @@ struct Day {
 
 impl Day {
     /// So many entries, each with the operation, member and cents that are said of its place.
-    fn of(entries: usize, said: impl Fn(usize) -> (u8, usize, u64)) -> Day {
+    fn of(members: u32, entries: usize, said: impl Fn(usize) -> (u8, usize, u64)) -> Day {
         let mut run = Vec::new();
         for place in 0..entries {
             let (operation, member, cents) = said(place);
@@ -35,16 +37,21 @@ impl Day {
             run.extend(cents.to_be_bytes());
         }
         let mut file = vec![0; 50 * entries];
-        assert_eq!(plain::write(MOST as u32, &run, &mut file), (0, file.len()));
+        assert_eq!(plain::write(members, &run, &mut file), (0, file.len()));
         let results = file.chunks(50).flat_map(|frame| &frame[41..]).copied();
         let results = results.collect();
-        Day { run, file, results }
+        Day {
+            members,
+            run,
+            file,
+            results,
+        }
     }
 
-    /// Fees, refunds and asks of all members in turn.
-    fn mixed() -> Day {
-        Day::of(MOST, |place| {
-            let member = place * 7 % MOST;
+    /// Fees, refunds and asks of so many members in turn.
+    fn mixed(members: usize) -> Day {
+        Day::of(members as u32, MOST, |place| {
+            let member = place * 7 % members;
             match place % 8 {
                 6 => (2, member, 500),
                 7 => (3, member, 0),
@@ -55,12 +62,12 @@ impl Day {
 
     /// A Fee of each member.
     fn each_once() -> Day {
-        Day::of(MOST, |place| (1, place, 4_500))
+        Day::of(MOST as u32, MOST, |place| (1, place, 4_500))
     }
 
-    /// Fees of one member.
-    fn all_of_one() -> Day {
-        Day::of(MOST, |_| (1, 7, 4_500))
+    /// So many Fees of one member.
+    fn of_one(entries: usize) -> Day {
+        Day::of(MOST as u32, entries, |_| (1, 7, 4_500))
     }
 }
 
@@ -72,10 +79,10 @@ struct Lent {
 }
 
 impl Lent {
-    fn new() -> Lent {
+    fn new(members: u32) -> Lent {
         Lent {
             area: vec![0xa5; 50 * MOST],
-            totals: vec![0xa5; 8 * MOST],
+            totals: vec![0xa5; 8 * members as usize],
         }
     }
 }
@@ -114,7 +121,7 @@ enum Call {
 
 /// The call of a case through one side; its answer as numbers.
 fn call(side: &Side, case: Call, day: &Day, lent: &mut Lent) -> (u8, [u64; 3]) {
-    let (members, ops) = (MOST as u32, (day.run.len() / 32) as u32);
+    let (members, ops) = (day.members, (day.run.len() / 32) as u32);
     let as_numbers = |(number, bytes): Written| (number, [bytes as u64, 0, 0]);
     let area = &mut lent.area;
     match case {
@@ -132,7 +139,7 @@ fn call(side: &Side, case: Call, day: &Day, lent: &mut Lent) -> (u8, [u64; 3]) {
 
 /// What so many calls of a case take through one side.
 fn timed(side: &Side, case: Call, day: &Day, calls: u32) -> Duration {
-    let mut lent = Lent::new();
+    let mut lent = Lent::new(day.members);
     // The first call finds the memory as the others do.
     call(side, case, day, &mut lent);
     took(false, || {
@@ -145,7 +152,7 @@ fn timed(side: &Side, case: Call, day: &Day, calls: u32) -> Duration {
 /// Nanoseconds a call through ours and through plain Rust, the sides in turn. Both leave the same, or the program stops.
 fn compared(case: Call, day: &Day, calls: u32, rounds: usize) -> [Option<f64>; 2] {
     let left = [OURS, PLAIN].map(|side| {
-        let mut lent = Lent::new();
+        let mut lent = Lent::new(day.members);
         (call(&side, case, day, &mut lent), lent)
     });
     assert!(left[0] == left[1], "both sides give the same");
@@ -163,20 +170,22 @@ fn compared(case: Call, day: &Day, calls: u32, rounds: usize) -> [Option<f64>; 2
 fn cases() -> Vec<(&'static str, Call, Day, u32)> {
     use Call::{Append, Read, Write};
     vec![
-        ("read, 4,096 entries", Read, Day::mixed(), 1),
+        ("read, 4,096 entries", Read, Day::mixed(MOST), 1),
         ("read, 4,096 members once", Read, Day::each_once(), 1),
-        ("read, one member 4,096 times", Read, Day::all_of_one(), 1),
-        ("read, 1 entry", Read, Day::of(1, |_| (1, 7, 4_500)), 20),
-        ("write, 4,096 entries", Write, Day::mixed(), 1),
+        ("read, one member 4,096 times", Read, Day::of_one(MOST), 1),
+        ("read, 4,096 entries, M = 240", Read, Day::mixed(240), 1),
+        ("read, 1 entry", Read, Day::of_one(1), 20),
+        ("write, 4,096 entries", Write, Day::mixed(MOST), 1),
         ("write, 4,096 members once", Write, Day::each_once(), 1),
-        ("write, one member 4,096 times", Write, Day::all_of_one(), 1),
+        ("write, one member 4,096 times", Write, Day::of_one(MOST), 1),
+        ("write, 4,096 entries, M = 240", Write, Day::mixed(240), 1),
         (
             "append, 1 of 4,096 ops",
             Append(MOST - 1),
-            Day::mixed(),
+            Day::mixed(MOST),
             1000,
         ),
-        ("append, 4,096 ops", Append(0), Day::mixed(), 1),
+        ("append, 4,096 ops", Append(0), Day::mixed(MOST), 1),
     ]
 }
 
@@ -205,14 +214,14 @@ mod tests {
     fn what_is_refused_is_refused_alike() {
         let alike = |case, day: &Day| {
             let [ours, plain] = [OURS, PLAIN].map(|side| {
-                let mut lent = Lent::new();
+                let mut lent = Lent::new(day.members);
                 (call(&side, case, day, &mut lent), lent)
             });
             assert!(ours == plain);
             ours.0
         };
         for place in 0..50 {
-            let mut day = Day::of(9, |_| (1, 7, 4_500));
+            let mut day = Day::of_one(9);
             day.file[200 + place] ^= 0x80;
             let named = (9..25).contains(&place);
             let (number, [_, offset, _]) = alike(Call::Read, &day);
@@ -220,7 +229,7 @@ mod tests {
             day.file.truncate(251);
             alike(Call::Read, &day);
         }
-        let mut day = Day::mixed();
+        let mut day = Day::mixed(MOST);
         day.file.push(0);
         assert_eq!(alike(Call::Read, &day), (12, [0, 204_800, 8]));
         day.run.push(0);
