@@ -13,7 +13,7 @@ use Prim.Native.Nat.{ℕ, zero, suc, _+_, _-_, _*_, _≤_, _<_}
 use native.Mathlib.Numerals.{add-one}
 use native.Mathlib.Omega.{arith}
 use lib.Dec.{eqb}
-use lib.ListN.{length, drop, length-drop, length-replicate}
+use lib.ListN.{length, drop, length-drop}
 use borrow.Author.Tests.{eqb-true, eqb-false}
 use Rattle.numbers.proofs.NumberLaws.{le-or-lt}
 use Rattle.entries.specs.Entries.{entryOf}
@@ -21,9 +21,7 @@ use Rattle.entries.specs.declared.Entry.{Entry}
 use Rattle.fees.specs.Fees.{outcomeOn, totalBytesAfter}
 use Rattle.fees.specs.Results.{resultOf}
 use Rattle.fees.specs.declared.Outcome.{Outcome}
-use Rattle.model.specs.Book.{outcome, totalsAfter}
-use Rattle.model.proofs.BookLaws.{through-length}
-use Rattle.journal.specs.Journal.{noTotals, framedEntry, framedResult, filed}
+use Rattle.journal.specs.Journal.{noTotals, framedEntry, framedResult}
 use Rattle.journal.specs.Examining.{formFault, resultFault, fault, examinedAs, examinedAfter, examined}
 use Rattle.journal.specs.Steps.{groupSize, inGroup, groupsBelow, groupEntry, totalsFiled, resultFaultIn, GoesOnBadly, ExaminedBelow}
 use Rattle.journal.specs.declared.Examined.{Examined}
@@ -91,17 +89,11 @@ module _ (M low : ℕ) (file : List ℕ) where
     framed : e ≡ framedEntry (drop (50 * i) file)
     framed = p ∙ entry-there (50 * i) file
 
-    all-there : length (totalsFiled M i file) ≡ M
-    all-there = through-length (noTotals M) (filed i file) ∙ length-replicate {A = ℕ} M 0
-
-    after-it : totalsAfter (totalsFiled M i file) e ≡ totalsFiled M (i + 1) file
-    after-it = through-more 50 framedEntry (noTotals M) file i (totalsFiled M i file) e refl framed
-
     pub other-turn : inGroup M low (e .member) ≡ false
         → Grouped M low (totalsFiled M (i + 1) file) totals × Right M low (i + 1) file
     other-turn o =
         let f : inGroup M low (member i file) ≡ false = ap (λ (x : Entry). inGroup M low (x .member)) (sym framed) ∙ o in (
-          grouped-other M low (totalsFiled M i file) totals all-there g e o (totalsFiled M (i + 1) file) after-it,
+          grouped-other M low 50 framedEntry file i totals g e framed o,
           each-more (λ (k : ℕ). inGroup M low (member k file) ≡ true → resultFaultIn M k file ≡ 0) i r (λ y. absurd (false≢true (sym f ∙ y))),
         )
 
@@ -109,15 +101,14 @@ module _ (M low : ℕ) (file : List ℕ) where
         (t : s ≡ resultOf (drop (50 * i + 41) file)) (h : f ≡ resultFault o s) where
       pub judged : f ≡ resultFaultIn M i file
       judged =
-          let given : o ≡ outcome (totalsFiled M i file) (framedEntry (drop (50 * i) file)) =
-          grouped-given M low (totalsFiled M i file) totals all-there g e y o q ∙ ap (outcome (totalsFiled M i file)) framed in
+          let given = grouped-given M low 50 framedEntry file i totals g e framed y o q in
           let stands : s ≡ framedResult (drop (50 * i) file) = t ∙ result-there (50 * i) file in
           h ∙ (λ k. resultFault (given k) (stands k))
 
       pub right-turn : (after : List ℕ) → after ≡ totalBytesAfter (groupSize M low) totals (groupEntry low e) → length after ≡ length totals
           → f ≡ 0 → Grouped M low (totalsFiled M (i + 1) file) after × Right M low (i + 1) file
       right-turn after u l z = (
-        grouped-more M low (totalsFiled M i file) totals all-there g e y after u l (totalsFiled M (i + 1) file) after-it,
+        grouped-more M low 50 framedEntry file i totals g e framed y after u l,
         each-more (λ (k : ℕ). inGroup M low (member k file) ≡ true → resultFaultIn M k file ≡ 0) i r (λ _. sym judged ∙ z),
       )
 

@@ -1,16 +1,16 @@
 -- Laws of the groups in which members are taken.
 --     each-more                      a fact about each number, one more
---     size-le, size-few              a group's size
+--     size-le, size-few, in-above    a group's size, and its first member
+--     below-none, below-next, below-all    the groups below the first, below the next one, and below the end
 --     Grouped, grouped-none          a run that has the totals of a group; before any entry
 --     grouped-given, grouped-more    an entry of the group, on its totals
 --     grouped-other                  any other entry leaves them
---     below-next, below-all          the groups below the next one, and below the end
 -- Assumes nothing.
 use mathlib.Core.Path.{_≡_, refl, sym, ap, _∙_, subst}
 use mathlib.Core.Bool.{Bool, true, false, false≢true}
 use mathlib.Core.List.{List}
 use mathlib.Core.Logic.{⊎-elim}
-use Prim.Native.Nat.{ℕ, _+_, _-_, _≤_, _<_}
+use Prim.Native.Nat.{ℕ, _+_, _-_, _*_, _≤_, _<_}
 use native.Mathlib.Omega.{arith}
 use lib.Dec.{leb, ltb}
 use lib.ListN.{length, getD, set, take, drop, replicate, length-drop, length-replicate, replicate-append-replicate}
@@ -25,11 +25,12 @@ use Rattle.entries.specs.Entries.{operationOf}
 use Rattle.entries.specs.declared.Entry.{Entry}
 use Rattle.fees.specs.Fees.{rule, outcomeOn, totalBytesAfter}
 use Rattle.fees.specs.declared.Outcome.{Outcome}
-use Rattle.model.specs.Book.{outcome, totalsAfter}
+use Rattle.model.specs.Book.{outcome, totalsAfter, through}
+use Rattle.model.proofs.BookLaws.{through-length}
 use Rattle.layout.specs.Layout.{totalOf}
 use Rattle.journal.specs.Journal.{noTotals}
 use Rattle.journal.specs.Steps.{groupSize, inGroup, groupsBelow, groupEntry}
-use Rattle.journal.proofs.TotalLaws.{given-is, after-is, after-bytes, zero-totals, zero-bytes}
+use Rattle.journal.proofs.TotalLaws.{through-none, through-more, given-is, after-is, after-bytes, zero-totals, zero-bytes}
 
 -- a fact about each number below i, and about i
 pub each-more : (P : ℕ → Type 0) (i : ℕ) → ((k : ℕ) → k < i → P k) → P i → (k : ℕ) → k < i + 1 → P k
@@ -195,24 +196,44 @@ pub record Grouped (M low : ℕ) (ts totals : List ℕ) : Type 0 where
   pub long : length totals ≡ 512
   pub are : cells 8 totalOf (groupSize M low) totals ≡ groupTotals M low ts
 
-module _ (M low : ℕ) where
-  pub grouped-none : low < M → Grouped M low (noTotals M) (replicate 512 0)
-  grouped-none h = record { bytes = zero-bytes 512; long = refl; are = group-none M low 512 h (omega arith) }
+-- over the entries of a run, read by any reader of cells
+module _ (M low w : ℕ) (get : List ℕ → Entry) (s : List ℕ) where
+  -- the members' totals before entry number i + 1
+  abbrev before : (i : ℕ) → List ℕ
+  before i = through (noTotals M) (cells w get i s)
 
-  module _ (ts totals : List ℕ) (n : length ts ≡ M) (g : Grouped M low ts totals) (e : Entry) where
-    pub grouped-other : inGroup M low (e .member) ≡ false → (us : List ℕ) → totalsAfter ts e ≡ us → Grouped M low us totals
-    grouped-other i us p =
-        record { bytes = g .bytes; long = g .long; are = g .are ∙ sym (group-stays M low ts n e i) ∙ ap (groupTotals M low) p }
+  pub grouped-none : low < M → Grouped M low (before 0) (replicate 512 0)
+  grouped-none h =
+      record {
+        bytes = zero-bytes 512;
+        long = refl;
+        are = group-none M low 512 h (omega arith) ∙ ap (groupTotals M low) (through-none w get (noTotals M) s);
+      }
 
-    module _ (i : inGroup M low (e .member) ≡ true) where
-      pub grouped-given : (o : Outcome) → o ≡ outcomeOn (groupSize M low) totals (groupEntry low e) → o ≡ outcome ts e
+  module _ (i : ℕ) (totals : List ℕ) (g : Grouped M low (before i) totals) (e : Entry) (p : e ≡ get (drop (w * i) s)) where
+    all-there : length (before i) ≡ M
+    all-there = through-length (noTotals M) (cells w get i s) ∙ length-replicate {A = ℕ} M 0
+
+    next : totalsAfter (before i) e ≡ before (i + 1)
+    next = through-more w get (noTotals M) s i (before i) e refl p
+
+    pub grouped-other : inGroup M low (e .member) ≡ false → Grouped M low (before (i + 1)) totals
+    grouped-other o =
+        record {
+          bytes = g .bytes;
+          long = g .long;
+          are = g .are ∙ sym (group-stays M low (before i) all-there e o) ∙ ap (groupTotals M low) next;
+        }
+
+    module _ (y : inGroup M low (e .member) ≡ true) where
+      pub grouped-given : (o : Outcome) → o ≡ outcomeOn (groupSize M low) totals (groupEntry low e) → o ≡ outcome (before i) (get (drop (w * i) s))
       grouped-given o q =
-          given-is (groupSize M low) totals (groupEntry low e) (groupTotals M low ts) o (g .are) q
-          ∙ same-outcome M low ts n e i (ltb (e .member) M) refl
+          given-is (groupSize M low) totals (groupEntry low e) (groupTotals M low (before i)) o (g .are) q
+          ∙ same-outcome M low (before i) all-there e y (ltb (e .member) M) refl ∙ ap (outcome (before i)) p
 
       pub grouped-more : (after : List ℕ) → after ≡ totalBytesAfter (groupSize M low) totals (groupEntry low e) → length after ≡ length totals
-          → (us : List ℕ) → totalsAfter ts e ≡ us → Grouped M low us after
-      grouped-more after q l us p =
+          → Grouped M low (before (i + 1)) after
+      grouped-more after q l =
           let k = groupSize M low in
           record {
             bytes = subst Bytes (sym q) (after-bytes k totals (groupEntry low e) (g .bytes));
@@ -220,6 +241,6 @@ module _ (M low : ℕ) where
             are =
                 after-is k totals (groupEntry low e) after (g .bytes) (omega (arith, size-few M low, g .long)) q
                 ∙ ap (λ (vs : List ℕ). totalsAfter vs (groupEntry low e)) (g .are)
-                ∙ same-after M low ts n e i (ltb (e .member) M) refl
-                ∙ ap (groupTotals M low) p;
+                ∙ same-after M low (before i) all-there e y (ltb (e .member) M) refl
+                ∙ ap (groupTotals M low) next;
           }

@@ -1,6 +1,6 @@
 -- Laws of frames that are written group by group.
 --     put-frame                       a frame over its place in an area
---     group-begins, other-frame, group-frame    a turn of the frames of a group
+--     group-begins, other-frame, group-frame    a turn of the frames of a group; group-framed: the frame itself
 --     WrittenBelow, below-begins, below-more    the groups below one
 --     all-written                     once all groups are written
 -- Assumes nothing.
@@ -10,22 +10,21 @@ use mathlib.Core.List.{List, [], _∷_, _++_, append-nil}
 use Prim.Native.Nat.{ℕ, zero, suc, _+_, _-_, _*_, _≤_, _<_}
 use native.Mathlib.Nat.{zero-add}
 use native.Mathlib.Omega.{arith}
-use lib.ListN.{length, take, drop, length-append, length-drop, length-replicate, take-append-drop, drop-of-length-le}
+use lib.ListN.{length, take, drop, length-append, length-drop, take-append-drop, drop-of-length-le}
 use lib.Seq.{take-all, take-add, take-at, drop-at, drop-drop, take-append-le, drop-append-le, length-take-le}
 use Rattle.numbers.specs.Numbers.{over}
 use Rattle.numbers.specs.Cells.{cells}
 use Rattle.numbers.proofs.CellLaws.{cells-length}
 use Rattle.entries.specs.Entries.{entryOf, entries}
 use Rattle.entries.specs.declared.Entry.{Entry}
-use Rattle.fees.specs.Fees.{outcomeOn, totalBytesAfter}
+use Rattle.fees.specs.Fees.{outcomeOn}
 use Rattle.fees.specs.declared.Outcome.{Outcome}
-use Rattle.model.specs.Book.{outcome, totalsAfter, through, resultsOf}
-use Rattle.model.proofs.BookLaws.{through-length, answers-length, answers-append}
+use Rattle.model.specs.Book.{outcome, resultsOf}
+use Rattle.model.proofs.BookLaws.{answers-length, answers-append}
 use Rattle.journal.specs.Journal.{journalFrame, framesAfter, noTotals, journal}
-use Rattle.journal.specs.Steps.{groupSize, inGroup, groupsBelow, groupEntry, entryOfRun, frameOfRun, WritesGroup}
+use Rattle.journal.specs.Steps.{groupSize, inGroup, groupsBelow, groupEntry, entryOfRun, totalsOfRun, frameOfRun, WritesGroup}
 use Rattle.journal.proofs.FrameLaws.{cells-last, frames-length, frames-more}
-use Rattle.journal.proofs.TotalLaws.{through-more}
-use Rattle.journal.proofs.GroupLaws.{each-more, below-next, below-all, below-none, Grouped, grouped-given, grouped-more, grouped-other}
+use Rattle.journal.proofs.GroupLaws.{each-more, below-next, below-all, below-none, Grouped, grouped-given}
 
 -- ---- one frame in an area
 
@@ -121,29 +120,13 @@ module _ (M low : ℕ) (run before : List ℕ) where
               (λ i l e. before-put k w cur fifty room i l ∙ g .others i l e) (λ o. absurd (false≢true (sym o ∙ y)));
         }
 
--- the group's totals, over the entries of a run
-abbrev pub totalsRun : (M k : ℕ) (run : List ℕ) → List ℕ
-totalsRun M k run = through (noTotals M) (entries k run)
-
-module _ (M low k : ℕ) (run totals : List ℕ) (g : Grouped M low (totalsRun M k run) totals) (e : Entry) (p : e ≡ entryOfRun k run) where
-  all-there : length (totalsRun M k run) ≡ M
-  all-there = through-length (noTotals M) (entries k run) ∙ length-replicate {A = ℕ} M 0
-
-  after-it : totalsAfter (totalsRun M k run) e ≡ totalsRun M (k + 1) run
-  after-it = through-more 32 entryOf (noTotals M) run k (totalsRun M k run) e refl p
-
-  pub run-other : inGroup M low (e .member) ≡ false → Grouped M low (totalsRun M (k + 1) run) totals
-  run-other o = grouped-other M low (totalsRun M k run) totals all-there g e o (totalsRun M (k + 1) run) after-it
-
-  module _ (y : inGroup M low (e .member) ≡ true) where
-    pub run-frame : (o : Outcome) → o ≡ outcomeOn (groupSize M low) totals (groupEntry low e) → journalFrame (k + 1) e o ≡ frameOfRun M k run
-    run-frame o q =
-        let given = grouped-given M low (totalsRun M k run) totals all-there g e y o q ∙ ap (outcome (totalsRun M k run)) p in
-        λ i. journalFrame (k + 1) (p i) (given i)
-
-    pub run-more : (after : List ℕ) → after ≡ totalBytesAfter (groupSize M low) totals (groupEntry low e) → length after ≡ length totals
-        → Grouped M low (totalsRun M (k + 1) run) after
-    run-more after u l = grouped-more M low (totalsRun M k run) totals all-there g e y after u l (totalsRun M (k + 1) run) after-it
+-- the frame of an entry of the group, on its totals
+pub group-framed : (M low k : ℕ) (run totals : List ℕ) → Grouped M low (totalsOfRun M k run) totals → (e : Entry) → e ≡ entryOfRun k run
+    → inGroup M low (e .member) ≡ true → (o : Outcome) → o ≡ outcomeOn (groupSize M low) totals (groupEntry low e)
+    → journalFrame (k + 1) e o ≡ frameOfRun M k run
+group-framed M low k run totals g e p y o q =
+    let given = grouped-given M low 32 entryOf run k totals g e p y o q in
+    λ i. journalFrame (k + 1) (p i) (given i)
 
 -- ---- all groups
 
@@ -187,7 +170,7 @@ module _ (M n : ℕ) (run before : List ℕ) where
       let es = entries k run in
       let os = resultsOf (noTotals M) es in
       let e = entryOfRun k run in
-      let o = outcome (totalsRun M k run) e in
+      let o = outcome (totalsOfRun M k run) e in
       let len = cells-length 32 entryOf k run in
       let d : 50 * suc k ≡ 50 * k + 50 = omega arith in
       ap (λ (j : ℕ). take j area) d ∙ take-add (50 * k) 50 area

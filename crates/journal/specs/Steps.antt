@@ -73,12 +73,15 @@ pub record Examines (M : ℕ) (file : List ℕ) (j : Examined) : Type 0 where
 
 -- ---- writing
 
--- the entry of op number k + 1 in a run, and its frame
+-- the entry of op number k + 1 in a run, the members' totals before it, and its frame
 abbrev pub entryOfRun : (k : ℕ) (run : List ℕ) → Entry
 entryOfRun k run = entryOf (drop (32 * k) run)
 
+abbrev pub totalsOfRun : (M k : ℕ) (run : List ℕ) → List ℕ
+totalsOfRun M k run = through (noTotals M) (entries k run)
+
 abbrev pub frameOfRun : (M k : ℕ) (run : List ℕ) → List ℕ
-frameOfRun M k run = journalFrame (k + 1) (entryOfRun k run) (outcome (through (noTotals M) (entries k run)) (entryOfRun k run))
+frameOfRun M k run = journalFrame (k + 1) (entryOfRun k run) (outcome (totalsOfRun M k run) (entryOfRun k run))
 
 -- Of n frames those of a group are written over an area, and nothing else of it is changed.
 pub record WritesGroup (M low n : ℕ) (run before after : List ℕ) : Type 0 where

@@ -76,7 +76,7 @@ fn examine_forms(file: &[u8]) -> Examined
 
 // A file up to the first frame that is bad by its form, or by its result where that is of this group of members or one before. j is what was found before this group.
 fn examine_group(members: u32, low: u32, file: &[u8], j: Examined) -> Examined
-    requires { ⌜ (members ≤ 4096) × ((low < members) × ExaminedBelow members low (now file) j) ⌝ }
+    requires { ⌜ (low < members) × ExaminedBelow members low (now file) j ⌝ }
     ensures { λ r. ⌜ ExaminedBelow members (low + 64) (was file) r ⌝ }
 {
     let mut totals: [u8; 512] = [0; 512];

@@ -38,7 +38,7 @@ pub fn run_ok(run: &[u8]) -> bool
 
 // The frames of those entries that are of a group's members, among the first n of a run.
 fn write_group(members: u32, low: u32, run: &[u8], n: usize, area: &mut [u8])
-    requires { ⌜ (members ≤ 4096) × ((low < members) × ((n ≤ 4096) × ((32 * n ≤ length (now run)) × (50 * n ≤ length (now area))))) ⌝ }
+    requires { ⌜ (low < members) × ((n ≤ 4096) × ((32 * n ≤ length (now run)) × (50 * n ≤ length (now area)))) ⌝ }
     ensures { λ r. ⌜ WritesGroup members low n (was run) (was area) (last area) ⌝ }
 {
     let mut totals: [u8; 512] = [0; 512];

@@ -31,7 +31,7 @@ examine-spec =
     μ-loop
     (λ c κs. search needs)
     (λ c. c .examine-forms .ensures (c .before .before .args .members) (c .before .before .pre .0))
-    (λ c κs. (c .before .before .before .before .pre .1, (c .loop-test .taken, c .before .loop .inv)))
+    (λ c κs. (c .loop-test .taken, c .before .loop .inv))
     (λ c. omega (arith, c .before .before .before .before .before .pre .1))
     (λ c. omega arith)
     (λ c. c .examine-group .ensures)

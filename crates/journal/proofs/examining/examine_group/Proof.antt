@@ -5,10 +5,9 @@ use mathlib.Core.Logic.{⊎-elim}
 use Prim.Native.Nat.{ℕ, _+_, _-_, _≤_}
 use native.Mathlib.Omega.{arith}
 use borrow.Author.Needs.{needs}
-use lib.ListN.{length, replicate}
-use Rattle.journal.specs.Journal.{noTotals, framedEntry}
+use lib.ListN.{length}
+use Rattle.journal.specs.Journal.{framedEntry}
 use Rattle.journal.specs.Steps.{totalsFiled}
-use Rattle.journal.proofs.TotalLaws.{through-none}
 use Rattle.journal.proofs.GroupLaws.{Grouped, grouped-none}
 use Rattle.journal.proofs.BelowLaws.{Right, right-none, judged, right-turn, other-turn, group-bad, group-right}
 use Rattle.journal.proofs.examining.examine_group.Statement.{statement}
@@ -25,14 +24,12 @@ abbrev μ-loop : tie.MeasureT-loop
 loop-holds : tie.Need-loop-holds Inv-loop μ-loop
 loop-holds c =
     let a = c .before .args in
-    let file = a .file .now in
-    let t = through-none 50 framedEntry (noTotals (a .members)) file in
-    (omega arith, subst (λ (ts : List ℕ). Grouped (a .members) (a .low) ts (replicate 512 0)) t (grouped-none (a .members) (a .low) (c .before .pre .1 .0)), right-none (a .members) (a .low) file)
+    (omega arith, grouped-none (a .members) (a .low) 50 framedEntry (a .file .now) (c .before .pre .0), right-none (a .members) (a .low) (a .file .now))
 
 apply-requires : tie.Need-apply-requires Inv-loop μ-loop
 apply-requires c κs =
     let i = c .before .before in
-    (c .before .before .before .before .before .before .before .before .pre .1 .0, (sym (i .in-group .ensures) ∙ c .before .if2 .taken, omega (arith, c .before .before .before .before .before .before .loop .inv .1 .long)))
+    (c .before .before .before .before .before .before .before .before .pre .0, (sym (i .in-group .ensures) ∙ c .before .if2 .taken, omega (arith, c .before .before .before .before .before .before .loop .inv .1 .long)))
 
 returns : tie.Need-returns Inv-loop μ-loop
 returns c =
@@ -45,7 +42,7 @@ returns c =
     let a = g .args in
     let f = c .before .result-fault in
     let r = c .before .before .result-at in
-    group-bad (a .members) (a .low) (a .file .now) (a .j) (g .pre .1 .1) (l .i) (f .result) (i .before .before .if1 .taken) (l .inv .2)
+    group-bad (a .members) (a .low) (a .file .now) (a .j) (g .pre .1) (l .i) (f .result) (i .before .before .if1 .taken) (l .inv .2)
     (judged (a .members) (a .low) (a .file .now) (l .i) (l .totals) (l .inv .1) (l .inv .2) (e .result) (e .ensures) (sym (i .in-group .ensures) ∙ o .before .before .if2 .taken) (o .apply .result) (r .result) (f .result)
     (o .apply .ensures .0) (r .ensures) (f .ensures)) (c .if3 .taken)
 
@@ -72,7 +69,7 @@ returns-2 c =
     let l = c .before .before .loop in
     let g = c .before .before .before .before in
     let a = g .args in
-    group-right (a .members) (a .low) (a .file .now) (a .j) (g .pre .1 .1) (l .i) (c .if1 .left) (l .inv .0) (l .inv .2)
+    group-right (a .members) (a .low) (a .file .now) (a .j) (g .pre .1) (l .i) (c .if1 .left) (l .inv .0) (l .inv .2)
 
 pub examine-group-spec : {M : Type 1} → statement M
 examine-group-spec =
@@ -81,18 +78,18 @@ examine-group-spec =
     Inv-loop
     μ-loop
     loop-holds
-    (λ c. omega (arith, c .before .before .before .before .pre .1 .1 .few))
-    (λ c. omega (arith, c .before .before .before .before .pre .1 .1 .few))
-    (λ c κs. omega (arith, c .before .before .before .before .pre .1 .1 .there))
+    (λ c. omega (arith, c .before .before .before .before .pre .1 .few))
+    (λ c. omega (arith, c .before .before .before .before .pre .1 .few))
+    (λ c κs. omega (arith, c .before .before .before .before .pre .1 .there))
     (λ c κs. search needs)
     (λ c. search needs)
     apply-requires
-    (λ c. omega (arith, c .before .before .before .before .before .before .before .before .before .before .pre .1 .1 .few))
-    (λ c. omega (arith, c .before .before .before .before .before .before .before .before .before .before .pre .1 .1 .few))
-    (λ c κs. omega (arith, c .before .before .before .before .before .before .before .before .before .before .pre .1 .1 .there))
+    (λ c. omega (arith, c .before .before .before .before .before .before .before .before .before .before .pre .1 .few))
+    (λ c. omega (arith, c .before .before .before .before .before .before .before .before .before .before .pre .1 .few))
+    (λ c κs. omega (arith, c .before .before .before .before .before .before .before .before .before .before .pre .1 .there))
     (λ c κs. search needs)
     returns
-    (λ c. omega (arith, c .before .before .before .before .before .before .before .pre .1 .1 .few))
+    (λ c. omega (arith, c .before .before .before .before .before .before .before .pre .1 .few))
     (λ c. omega arith)
     loop-again
     returns-2)

@@ -20,7 +20,7 @@ write-group-requires : tie.Need-write-group-requires Inv-loop μ-loop
 write-group-requires c κs =
     let l = c .before .before .loop in
     let p = c .before .before .before .before .before .pre in
-    (p .1 .0, (c .before .loop-test .taken, (p .1 .1 .0, (p .1 .1 .1 .0, omega (arith, l .inv .long, p .1 .1 .1 .1)))))
+    (c .before .loop-test .taken, (p .1 .1 .0, (p .1 .1 .1 .0, omega (arith, l .inv .long, p .1 .1 .1 .1))))
 
 loop-again : tie.Need-loop-again Inv-loop μ-loop
 loop-again c =
