@@ -1,6 +1,6 @@
 -- Laws of the groups in which members are taken.
 --     each-more                      a fact about each number, one more
---     size-le, size-few, in-above    a group's size, and its first member
+--     size-few, in-above             a group's size, and its first member
 --     below-none, below-next, below-all    the groups below the first, below the next one, and below the end
 --     Grouped, grouped-none          a run that has the totals of a group; before any entry
 --     grouped-given, grouped-more    an entry of the group, on its totals
@@ -40,7 +40,7 @@ each-more P i h p k l =
 -- ---- who is in a group
 
 module _ (M low : ℕ) where
-  pub size-le : groupSize M low ≤ M - low
+  size-le : groupSize M low ≤ M - low
   unfolding groupSize
   size-le = split (λ (k : ℕ). k ≤ M - low) (ltb (M - low) 64) _ _ (λ _. omega arith) (λ p. ltb-false (M - low) 64 p)
 

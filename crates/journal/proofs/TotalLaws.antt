@@ -56,7 +56,7 @@ module _ (M : ℕ) (totals : List ℕ) (e : Entry) where
       (λ _. put-bytes (8 * e .member) (big 8 (outcomeOn M totals e .total)) totals (big-bytes 8 (outcomeOn M totals e .total)) b)
       (λ _. b)
 
--- ---- totals of 0, and a run written from totals
+-- ---- totals of 0, and a run of totals as a whole
 
 -- M totals of 0 at the front of a run of zeros
 pub zero-totals : (M n : ℕ) → 8 * M ≤ n → cells 8 totalOf M (replicate n 0) ≡ noTotals M

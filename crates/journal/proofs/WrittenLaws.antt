@@ -1,19 +1,19 @@
 -- Laws of frames that are written group by group.
---     put-frame                       a frame over its place in an area
 --     group-begins, other-frame, group-frame    a turn of the frames of a group; group-framed: the frame itself
 --     WrittenBelow, below-begins, below-more    the groups below one
 --     all-written                     once all groups are written
 -- Assumes nothing.
 use mathlib.Core.Path.{_≡_, refl, sym, ap, _∙_}
 use mathlib.Core.Bool.{Bool, true, false, false≢true}
-use mathlib.Core.List.{List, [], _∷_, _++_, append-nil}
-use Prim.Native.Nat.{ℕ, zero, suc, _+_, _-_, _*_, _≤_, _<_}
+use mathlib.Core.List.{List, [], _∷_, _++_}
+use Prim.Native.Nat.{ℕ, zero, suc, _+_, _*_, _≤_, _<_}
 use native.Mathlib.Nat.{zero-add}
 use native.Mathlib.Omega.{arith}
-use lib.ListN.{length, take, drop, length-append, length-drop, take-append-drop, drop-of-length-le}
-use lib.Seq.{take-all, take-add, take-at, drop-at, drop-drop, take-append-le, drop-append-le, length-take-le}
-use Rattle.numbers.specs.Numbers.{over}
+use lib.ListN.{length, take, drop, take-append-drop}
+use lib.Seq.{take-add, take-at, drop-at, drop-drop, length-take-le}
+use Rattle.numbers.specs.Numbers.{over, putAt}
 use Rattle.numbers.specs.Cells.{cells}
+use Rattle.numbers.proofs.RunLaws.{put-before, put-after, put-length}
 use Rattle.numbers.proofs.CellLaws.{cells-length}
 use Rattle.entries.specs.Entries.{entryOf, entries}
 use Rattle.entries.specs.declared.Entry.{Entry}
@@ -26,54 +26,11 @@ use Rattle.journal.specs.Steps.{groupSize, inGroup, groupsBelow, groupEn
 use Rattle.journal.proofs.FrameLaws.{cells-last, frames-length, frames-more}
 use Rattle.journal.proofs.GroupLaws.{each-more, below-next, below-all, below-none, Grouped, grouped-given}
 
--- ---- one frame in an area
-
--- what stands in front of a place doesn't depend on what stands behind it
-in-front : (i : ℕ) (xs ys : List ℕ) → 50 * i + 50 ≤ length xs → take 50 (drop (50 * i) (xs ++ ys)) ≡ take 50 (drop (50 * i) xs)
-in-front i xs ys h =
-    ap (take 50) (drop-append-le (50 * i) xs ys (omega arith))
-    ∙ take-append-le 50 (drop (50 * i) xs) ys (omega (arith, length-drop (50 * i) xs))
-
-module _ (k : ℕ) (w cur : List ℕ) (fifty : length w ≡ 50) (room : 50 * (k + 1) ≤ length cur) where
-  -- the area with the bytes w in place of frame number k + 1
-  abbrev put : List ℕ
-  put = take (50 * k) cur ++ (w ++ drop (50 * (k + 1)) cur)
-
-  pub put-frame : {part : List ℕ} → part ≡ over w (take (length cur - 50 * k) (drop (50 * k) cur))
-      → take (50 * k) cur ++ (part ++ drop (length cur - 50 * k) (drop (50 * k) cur)) ≡ put
-  unfolding over
-  put-frame p =
-      let n : length (drop (50 * k) cur) ≡ length cur - 50 * k = length-drop (50 * k) cur in
-      let d : 50 * k + length w ≡ 50 * (k + 1) = omega (arith, fifty) in
-      let all = take-all (length cur - 50 * k) (drop (50 * k) cur) (omega (arith, n)) in
-      let none = drop-of-length-le (drop (50 * k) cur) {i = length cur - 50 * k} (omega (arith, n)) in
-      ap (λ (s : List ℕ). take (50 * k) cur ++ s)
-      ((λ i. p i ++ none i) ∙ append-nil _ ∙ ap (λ (s : List ℕ). w ++ drop (length w) s) all ∙ rw (drop-drop, d))
-
-  front-length : length (take (50 * k) cur) ≡ 50 * k
-  front-length = length-take-le (50 * k) cur (omega arith)
-
-  from-it : drop (50 * k) put ≡ w ++ drop (50 * (k + 1)) cur
-  from-it = drop-at (take (50 * k) cur) (w ++ drop (50 * (k + 1)) cur) (50 * k) front-length
-
-  is-put : take 50 (drop (50 * k) put) ≡ w
-  is-put = ap (take 50) from-it ∙ take-at w (drop (50 * (k + 1)) cur) 50 fifty
-
-  behind-put : drop (50 * (k + 1)) put ≡ drop (50 * (k + 1)) cur
-  behind-put =
-      let d : 50 * k + 50 ≡ 50 * (k + 1) = omega arith in
-      ap (λ (n : ℕ). drop n put) (sym d) ∙ sym (drop-drop 50 (50 * k) put) ∙ ap (drop 50) from-it ∙ drop-at w (drop (50 * (k + 1)) cur) 50 fifty
-
-  before-put : (i : ℕ) → i < k → take 50 (drop (50 * i) put) ≡ take 50 (drop (50 * i) cur)
-  before-put i h =
-      in-front i (take (50 * k) cur) (w ++ drop (50 * (k + 1)) cur) (omega (arith, front-length))
-      ∙ sym (in-front i (take (50 * k) cur) (drop (50 * k) cur) (omega (arith, front-length)))
-      ∙ ap (λ (s : List ℕ). take 50 (drop (50 * i) s)) (take-append-drop (50 * k) cur)
-
-  put-length : length put ≡ length cur
-  put-length =
-      length-append (take (50 * k) cur) (w ++ drop (50 * (k + 1)) cur)
-      ∙ omega (arith, front-length, fifty, length-append w (drop (50 * (k + 1)) cur), length-drop (50 * (k + 1)) cur)
+-- what was written at a place stands there
+stands : (a n : ℕ) (w s : List ℕ) → length w ≡ n → a ≤ length s → take n (drop a (putAt a w s)) ≡ w
+unfolding putAt over
+stands a n w s e l =
+    ap (take n) (drop-at (take a s) (w ++ drop (length w) (drop a s)) a (length-take-le a s l)) ∙ take-at w (drop (length w) (drop a s)) n e
 
 -- ---- the frames of a group
 
@@ -106,18 +63,18 @@ module _ (M low : ℕ) (run before : List ℕ) where
         }
 
     pub group-frame : (w : List ℕ) → length w ≡ 50 → 50 * (k + 1) ≤ length cur → inGroup M low (entryOfRun k run .member) ≡ true
-        → w ≡ frameOfRun M k run → WritesGroup M low (k + 1) run before (take (50 * k) cur ++ (w ++ drop (50 * (k + 1)) cur))
+        → w ≡ frameOfRun M k run → WritesGroup M low (k + 1) run before (putAt (50 * k) w cur)
     group-frame w fifty room y p =
-        let after = put k w cur fifty room in
+        let after = putAt (50 * k) w cur in
         record {
-          long = put-length k w cur fifty room ∙ g .long;
-          behind = next-behind after (behind-put k w cur fifty room);
+          long = put-length (50 * k) w cur (omega (arith, fifty)) ∙ g .long;
+          behind = next-behind after (put-after (50 * k) (50 * (k + 1)) w cur (omega (arith, fifty)) (omega arith));
           frames =
               each-more (λ (i : ℕ). inGroup M low (member i) ≡ true → take 50 (drop (50 * i) after) ≡ frameOfRun M i run) k
-              (λ i l e. before-put k w cur fifty room i l ∙ g .frames i l e) (λ _. is-put k w cur fifty room ∙ p);
+              (λ i l e. put-before (50 * k) (50 * i) 50 w cur (omega arith) (omega arith) ∙ g .frames i l e) (λ _. stands (50 * k) 50 w cur fifty (omega arith) ∙ p);
           others =
               each-more (λ (i : ℕ). inGroup M low (member i) ≡ false → take 50 (drop (50 * i) after) ≡ take 50 (drop (50 * i) before)) k
-              (λ i l e. before-put k w cur fifty room i l ∙ g .others i l e) (λ o. absurd (false≢true (sym o ∙ y)));
+              (λ i l e. put-before (50 * k) (50 * i) 50 w cur (omega arith) (omega arith) ∙ g .others i l e) (λ o. absurd (false≢true (sym o ∙ y)));
         }
 
 -- the frame of an entry of the group, on its totals

@@ -1,19 +1,18 @@
 -- Logs that are stored, a place for each replica id: a log that is kept at one place changes no other.
---     put-before, put-after                  a write at a place, and what stands on either side of it
 --     other-place, other-entries, other-ok   what is read at the other places, and the rules of its entries
 --     own-place, own-ok                      what is read at its own
 -- Assumes nothing.
-use Prim.Native.Nat.{ℕ, _+_, _-_, _*_, _≤_, _<_}
+use Prim.Native.Nat.{ℕ, _+_, _*_, _≤_, _<_}
 use native.Mathlib.Omega.{arith}
-use mathlib.Core.Path.{_≡_, refl, sym, ap, _∙_}
+use mathlib.Core.Path.{_≡_, sym, ap, _∙_}
 use mathlib.Core.List.{List, [], _++_}
 use mathlib.Core.Logic.{⊎-elim}
-use lib.ListN.{length, take, drop, length-drop, take-append-drop}
-use lib.Seq.{take-append-le, drop-append-le, drop-drop, drop-at, length-take-le}
+use lib.ListN.{length, take, drop, length-drop}
+use lib.Seq.{drop-at, length-take-le}
 use Rattle.numbers.specs.Numbers.{over, putAt}
 use Rattle.numbers.specs.declared.Op.{Op}
 use Rattle.numbers.proofs.NumberLaws.{le-or-lt}
-use Rattle.numbers.proofs.RunLaws.{put-rest, put-length}
+use Rattle.numbers.proofs.RunLaws.{put-before, put-after, put-length}
 use Rattle.numbers.proofs.CellLaws.{cells-taken, cells-front}
 use Rattle.entries.specs.Entries.{entryOf, encodeEntry, entries, entriesOk, EntryFits}
 use Rattle.entries.proofs.EntryLaws.{entry-codec}
@@ -21,30 +20,6 @@ use Rattle.book.proofs.EntryRules.{ok-taken}
 use Rattle.state.specs.Lengths.{storedPlace}
 use Rattle.state.proofs.LengthLaws.{stored-place-next}
 use Rattle.reports.specs.Store.{keptLog}
-
--- ---- a write at a place
-
-pub put-before : (a p k : ℕ) (w s : List ℕ) → p + k ≤ a → a ≤ length s → take k (drop p (putAt a w s)) ≡ take k (drop p s)
-unfolding putAt
-put-before a p k w s h l =
-    front (over w (drop a s)) ∙ sym (front (drop a s)) ∙ ap (λ (x : List ℕ). take k (drop p x)) (take-append-drop a s)
-  where
-    n : length (take a s) ≡ a
-    n = length-take-le a s l
-
-    front : (y : List ℕ) → take k (drop p (take a s ++ y)) ≡ take k (drop p (take a s))
-    front y =
-        ap (take k) (drop-append-le p (take a s) y (omega (arith, n, h)))
-        ∙ take-append-le k (drop p (take a s)) y (omega (arith, length-drop p (take a s), n, h))
-
-pub put-after : (a p : ℕ) (w s : List ℕ) → a + length w ≤ p → a ≤ length s → drop p (putAt a w s) ≡ drop p s
-put-after a p w s h l =
-    let e : a + length w + (p - (a + length w)) ≡ p = omega arith in
-    ap (λ (i : ℕ). drop i (putAt a w s)) (sym e)
-    ∙ sym (drop-drop (p - (a + length w)) (a + length w) (putAt a w s))
-    ∙ ap (drop (p - (a + length w))) (put-rest s w a (length w) l refl)
-    ∙ drop-drop (p - (a + length w)) (a + length w) s
-    ∙ ap (λ (i : ℕ). drop i s) e
 
 -- ---- a log of o entries, kept at the place of replica r of n
 

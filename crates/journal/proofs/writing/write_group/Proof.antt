@@ -5,13 +5,14 @@ use Prim.Native.Nat.{ℕ, _+_, _-_, _*_, _≤_}
 use native.Mathlib.Omega.{arith}
 use borrow.Author.Needs.{needs}
 use lib.ListN.{length, length-take, length-drop}
+use Rattle.numbers.proofs.RunLaws.{put-part}
 use Rattle.entries.specs.Entries.{entryOf}
 use Rattle.entries.specs.declared.Entry.{Entry}
 use Rattle.journal.specs.Journal.{journalFrame}
 use Rattle.journal.specs.Steps.{inGroup, totalsOfRun, WritesGroup}
 use Rattle.journal.proofs.FrameLaws.{frame-length}
 use Rattle.journal.proofs.GroupLaws.{Grouped, grouped-none, grouped-more, grouped-other}
-use Rattle.journal.proofs.WrittenLaws.{put-frame, group-begins, group-frame, group-framed, other-frame}
+use Rattle.journal.proofs.WrittenLaws.{group-begins, group-frame, group-framed, other-frame}
 use Rattle.journal.proofs.writing.write_group.Statement.{statement}
 use Rattle.journal.proofs.writing.write_group.Tie as tie
 
@@ -56,7 +57,7 @@ loop-again c =
     (group-framed M (a .low) (l .k) run (l .totals) (l .inv .1) (e .result) (e .ensures) y (w .2 .result) (w .2 .ensures .0)) in (
       omega arith,
       grouped-more M (a .low) 32 entryOf run (l .k) (l .totals) (l .inv .1) (e .result) (e .ensures) y (c .if1 .totals) (w .9 ∙ w .2 .ensures .1) (ap length (w .9) ∙ w .2 .kept .0),
-      subst (WritesGroup M (a .low) (l .k + 1) run (a .area .now)) (sym (w .8 ∙ put-frame (l .k) frame (l .area) fifty room (w .5 .ensures))) f,
+      subst (WritesGroup M (a .low) (l .k + 1) run (a .area .now)) (sym (w .8 ∙ put-part (l .area) frame (50 * l .k) (w .5 .ensures))) f,
     ))
     (λ w.
     let o = sym (i .in-group .ensures) ∙ w .0 .left in
