@@ -1,6 +1,7 @@
 -- Laws of results and totals in lent runs, and of the replies.
 --     applied-of                                   one entry applied, from what the two writers left
 --     commit-none, commit-more                     a turn of the commits
+--     takings-none, takings-more                   and of the takings
 --     totals-length, applied-lengths, committed-lengths   the two runs keep their lengths
 --     reply-length, replies-length                 36 bytes a reply
 --     replies-none, replies-more                   a turn of the replies
@@ -23,10 +24,11 @@ use Rattle.entries.specs.declared.Entry.{Entry}
 use Rattle.entries.proofs.PlaceLaws.{result-next}
 use Rattle.fees.specs.Fees.{outcomeOn, totalBytesAfter}
 use Rattle.fees.specs.Results.{resultIn, encodeResult}
+use Rattle.fees.specs.Takings.{takingsAfter}
 use Rattle.fees.specs.declared.Outcome.{Outcome}
 use Rattle.fees.proofs.ResultLaws.{result-codec}
 use Rattle.writers.specs.Writers.{header, reply}
-use Rattle.book.specs.Runs.{applied, moneyCommitted, replyTo, replies}
+use Rattle.book.specs.Runs.{applied, moneyCommitted, takingsCommitted, replyTo, replies}
 use Rattle.book.specs.Memory.{Money, money}
 
 -- ---- commits
@@ -49,6 +51,17 @@ pub commit-more : (M : ℕ) (log : List ℕ) (from k : ℕ) (x y z : Money) (e :
     → e ≡ entryIn log (from + k) → z ≡ applied M e (from + k) y → z ≡ moneyCommitted M log from (k + 1) x
 unfolding moneyCommitted
 commit-more M log from k x y z e p q w = rw (w, q, p, add-one)
+
+-- the takings after no op, and after one more
+pub takings-none : (M : ℕ) (log : List ℕ) (from : ℕ) (x : Money) (t : ℕ) → t ≡ takingsCommitted M log from 0 x t
+unfolding takingsCommitted
+takings-none M log from x t = refl
+
+pub takings-more : (M : ℕ) (log : List ℕ) (from k : ℕ) (x y : Money) (t s r : ℕ) (e : Entry) → y ≡ moneyCommitted M log from k x
+    → s ≡ takingsCommitted M log from k x t → e ≡ entryIn log (from + k) → r ≡ takingsAfter s (outcomeOn M (y .totals) e) (e .cents)
+    → r ≡ takingsCommitted M log from (k + 1) x t
+unfolding takingsCommitted
+takings-more M log from k x y t s r e p q h g = rw (g, q, h, p, add-one)
 
 pub totals-length : (M : ℕ) (s : List ℕ) (e : Entry) → 8 * M ≤ length s → length (totalBytesAfter M s e) ≡ length s
 unfolding totalBytesAfter

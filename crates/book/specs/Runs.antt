@@ -8,6 +8,7 @@ use Rattle.entries.specs.Places.{resultPlace, entryIn}
 use Rattle.entries.specs.declared.Entry.{Entry}
 use Rattle.fees.specs.Fees.{outcomeOn, totalBytesAfter}
 use Rattle.fees.specs.Results.{resultIn, encodeResult}
+use Rattle.fees.specs.Takings.{takingsAfter}
 use Rattle.fees.specs.declared.Outcome.{Outcome}
 use Rattle.writers.specs.Writers.{reply}
 use Rattle.book.specs.Memory.{Money, money}
@@ -20,6 +21,15 @@ applied M e i x = money (putAt (resultPlace i) (encodeResult (outcomeOn M (x .to
 unfoldable pub moneyCommitted : (M : ℕ) (log : List ℕ) (from k : ℕ) → Money → Money
 moneyCommitted M log from zero x = x
 moneyCommitted M log from (suc k) x = applied M (entryIn log (from + k)) (from + k) (moneyCommitted M log from k x)
+
+-- and the takings t after them: what the fee rules gave for each changes the sum
+unfoldable pub takingsCommitted : (M : ℕ) (log : List ℕ) (from k : ℕ) → Money → (t : ℕ) → ℕ
+takingsCommitted M log from zero x t = t
+takingsCommitted M log from (suc k) x t =
+    takingsAfter
+    (takingsCommitted M log from k x t)
+    (outcomeOn M (moneyCommitted M log from k x .totals) (entryIn log (from + k)))
+    (entryIn log (from + k) .cents)
 
 -- the reply to an entry, with what it gave
 unfoldable pub replyTo : View → Entry → Outcome → List ℕ

@@ -8,7 +8,9 @@ ghost use Rattle.entries.specs.Entries.{encodeEntry, entries};
 ghost use Rattle.entries.specs.Places.{entryPlace, resultPlace};
 ghost use Rattle.entries.specs.Rising.{rising};
 ghost use Rattle.book.specs.Log.{withEntries, risesAfter, noneBreaks, isSame, keepsFirst};
-ghost use Rattle.book.specs.Runs.{applied, moneyCommitted, replies};
+ghost use Rattle.fees.specs.Fees.{outcomeOn};
+ghost use Rattle.fees.specs.Takings.{takingsAfter};
+ghost use Rattle.book.specs.Runs.{applied, moneyCommitted, takingsCommitted, replies};
 ghost use Rattle.book.specs.Memory.{moneyBefore, moneyAfter};
 ghost use Rattle.numbers.specs.Lending.{was, last};
 use entries::Entry;
@@ -150,34 +152,45 @@ pub fn keeps(log: &[u8], n: usize, part: &[u8], k: usize) -> bool
     same(log, part, 32 * n)
 }
 
-// The entry of op number i + 1 goes through the fee rules; what it gave is the result of that op.
-fn commit_one(results: &mut [u8], totals: &mut [u8], members: u32, e: Entry, i: usize)
+// The entry of op number i + 1 goes through the fee rules; what it gave is the result of that op. The takings after it.
+fn commit_one(
+    results: &mut [u8],
+    totals: &mut [u8],
+    members: u32,
+    takings: u64,
+    e: Entry,
+    i: usize,
+) -> u64
     requires { ⌜ (8 * members ≤ length (now totals)) × (resultPlace (i + 1) ≤ length (now results)) ⌝ }
-    ensures { λ r. ⌜ moneyAfter results totals ≡ applied members e i (moneyBefore results totals) ⌝ }
+    ensures { λ r. ⌜ (moneyAfter results totals ≡ applied members e i (moneyBefore results totals)) × (r ≡ takingsAfter takings (outcomeOn members (was totals) e) (e .cents)) ⌝ }
 {
     let o = fees::apply(totals, members, e);
     let p = entries::result_place(i);
     fees::write_result(&mut results[p..], o);
+    fees::takings_after(takings, o, e.cents)
 }
 
-// `count` ops after the first `from`, in order.
+// `count` ops after the first `from`, in order. The takings after them.
 pub fn commit_up_to(
     log: &[u8],
     results: &mut [u8],
     totals: &mut [u8],
     members: u32,
+    takings: u64,
     from: usize,
     count: usize,
-)
+) -> u64
     requires { ⌜ (from + count ≤ 4096) × ((8 * members ≤ length (now totals)) × ((9 * (from + count) ≤ length (now results)) × (entryPlace (from + count) ≤ length (now log)))) ⌝ }
-    ensures { λ r. ⌜ moneyAfter results totals ≡ moneyCommitted members (was log) from count (moneyBefore results totals) ⌝ }
+    ensures { λ r. ⌜ (moneyAfter results totals ≡ moneyCommitted members (was log) from count (moneyBefore results totals)) × (r ≡ takingsCommitted members (was log) from count (moneyBefore results totals) takings) ⌝ }
 {
+    let mut sum = takings;
     let mut k = 0;
     while k < count {
         let i = from + k;
-        commit_one(results, totals, members, entries::entry_in(log, i), i);
+        sum = commit_one(results, totals, members, sum, entries::entry_in(log, i), i);
         k += 1;
     }
+    sum
 }
 
 // The replies to `count` ops after the first `from`, each straight after the one before it, out of log and results.

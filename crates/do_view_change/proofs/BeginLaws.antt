@@ -195,9 +195,9 @@ module _ (t : Replica) (o g : Op) (log results totals : List ℕ) (h : Sound (en
   pub entered-sound : Sound e (runs log results totals) × (g .0 ≤ e .op .0)
   entered-sound = subst (λ (s : Replica). Sound s (runs log results totals) × (g .0 ≤ s .op .0)) (sym enters) (h, l)
 
-  module _ (u : Replica) (r : u ≡ committedTo e g) where
-    after : u ≡ committedTo (entered t o) g
-    after = r ∙ λ i. committedTo (enters i) g
+  module _ (u : Replica) (r : u ≡ committedTo e g (runs log results totals)) where
+    after : u ≡ committedTo (entered t o) g (runs log results totals)
+    after = r ∙ λ i. committedTo (enters i) g (runs log results totals)
 
     rises : u .commit .0 ≡ max (t .commit .0) (g .0)
     rises = ap (λ (s : Replica). s .commit .0) after

@@ -76,6 +76,7 @@ pub record Changing (c : Given) (t : Replica) : Type 0 where
   pub setup : t .setup ≡ c .state .setup
   pub op : t .op ≡ c .state .op
   pub commit : t .commit ≡ c .state .commit
+  pub takings : t .takings ≡ c .state .takings
   pub looks : isRecovering (t .status) ≡ false
   pub totals : Bytes (c .runs .totals)
   pub log-ok : entriesOk (t .op .0) (c .runs .log) ≡ true
@@ -112,7 +113,7 @@ module _ (c : Given) (t : Replica) (table : List ClientEntry) (applied : List En
 
     -- the state after it
     abbrev u : Replica
-    u = committedTo (entered t o) g
+    u = committedTo (entered t o) g (record { log = log; money = x })
 
     wide : 8 * t .setup .members ≤ length (c .runs .totals)
     wide = omega (arith, h .gathering .sound .totals-long)
@@ -122,24 +123,24 @@ module _ (c : Given) (t : Replica) (table : List ClientEntry) (applied : List En
 
     -- ---- the book
 
-    fresh-book-is : bookOf (t .setup .members) (o .0) (t .commit .0) log x (fresh-book .table) applied ≡ fresh-book
+    fresh-book-is : bookOf (t .setup .members) (o .0) (t .commit .0) log x (t .takings) (fresh-book .table) applied ≡ fresh-book
     unfolding modelOf
     fresh-book-is =
-        ap (λ (n : ℕ). bookOf (t .setup .members) n (t .commit .0) log x (fresh-book .table) applied) (sym (zero-add (o .0)))
-        ∙ install-lift (t .setup .members) (t .op .0) (t .commit .0) (c .runs .log) x table applied 0 (o .0) part (omega arith)
+        ap (λ (n : ℕ). bookOf (t .setup .members) n (t .commit .0) log x (t .takings) (fresh-book .table) applied) (sym (zero-add (o .0)))
+        ∙ install-lift (t .setup .members) (t .op .0) (t .commit .0) (c .runs .log) x (t .takings) table applied 0 (o .0) part (omega arith)
         (omega (arith, h .gathering .sound .log-long, place-is (0 + o .0), o-le)) long
 
     abbrev book-after : Book
     book-after = commitUpTo fresh-book (g .0)
 
-    book-is : bookOf (t .setup .members) (o .0) (u .commit .0) log y (book-after .table) (book-after .applied) ≡ book-after
+    book-is : bookOf (t .setup .members) (o .0) (u .commit .0) log y (u .takings) (book-after .table) (book-after .applied) ≡ book-after
     book-is =
         subst
         (λ (b : Book).
-        bookOf (t .setup .members) (o .0) (u .commit .0) log y (commitUpTo b (g .0) .table) (commitUpTo b (g .0) .applied)
+        bookOf (t .setup .members) (o .0) (u .commit .0) log y (u .takings) (commitUpTo b (g .0) .table) (commitUpTo b (g .0) .applied)
         ≡ commitUpTo b (g .0))
         fresh-book-is
-        (settle-lift (t .setup .members) log (t .commit .0) x (h .totals) wide (o .0) (fresh-book .table) applied (g .0) results-room c-le g-le)
+        (settle-lift (t .setup .members) log (t .commit .0) x (h .totals) wide (o .0) (t .takings) (fresh-book .table) applied (g .0) results-room c-le g-le)
 
     commit-is : book-after .commit ≡ u .commit .0
     unfolding bookOf
@@ -193,7 +194,7 @@ module _ (c : Given) (t : Replica) (table : List ClientEntry) (applied : List En
     book-same : m .book ≡ modelOf (c .state) (c .runs) table applied .book
     unfolding modelOf
     book-same =
-        λ i. bookOf (h .setup i .members) (h .op i .0) (h .commit i .0) (c .runs .log) x table applied
+        λ i. bookOf (h .setup i .members) (h .op i .0) (h .commit i .0) (c .runs .log) x (h .takings i) table applied
 
     grew : Grew (modelOf (c .state) (c .runs) table applied .book) true (after .book)
     unfolding startedWith enterNormal
@@ -238,7 +239,7 @@ module _ (c : Given) (t : Replica) (table : List ClientEntry) (applied : List En
     replies-are : replies (t .view) log (y .results) (t .commit .0) (owed t g) ≡ repliesOut (commitReplies (m .place .view) fresh-book (g .0))
     unfolding modelOf
     replies-are =
-        settle-replies (t .view) (t .setup .members) log (t .commit .0) x (h .totals) wide (o .0) (fresh-book .table) applied (g .0)
+        settle-replies (t .view) (t .setup .members) log (t .commit .0) x (h .totals) wide (o .0) (t .takings) (fresh-book .table) applied (g .0)
         results-room c-le g-le
         ∙ ap (λ (b : Book). repliesOut (commitReplies (t .view .0) b (g .0))) fresh-book-is
 

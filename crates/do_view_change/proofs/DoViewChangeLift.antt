@@ -99,6 +99,7 @@ changing-on c v h =
       setup = refl;
       op = refl;
       commit = refl;
+      takings = refl;
       looks = refl;
       totals = h .totals;
       log-ok = h .log-ok;
@@ -120,7 +121,7 @@ module _ (c : Given) (t : Replica) (table : List ClientEntry) (applied : List En
   book-same : now .book ≡ modelOf (c .state) (c .runs) table applied .book
   unfolding modelOf
   book-same =
-      λ i. bookOf (h .setup i .members) (h .op i .0) (h .commit i .0) (c .runs .log) (money (c .runs .results) (c .runs .totals)) table applied
+      λ i. bookOf (h .setup i .members) (h .op i .0) (h .commit i .0) (c .runs .log) (money (c .runs .results) (c .runs .totals)) (h .takings i) table applied
 
   now-reads : modelOf t (c .runs) (now .book .table) (now .book .applied) ≡ now
   unfolding modelOf bookOf

@@ -138,7 +138,7 @@ module _ (c : Given) (t : Replica) (table : List ClientEntry) (applied : List En
 
     next-book : book ≡ next .book
     unfolding reportNoted setStore modelOf bookOf
-    next-book = rw (h .setup, h .op, h .commit)
+    next-book = rw (h .setup, h .op, h .commit, h .takings)
 
     abbrev waits : Step
     waits = ofRecorded (keptBy t (withReport (t .reports) r d) r o first fresh (memoryOf c))

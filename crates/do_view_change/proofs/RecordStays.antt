@@ -79,7 +79,7 @@ module _ (s t : Replica) (m : Memory) (hs : Held (t .setup) s (m .runs)) (ht : H
         let f = begin-lies rows (t .setup .n) r (t .setup .room) (t .commit .0) (m .runs .log) (m .stored) fresh fits b g e in
         let k = begin-keeps b g rows (t .setup .n) r (t .setup .room) (t .commit .0) (m .runs .log) (m .stored) fresh e in
         let i = installed-held b r (m .stored) fresh (entered t (b .report .op)) ht f refl refl (k .1) (none-gathered (t .setup)) in
-        let u = committedTo (entered t (b .report .op)) g in
+        let u = committedTo (entered t (b .report .op)) g (record { log = chosenOver b r (t .setup .room) (m .stored) fresh (m .runs .log); money = m .runs .money }) in
         let j = settled-held g i (k .0) in
         let n = own-acks-length u (j .sound .commit-le) (j .sound .op-le) in
         record {

@@ -75,6 +75,6 @@ begunIn t u g first log x acks out reps =
 
 unfoldable pub beginStep : (t : Replica) (o g : Op) (first : Bool) (log : List ℕ) → Money → (acks out reps : List ℕ) → Begun
 beginStep t o g first log x acks out reps =
-    begunIn t (committedTo (entered t o) g) g first log
+    begunIn t (committedTo (entered t o) g (record { log = log; money = x })) g first log
     (moneyCommitted (t .setup .members) log (t .commit .0) (owed t g) x)
     acks out reps

@@ -1,2 +1,3 @@
 pub mod FeeLaws
 pub mod ResultLaws
+pub mod TakingsLaws

@@ -1,17 +1,21 @@
 // The fee rules, on one total and over a lent run of totals; what they gave, in lent bytes.
 ghost use mathlib.Core.Path.{_≡_};
-ghost use Prim.Native.Nat.{_+_, _*_, _≤_};
+ghost use Prim.Native.Nat.{_+_, _-_, _*_, _≤_};
 ghost use lib.ListN.{length, drop};
 ghost use Rattle.numbers.specs.Numbers.{over};
 ghost use Rattle.entries.specs.Places.{resultPlace};
 ghost use Rattle.fees.specs.Fees.{rule, outcomeOn, totalBytesAfter};
 ghost use Rattle.fees.specs.Results.{resultOf, resultIn, encodeResult};
+ghost use Rattle.fees.specs.Takings.{added, takingsAfter};
 ghost use Rattle.numbers.specs.Lending.{was, last};
 use entries::Entry;
 use entries::Operation;
 
 // No total passes this.
 const LIMIT: u64 = 1_000_000_000;
+
+// All totals added up don't pass this: 4,096 members at the limit.
+pub const MOST: u64 = 4_096_000_000_000;
 
 // The outcome's number, 1 to 6, and the total after it.
 pub struct Outcome {
@@ -71,6 +75,41 @@ pub fn apply(totals: &mut [u8], members: u32, e: Entry) -> Outcome
         return o;
     }
     Outcome { code: 4, total: 0 }
+}
+
+// Cents more. A sum that no call produced may be near the most: it stays there.
+fn add(takings: u64, cents: u64) -> u64
+    ensures { λ r. ⌜ r ≡ added takings cents ⌝ }
+{
+    if MOST < takings {
+        return MOST;
+    }
+    if MOST - takings < cents {
+        return MOST;
+    }
+    takings + cents
+}
+
+// Cents less. A sum that no call produced may be below them: it stops at 0.
+fn take(takings: u64, cents: u64) -> u64
+    ensures { λ r. ⌜ r ≡ takings - cents ⌝ }
+{
+    if takings < cents {
+        return 0;
+    }
+    takings - cents
+}
+
+// The takings after an entry of so many cents gave this outcome: only a Fee or a Refund that took effect changes them.
+pub fn takings_after(takings: u64, o: Outcome, cents: u64) -> u64
+    ensures { λ r. ⌜ r ≡ takingsAfter takings o cents ⌝ }
+{
+    let code = o.code;
+    match code {
+        1 => add(takings, cents),
+        2 => take(takings, cents),
+        _ => takings,
+    }
 }
 
 // The result at place `at` of a run.

@@ -174,6 +174,7 @@ module _ (c : Given) (table : List ClientEntry) (applied : List Entry) (h : Fit 
         setup = refl;
         op = refl;
         commit = refl;
+        takings = refl;
         looks = looks;
         totals = h .totals;
         log-ok = h .log-ok;

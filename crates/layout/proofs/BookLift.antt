@@ -30,20 +30,21 @@ use Rattle.entries.specs.declared.Operation.the-variants.{Fee, Refund, Ask}
 use Rattle.entries.proofs.PlaceLaws.{place-next}
 use Rattle.fees.specs.Fees as F
 use Rattle.fees.specs.Results.{resultOf, encodeResult, ResultFits, outcomes}
+use Rattle.fees.specs.Takings.{takingsAfter}
 use Rattle.fees.specs.declared.Outcome.{Outcome}
 use Rattle.fees.proofs.ResultLaws.{result-codec}
 use Rattle.book.specs.Log.{withEntries}
-use Rattle.book.specs.Runs.{applied, moneyCommitted, replyTo, replies}
+use Rattle.book.specs.Runs.{applied, moneyCommitted, takingsCommitted, replyTo, replies}
 use Rattle.book.specs.Memory.{Money}
 use Rattle.book.proofs.LogLaws.{entry-get, append-entries, part-entries}
 use Rattle.book.proofs.RunLaws.{committed-lengths, replies-length}
 use Rattle.model.specs.State.{ClientEntry, Book}
-use Rattle.model.specs.Book.{outcome, totalsAfter, through, resultsOf, append, appendAll, commitAll, dueEntries, commitUpTo, install}
+use Rattle.model.specs.Book.{outcome, totalsAfter, through, resultsOf, takingsThrough, append, appendAll, commitAll, dueEntries, commitUpTo, install}
 use Rattle.model.specs.Book.{repliesOf, commitReplies}
 use Rattle.model.specs.Sending.{replyBytes, repliesOut}
 use Rattle.layout.specs.Layout.{totalOf, bookOf}
-use Rattle.model.proofs.BookLaws.{outcome-code, through-append, answers-length, answers-append, replies-end}
-use Rattle.model.proofs.BookLaws.{commitAll-log, commitAll-commit, commitAll-results, commitAll-totals}
+use Rattle.model.proofs.BookLaws.{outcome-code, through-append, answers-length, answers-append, takings-append, replies-end}
+use Rattle.model.proofs.BookLaws.{commitAll-log, commitAll-commit, commitAll-results, commitAll-totals, commitAll-takings}
 use Rattle.model.proofs.BookLaws.{appendAll-log, appendAll-rest}
 
 -- ---- the fee rules
@@ -130,7 +131,7 @@ module _ (M : ℕ) (log : List ℕ) (from : ℕ) (x : Money) (bytes : Bytes (x .
       totals-bytes M (moneyCommitted M log from k x .totals) (entryIn log (from + k)) (committed-bytes k l)
       (omega (arith, committed-lengths M log from k x wide l .1))
 
-  -- totals, and results, by the rules on lists
+  -- totals, takings and results, by the rules on lists
   totals-through : (op k : ℕ) → 9 * (from + k) ≤ length (x .results) → from + k ≤ op
       → cells 8 totalOf M (moneyCommitted M log from k x .totals) ≡ through (cells 8 totalOf M (x .totals)) (take k (drop from (entries op log)))
   unfolding moneyCommitted applied through
@@ -143,6 +144,21 @@ module _ (M : ℕ) (log : List ℕ) (from : ℕ) (x : Money) (bytes : Bytes (x .
       ∙ ap (λ (ts : List ℕ). totalsAfter ts e) (totals-through op k l (omega arith))
       ∙ sym (through-append (cells 8 totalOf M (x .totals)) (take k (drop from (entries op log))) (e ∷ []))
       ∙ ap (through (cells 8 totalOf M (x .totals))) (sym (due-more log op from k (omega arith)))
+
+  takings-through : (op k : ℕ) → 9 * (from + k) ≤ length (x .results) → from + k ≤ op → (w : ℕ)
+      → takingsCommitted M log from k x w ≡ takingsThrough w (cells 8 totalOf M (x .totals)) (take k (drop from (entries op log)))
+  unfolding takingsCommitted takingsThrough
+  takings-through op zero r h w = refl
+  takings-through op (suc k) r h w =
+      let l : 9 * (from + k) ≤ length (x .results) = omega arith in
+      let y = moneyCommitted M log from k x .totals in
+      let e = entryIn log (from + k) in
+      let ts = cells 8 totalOf M (x .totals) in
+      let es = take k (drop from (entries op log)) in
+      let q : F.outcomeOn M y e ≡ outcome (through ts es) e =
+      sym (outcome-lift M y e) ∙ ap (λ (z : List ℕ). outcome z e) (totals-through op k l (omega arith)) in
+      (λ i. takingsAfter (takings-through op k l (omega arith) w i) (q i) (e .cents))
+      ∙ sym (takings-append w ts es (e ∷ [])) ∙ ap (takingsThrough w ts) (sym (due-more log op from k (omega arith)))
 
   results-answers : (op k : ℕ) → 9 * (from + k) ≤ length (x .results) → from + k ≤ op
       → outcomes (from + k) (moneyCommitted M log from k x .results)
@@ -170,12 +186,12 @@ module _ (M : ℕ) (log : List ℕ) (from : ℕ) (x : Money) (bytes : Bytes (x .
       (sym (answers-append ts es (e ∷ [])) ∙ ap (resultsOf ts) (sym (due-more log op from k (omega arith))))
 
   -- the k entries after the first `from` are moneyCommitted
-  all-lift : (op k : ℕ) → 9 * (from + k) ≤ length (x .results) → from + k ≤ op → (t : List ClientEntry) (a : List Entry) (c : Book)
-      → c ≡ commitAll (bookOf M op from log x t a) (take k (drop from (entries op log)))
-      → bookOf M op (from + k) log (moneyCommitted M log from k x) (c .table) (c .applied) ≡ c
+  all-lift : (op k : ℕ) → 9 * (from + k) ≤ length (x .results) → from + k ≤ op → (w : ℕ) (t : List ClientEntry) (a : List Entry) (c : Book)
+      → c ≡ commitAll (bookOf M op from log x w t a) (take k (drop from (entries op log)))
+      → bookOf M op (from + k) log (moneyCommitted M log from k x) (takingsCommitted M log from k x w) (c .table) (c .applied) ≡ c
   unfolding bookOf
-  all-lift op k r h t a c p =
-      let b = bookOf M op from log x t a in
+  all-lift op k r h w t a c p =
+      let b = bookOf M op from log x w t a in
       let es = take k (drop from (entries op log)) in
       let l : c .log ≡ entries op log = rw p (commitAll-log b es) in
       let n : c .commit ≡ from + k = rw p (commitAll-commit b es ∙ ap (_+_ from) (due-length log op from k h)) in
@@ -183,51 +199,60 @@ module _ (M : ℕ) (log : List ℕ) (from : ℕ) (x : Money) (bytes : Bytes (x .
       rw p (commitAll-results b es) ∙ sym (results-answers op k r h) in
       let s : c .totals ≡ cells 8 totalOf M (moneyCommitted M log from k x .totals) =
       rw p (commitAll-totals b es) ∙ sym (totals-through op k r h) in
-      λ i. record { log = sym l i; commit = sym n i; results = sym o i; table = c .table; totals = sym s i; applied = c .applied }
+      let g : c .takings ≡ takingsCommitted M log from k x w = rw p (commitAll-takings b es) ∙ sym (takings-through op k r h w) in
+      λ i. record {
+        log = sym l i;
+        commit = sym n i;
+        results = sym o i;
+        table = c .table;
+        totals = sym s i;
+        takings = sym g i;
+        applied = c .applied;
+      }
 
-  module _ (op : ℕ) (t : List ClientEntry) (a : List Entry) where
+  module _ (op : ℕ) (w : ℕ) (t : List ClientEntry) (a : List Entry) where
     -- k ops more
     pub commit-lift : (k : ℕ) → 9 * (from + k) ≤ length (x .results) → from + k ≤ op
-        → bookOf M op (from + k) log (moneyCommitted M log from k x)
-        (commitUpTo (bookOf M op from log x t a) (from + k) .table) (commitUpTo (bookOf M op from log x t a) (from + k) .applied)
-        ≡ commitUpTo (bookOf M op from log x t a) (from + k)
+        → bookOf M op (from + k) log (moneyCommitted M log from k x) (takingsCommitted M log from k x w)
+        (commitUpTo (bookOf M op from log x w t a) (from + k) .table) (commitUpTo (bookOf M op from log x w t a) (from + k) .applied)
+        ≡ commitUpTo (bookOf M op from log x w t a) (from + k)
     unfolding commitUpTo dueEntries bookOf
     commit-lift k r h =
-        let b = bookOf M op from log x t a in
+        let b = bookOf M op from log x w t a in
         let e : from + k - from ≡ k = omega arith in
-        all-lift op k r h t a _ (ap (λ (j : ℕ). commitAll b (take j (drop from (entries op log)))) e)
+        all-lift op k r h w t a _ (ap (λ (j : ℕ). commitAll b (take j (drop from (entries op log)))) e)
 
     -- up to op number j, which may be behind
     pub settle-lift : (j : ℕ) → 9 * op ≤ length (x .results) → from ≤ op → j ≤ op
-        → bookOf M op (max from j) log (moneyCommitted M log from (j - from) x)
-        (commitUpTo (bookOf M op from log x t a) j .table) (commitUpTo (bookOf M op from log x t a) j .applied)
-        ≡ commitUpTo (bookOf M op from log x t a) j
+        → bookOf M op (max from j) log (moneyCommitted M log from (j - from) x) (takingsCommitted M log from (j - from) x w)
+        (commitUpTo (bookOf M op from log x w t a) j .table) (commitUpTo (bookOf M op from log x w t a) j .applied)
+        ≡ commitUpTo (bookOf M op from log x w t a) j
     unfolding commitUpTo dueEntries bookOf
     settle-lift j r g h =
         let e : max from j ≡ from + (j - from) = omega arith in
-        rw e (all-lift op (j - from) (omega arith) (omega arith) t a _ refl)
+        rw e (all-lift op (j - from) (omega arith) (omega arith) w t a _ refl)
 
 -- ---- entries written
 
-module _ (M op commit : ℕ) (log : List ℕ) (x : Money) (t : List ClientEntry) (a : List Entry) where
+module _ (M op commit : ℕ) (log : List ℕ) (x : Money) (w : ℕ) (t : List ClientEntry) (a : List Entry) where
   pub append-lift : (e : Entry) → EntryFits e → entryPlace (op + 1) ≤ length log
-      → bookOf M (op + 1) commit (withEntries op (encodeEntry e) log) x (append (bookOf M op commit log x t a) e .table) a
-      ≡ append (bookOf M op commit log x t a) e
+      → bookOf M (op + 1) commit (withEntries op (encodeEntry e) log) x w (append (bookOf M op commit log x w t a) e .table) a
+      ≡ append (bookOf M op commit log x w t a) e
   unfolding bookOf append
   append-lift e f h =
       let n : op + 1 ≡ suc op = omega arith in
       let l : entries (op + 1) (withEntries op (encodeEntry e) log) ≡ entries op log ++ e ∷ [] =
       rw n (append-entries op log e f (omega (arith, place-next op))) in
-      let c = append (bookOf M op commit log x t a) e in
-      λ i. record { log = l i; commit = commit; results = c .results; table = c .table; totals = c .totals; applied = a }
+      let c = append (bookOf M op commit log x w t a) e in
+      λ i. record { log = l i; commit = commit; results = c .results; table = c .table; totals = c .totals; takings = w; applied = a }
 
   pub part-lift : (k : ℕ) (part : List ℕ) → entryPlace (op + k) ≤ length log → 32 * k ≤ length part
-      → bookOf M (op + k) commit (withEntries op (take (32 * k) part) log) x
-      (appendAll (bookOf M op commit log x t a) (entries k part) .table) a
-      ≡ appendAll (bookOf M op commit log x t a) (entries k part)
+      → bookOf M (op + k) commit (withEntries op (take (32 * k) part) log) x w
+      (appendAll (bookOf M op commit log x w t a) (entries k part) .table) a
+      ≡ appendAll (bookOf M op commit log x w t a) (entries k part)
   unfolding bookOf
   part-lift k part h g =
-      let b = bookOf M op commit log x t a in
+      let b = bookOf M op commit log x w t a in
       let c = appendAll b (entries k part) in
       let l : entries (op + k) (withEntries op (take (32 * k) part) log) ≡ c .log =
       part-entries op log k part h g ∙ sym (appendAll-log b (entries k part)) in
@@ -238,20 +263,21 @@ module _ (M op commit : ℕ) (log : List ℕ) (x : Money) (t : List ClientEntry)
         results = sym (r .results) i;
         table = c .table;
         totals = sym (r .totals) i;
+        takings = sym (r .takings) i;
         applied = sym (r .applied) i;
       }
 
   -- in place of what stood after the first n: a whole log where n is 0, what follows our moneyCommitted entries where it is the commit number
   pub install-lift : (n k : ℕ) (part : List ℕ) → n ≤ op → entryPlace (n + k) ≤ length log → 32 * k ≤ length part
-      → bookOf M (n + k) commit (withEntries n (take (32 * k) part) log) x
-      (install (bookOf M op commit log x t a) (take n (entries op log) ++ entries k part) .table) a
-      ≡ install (bookOf M op commit log x t a) (take n (entries op log) ++ entries k part)
+      → bookOf M (n + k) commit (withEntries n (take (32 * k) part) log) x w
+      (install (bookOf M op commit log x w t a) (take n (entries op log) ++ entries k part) .table) a
+      ≡ install (bookOf M op commit log x w t a) (take n (entries op log) ++ entries k part)
   unfolding bookOf install
   install-lift n k part m h g =
-      let c = install (bookOf M op commit log x t a) (take n (entries op log) ++ entries k part) in
+      let c = install (bookOf M op commit log x w t a) (take n (entries op log) ++ entries k part) in
       let l : entries (n + k) (withEntries n (take (32 * k) part) log) ≡ take n (entries op log) ++ entries k part =
       part-entries n log k part h g ∙ ap (λ (es : List Entry). es ++ entries k part) (sym (cells-take 32 entryOf op log n m)) in
-      λ i. record { log = l i; commit = commit; results = c .results; table = c .table; totals = c .totals; applied = a }
+      λ i. record { log = l i; commit = commit; results = c .results; table = c .table; totals = c .totals; takings = w; applied = a }
 
 -- ---- replies
 
@@ -279,7 +305,7 @@ module _ (v : View) (log : List ℕ) (from : ℕ) where
       (λ i. replies-read op n k rs (omega arith) (omega arith) i ++ one-reply v e o i)
 
 module _ (v : View) (M : ℕ) (log : List ℕ) (from : ℕ) (x : Money) (bytes : Bytes (x .totals)) (wide : 8 * M ≤ length (x .totals))
-    (op : ℕ) (t : List ClientEntry) (a : List Entry) where
+    (op : ℕ) (w : ℕ) (t : List ClientEntry) (a : List Entry) where
   -- the replies of the k ops after the first `from`
   all-replies : (k : ℕ) → 9 * (from + k) ≤ length (x .results) → from + k ≤ op
       → replies v log (moneyCommitted M log from k x .results) from k
@@ -297,7 +323,7 @@ module _ (v : View) (M : ℕ) (log : List ℕ) (from : ℕ) (x : Money) (bytes :
 
   pub replies-lift : (k : ℕ) → 9 * (from + k) ≤ length (x .results) → from + k ≤ op
       → replies v log (moneyCommitted M log from k x .results) from k
-      ≡ repliesOut (commitReplies (v .0) (bookOf M op from log x t a) (from + k))
+      ≡ repliesOut (commitReplies (v .0) (bookOf M op from log x w t a) (from + k))
   unfolding commitReplies dueEntries bookOf
   replies-lift k r h =
       let e : from + k - from ≡ k = omega arith in
@@ -305,11 +331,11 @@ module _ (v : View) (M : ℕ) (log : List ℕ) (from : ℕ) (x : Money) (bytes :
 
   pub settle-replies : (j : ℕ) → 9 * op ≤ length (x .results) → from ≤ op → j ≤ op
       → replies v log (moneyCommitted M log from (j - from) x .results) from (j - from)
-      ≡ repliesOut (commitReplies (v .0) (bookOf M op from log x t a) j)
+      ≡ repliesOut (commitReplies (v .0) (bookOf M op from log x w t a) j)
   unfolding commitReplies dueEntries bookOf
   settle-replies j r g h = all-replies (j - from) (omega arith) (omega arith)
 
   pub settle-replies-length : (j : ℕ) → 9 * op ≤ length (x .results) → from ≤ op → j ≤ op
-      → length (repliesOut (commitReplies (v .0) (bookOf M op from log x t a) j)) ≡ 36 * (j - from)
+      → length (repliesOut (commitReplies (v .0) (bookOf M op from log x w t a) j)) ≡ 36 * (j - from)
   settle-replies-length j r g h =
       rw (← settle-replies j r g h) (replies-length v log (moneyCommitted M log from (j - from) x .results) from (j - from))

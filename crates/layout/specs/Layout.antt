@@ -90,16 +90,17 @@ storeOf s stored =
       nonce = s .nonce;
     }
 
--- The book, of so many members and a log of op entries, commit of them committed. The client table is handed in as it is read from its own run. So are
+-- The book, of so many members and a log of op entries, commit of them committed, with the takings that the state has. The client table is handed in as it is read from its own run. So are
 -- the applied entries, which no byte holds: what a call does to them the model says alone.
-unfoldable pub bookOf : (members op commit : ℕ) (log : List ℕ) → Money → (table : List M.ClientEntry) (applied : List Entry) → M.Book
-bookOf members op commit log x table applied =
+unfoldable pub bookOf : (members op commit : ℕ) (log : List ℕ) → Money → (takings : ℕ) (table : List M.ClientEntry) (applied : List Entry) → M.Book
+bookOf members op commit log x takings table applied =
     record {
       log = entries op log;
       commit = commit;
       results = outcomes commit (x .results);
       table = table;
       totals = cells 8 totalOf members (x .totals);
+      takings = takings;
       applied = applied;
     }
 
@@ -108,7 +109,7 @@ unfoldable pub modelOf : Replica → LentRuns → (table : List M.ClientEntry) (
 modelOf s x table applied =
     record {
       place = record { status = s .status; view = s .view .0; lastNormal = s .normal .0; catchingUp = s .catching };
-      book = bookOf (s .setup .members) (s .op .0) (s .commit .0) (x .log) (money (x .results) (x .totals)) table applied;
+      book = bookOf (s .setup .members) (s .op .0) (s .commit .0) (x .log) (money (x .results) (x .totals)) (s .takings) table applied;
       votes = record { acks = x .acks; starts = s .starts; sent = s .sent };
       store = storeOf s (x .stored);
       clock = s .clock;

@@ -1,7 +1,8 @@
 -- Laws of the book.
 --     outcome-code                                   an outcome is 1 to 6
 --     through-, answers-length, -append              the fee rules over a list of entries
---     commitAll-log, -commit, -results, -totals, -applied   what a commit of entries leaves in each field
+--     takings-append                                 and the takings
+--     commitAll-log, -commit, -results, -totals, -takings, -applied   what a commit of entries leaves in each field
 --     commitAll-end, appendAll-end                   one entry more: for a loop that goes on at the end
 --     replies-end                                    likewise for the replies
 --     length-due                                     how many entries a commit puts through the rules
@@ -23,7 +24,7 @@ use Rattle.entries.specs.declared.Operation.the-variants.{Fee, Refund, Ask}
 use Rattle.fees.specs.Fees.{rule}
 use Rattle.fees.specs.declared.Outcome.{Outcome}
 use Rattle.model.specs.State.{Book}
-use Rattle.model.specs.Book.{outcome, totalsAfter, through, resultsOf, append, appendAll, commitOne, commitAll, dueEntries, repliesOf, sameEntry, agree}
+use Rattle.model.specs.Book.{outcome, totalsAfter, through, resultsOf, takingsThrough, append, appendAll, commitOne, commitAll, dueEntries, repliesOf, sameEntry, agree}
 
 -- the numbers of outcomes
 abbrev Coded : Outcome → Type 0
@@ -40,7 +41,7 @@ unfolding outcome
 outcome-code ts e = split Coded _ _ _ (λ _. rule-code _ (e .cents) _) (λ _. omega arith)
 
 -- how many totals and answers there are
-after-length : (ts : List ℕ) (e : Entry) → length (totalsAfter ts e) ≡ length ts
+pub after-length : (ts : List ℕ) (e : Entry) → length (totalsAfter ts e) ≡ length ts
 unfolding totalsAfter
 after-length ts e = split (λ (l : List ℕ). length l ≡ length ts) _ _ _ (λ _. length-set ts (e .member) _) (λ _. refl)
 
@@ -65,6 +66,11 @@ unfolding through resultsOf
 answers-append ts [] ys = refl
 answers-append ts (x ∷ xs) ys = ap (_∷_ (outcome ts x)) (answers-append (totalsAfter ts x) xs ys)
 
+pub takings-append : (t : ℕ) (ts : List ℕ) (xs ys : List Entry) → takingsThrough t ts (xs ++ ys) ≡ takingsThrough (takingsThrough t ts xs) (through ts xs) ys
+unfolding through takingsThrough
+takings-append t ts [] ys = refl
+takings-append t ts (x ∷ xs) ys = takings-append _ (totalsAfter ts x) xs ys
+
 -- a commit of entries, field by field
 pub commitAll-log : (b : Book) (es : List Entry) → commitAll b es .log ≡ b .log
 unfolding commitAll commitOne
@@ -85,6 +91,11 @@ pub commitAll-totals : (b : Book) (es : List Entry) → commitAll b es .totals �
 unfolding commitAll commitOne through
 commitAll-totals b [] = refl
 commitAll-totals b (e ∷ es) = commitAll-totals (commitOne b e) es
+
+pub commitAll-takings : (b : Book) (es : List Entry) → commitAll b es .takings ≡ takingsThrough (b .takings) (b .totals) es
+unfolding commitAll commitOne takingsThrough
+commitAll-takings b [] = refl
+commitAll-takings b (e ∷ es) = commitAll-takings (commitOne b e) es
 
 pub commitAll-results : (b : Book) (es : List Entry) → commitAll b es .results ≡ b .results ++ resultsOf (b .totals) es
 unfolding commitAll commitOne resultsOf
@@ -129,15 +140,16 @@ appendAll-length b es = rw (appendAll-log, length-append)
 pub record Rest (b c : Book) : Type 0 where
   pub commit : c .commit ≡ b .commit
   pub totals : c .totals ≡ b .totals
+  pub takings : c .takings ≡ b .takings
   pub applied : c .applied ≡ b .applied
   pub results : c .results ≡ b .results
 
 pub appendAll-rest : (b : Book) (es : List Entry) → Rest b (appendAll b es)
 unfolding appendAll append
-appendAll-rest b [] = record { commit = refl; totals = refl; applied = refl; results = refl }
+appendAll-rest b [] = record { commit = refl; totals = refl; takings = refl; applied = refl; results = refl }
 appendAll-rest b (e ∷ es) =
     let x : Rest (append b e) (appendAll (append b e) es) = appendAll-rest (append b e) es in
-    record { commit = x .commit; totals = x .totals; applied = x .applied; results = x .results }
+    record { commit = x .commit; totals = x .totals; takings = x .takings; applied = x .applied; results = x .results }
 
 -- agreement of logs
 same-eq : (a b : Entry) → sameEntry a b ≡ true → a ≡ b

@@ -27,7 +27,7 @@ misread-hold = (refl, (refl, (refl, (refl, (refl, (refl, (refl, (refl, (refl, (r
 
 pub surprises-hold : AllRun surprises
 unfolding open-surprises
-surprises-hold = (refl, (refl, (refl, (refl, (refl, (refl, (refl, (refl, (refl, (refl, (refl, (refl, (refl, (refl, (refl, (refl, tt))))))))))))))))
+surprises-hold = (refl, (refl, (refl, (refl, (refl, (refl, (refl, (refl, (refl, (refl, (refl, (refl, (refl, (refl, (refl, (refl, (refl, tt)))))))))))))))))
 
 -- install_log keeps a reply only where the number equals the old row's. No call leads to such an old tableRow, so it is said of the table alone.
 pub other-number : rebuilt (tableRow 1 6 (some (gives 1 10)) ∷ []) 1 [] (fee 1 5 10 ∷ []) ≡ tableRow 1 5 none ∷ []

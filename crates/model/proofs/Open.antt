@@ -4,6 +4,7 @@ use Rattle.model.specs.State.{after, ignored, setPlace, setBook, setVote
 use Rattle.numbers.specs.Words.{if_then_else_, _and_, _or_}
 use Rattle.entries.specs.Entries.{operationOf, encodeEntry, operationOk, entryOf, entryOk, entriesOk}
 use Rattle.entries.specs.Rising.{breaksAt, follows, rising}
+use Rattle.fees.specs.Takings.{takingsAfter}
 use Rattle.fees.specs.Fees.{rule}
 use Rattle.model.specs.Book.{outcome, totalsAfter, through, resultsOf, find, put, entryRow, append, appendAll, keep, commitOne, commitAll, dueEntries, commitUpTo, repliesOf, commitReplies, keptFor, rebuilt, install, sameEntry, agree, emptyBook}
 use Rattle.numbers.specs.Numbers.{big, num, within}
@@ -26,14 +27,14 @@ use Rattle.model.specs.ExampleFrames.{heartbeats, request70, request71, 
 use Rattle.model.specs.Marked.{e70, zeros8, paid8, bare3, onItsOwn, askedOnce, firstAck, paid, first, ticksOnly, badFrames, two, full, again, short, marked}
 use Rattle.model.specs.Directed.{step, told, answers, ends, ranFrom, fee, A, B, C, entriesBytes, requestFrameTo, prepareTo, prepareOkTo, commitTo, getStateTo, newStateTo, callTo, reportFrameTo, startViewTo, recoveryTo, bareResponseTo, responseTo, paidReply, totals3, untouched, noneStored, acks2}
 use Rattle.model.specs.Misread.{fourAcked, tie, tieBack, viewFirst, greatest, heardInNormal, excess, catchesUp, resentAgain, lostReply, keptReply, oldAcks, exactly, transferTicks, doubled, halfAsks, misread}
-use Rattle.model.specs.Surprises.{bad, pastChosen, acksForAnother, notOwn, recovers, shortens, roomFor, lastView, noOwnAcks, lowerView, latest, laterRecovery, ownAgain, noGetState, unheard, fromCatchingUp, onTheFrame, surprises}
+use Rattle.model.specs.Surprises.{bad, pastChosen, acksForAnother, notOwn, recovers, shortens, roomFor, lastView, noOwnAcks, lowerView, latest, laterRecovery, ownAgain, noGetState, unheard, fromCatchingUp, onTheFrame, charge, fiveSorts, atAGlance, surprises}
 
 unfoldable pub open-state : Unit {0}
 unfolding isNormal isTransfer isChanging after ignored setPlace setBook setVotes setStore setClock setStatus setAcks opOf
 open-state = tt
 
 unfoldable pub open-book : Unit {0}
-unfolding if_then_else_ _and_ _or_ operationOf breaksAt follows rising rule outcome totalsAfter through resultsOf find put entryRow append appendAll keep commitOne commitAll dueEntries commitUpTo repliesOf commitReplies keptFor rebuilt install sameEntry agree emptyBook
+unfolding if_then_else_ _and_ _or_ operationOf breaksAt follows rising rule takingsAfter outcome totalsAfter through resultsOf find put entryRow append appendAll keep commitOne commitAll dueEntries commitUpTo repliesOf commitReplies keptFor rebuilt install sameEntry agree emptyBook
 open-book = tt
 
 unfoldable pub open-sending : Unit {0}
@@ -81,5 +82,5 @@ unfolding open-directed fourAcked tie tieBack viewFirst greatest heardInNormal e
 open-misread = tt
 
 unfoldable pub open-surprises : Unit {0}
-unfolding open-directed bad pastChosen acksForAnother notOwn recovers shortens roomFor lastView noOwnAcks lowerView latest laterRecovery ownAgain noGetState unheard fromCatchingUp onTheFrame surprises
+unfolding open-directed bad pastChosen acksForAnother notOwn recovers shortens roomFor lastView noOwnAcks lowerView latest laterRecovery ownAgain noGetState unheard fromCatchingUp onTheFrame charge fiveSorts atAGlance surprises
 open-surprises = tt

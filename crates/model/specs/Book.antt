@@ -9,6 +9,7 @@ use Rattle.numbers.specs.Words.{if_then_else_, _and_}
 use Rattle.entries.specs.Entries.{operationOf}
 use Rattle.entries.specs.declared.Entry.{Entry}
 use Rattle.fees.specs.Fees.{gives, rule}
+use Rattle.fees.specs.Takings.{takingsAfter}
 use Rattle.fees.specs.declared.Outcome.{Outcome}
 use Rattle.model.specs.State.{ClientEntry, Book, Reply}
 
@@ -31,6 +32,11 @@ through ts (e ∷ es) = through (totalsAfter ts e) es
 unfoldable pub resultsOf : List ℕ → List Entry → List Outcome
 resultsOf ts [] = []
 resultsOf ts (e ∷ es) = outcome ts e ∷ resultsOf (totalsAfter ts e) es
+
+-- the takings t after them, by what each gave
+unfoldable pub takingsThrough : ℕ → List ℕ → List Entry → ℕ
+takingsThrough t ts [] = t
+takingsThrough t ts (e ∷ es) = takingsThrough (takingsAfter t (outcome ts e) (e .cents)) (totalsAfter ts e) es
 
 -- each row's client id is above c
 abbrev pub Above : ℕ → List ClientEntry → Type 0
@@ -74,6 +80,7 @@ append b e =
       results = b .results;
       table = put (b .table) (entryRow e none);
       totals = b .totals;
+      takings = b .takings;
       applied = b .applied;
     }
 
@@ -88,7 +95,7 @@ keep t e o =
     if find t (e .client) .there and eqb (find t (e .client) .request) (e .request) then put t (entryRow e (some o)) else
     t
 
--- commit_op, of the entry given: it goes through the fee rules, and is added to the applied entries
+-- commit_op, of the entry given: it goes through the fee rules, and is added to the applied entries. Here alone the takings change.
 unfoldable pub commitOne : Book → Entry → Book
 commitOne b e =
     record {
@@ -97,6 +104,7 @@ commitOne b e =
       results = b .results ++ (outcome (b .totals) e ∷ []);
       table = keep (b .table) e (outcome (b .totals) e);
       totals = totalsAfter (b .totals) e;
+      takings = takingsAfter (b .takings) (outcome (b .totals) e) (e .cents);
       applied = b .applied ++ (e ∷ []);
     }
 
@@ -143,6 +151,7 @@ install b log =
       results = b .results;
       table = rebuilt (b .table) (b .commit) [] log;
       totals = b .totals;
+      takings = b .takings;
       applied = b .applied;
     }
 
@@ -161,4 +170,4 @@ agree (suc n) (x ∷ xs) (y ∷ ys) = sameEntry x y and agree n xs ys
 
 -- a new replica's book, of M members
 unfoldable pub emptyBook : ℕ → Book
-emptyBook M = record { log = []; commit = 0; results = []; table = []; totals = replicate M 0; applied = [] }
+emptyBook M = record { log = []; commit = 0; results = []; table = []; totals = replicate M 0; takings = 0; applied = [] }

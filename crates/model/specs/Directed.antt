@@ -137,7 +137,7 @@ unfoldable pub totals3 : ℕ → List ℕ
 totals3 t = 0 ∷ 0 ∷ 0 ∷ t ∷ 0 ∷ 0 ∷ 0 ∷ 0 ∷ []
 
 unfoldable pub untouched : List Entry → List ClientEntry → Book
-untouched log t = book log 0 [] t (totals3 0) []
+untouched log t = book log 0 [] t (totals3 0) 0 []
 
 unfoldable pub noneStored : ℕ → ℕ → Store
 noneStored n x = store (replicate n none) (replicate n none) x

@@ -83,8 +83,8 @@ setup n id T L = record { n = n; id = id; timeout = T; room = L; members = 8 }
 unfoldable pub place : Status → (view lastNormal : ℕ) → Bool → Place
 place s v l c = record { status = s; view = v; lastNormal = l; catchingUp = c }
 
-unfoldable pub book : List Entry → ℕ → List Outcome → List ClientEntry → List ℕ → List Entry → Book
-book log c rs t ts es = record { log = log; commit = c; results = rs; table = t; totals = ts; applied = es }
+unfoldable pub book : List Entry → ℕ → List Outcome → List ClientEntry → List ℕ → ℕ → List Entry → Book
+book log c rs t ts k es = record { log = log; commit = c; results = rs; table = t; totals = ts; takings = k; applied = es }
 
 unfoldable pub tableRow : (client request : ℕ) → Option Outcome → ClientEntry
 tableRow c r k = record { client = c; request = r; kept = k }

@@ -32,12 +32,12 @@ bare3 = store (none ∷ none ∷ none ∷ []) (none ∷ none ∷ none ∷ []) 0
 
 -- a replica of 3 with an empty log, in a view
 unfoldable pub onItsOwn : Status → ℕ → Clock → State
-onItsOwn s v c = state (place s v 0 false) (book [] 0 [] [] zeros8 []) (votes zeros8 0 false) bare3 c
+onItsOwn s v c = state (place s v 0 false) (book [] 0 [] [] zeros8 0 []) (votes zeros8 0 false) bare3 c
 
 -- a primary of view 0 that has e70: with these acks, not committed; and committed, with no acks
 unfoldable pub askedOnce : List ℕ → Clock → State
 askedOnce acks c =
-    state (place Normal 0 0 false) (book (e70 ∷ []) 0 [] (tableRow 7 0 none ∷ []) zeros8 []) (votes acks 0 false) bare3 c
+    state (place Normal 0 0 false) (book (e70 ∷ []) 0 [] (tableRow 7 0 none ∷ []) zeros8 0 []) (votes acks 0 false) bare3 c
 
 -- its own ack of op 1
 unfoldable pub firstAck : List ℕ
@@ -46,7 +46,7 @@ firstAck = 1 ∷ 0 ∷ 0 ∷ 0 ∷ 0 ∷ 0 ∷ 0 ∷ 0 ∷ []
 unfoldable pub paid : List ℕ → Clock → State
 paid acks c =
     state (place Normal 0 0 false)
-    (book (e70 ∷ []) 1 (gives 1 4500 ∷ []) (tableRow 7 0 (some (gives 1 4500)) ∷ []) paid8 (e70 ∷ []))
+    (book (e70 ∷ []) 1 (gives 1 4500 ∷ []) (tableRow 7 0 (some (gives 1 4500)) ∷ []) paid8 4500 (e70 ∷ []))
     (votes acks 0 false) bare3 c
 
 -- a fresh replica's clock, and the same after one tick of a primary
@@ -132,7 +132,7 @@ full =
       start = new;
       calls = gets request70 ∷ gets request71 ∷ gets request70 ∷ gets prepareOk1 ∷ gets request71 ∷ gets request80 ∷ gets request70 ∷ [];
       want =
-          saw 0 [] [] (state (place Normal 0 0 false) (book [] 0 [] [] zeros8 []) (votes (0 ∷ []) 0 false) bare3 fresh)
+          saw 0 [] [] (state (place Normal 0 0 false) (book [] 0 [] [] zeros8 0 []) (votes (0 ∷ []) 0 false) bare3 fresh)
           ∷ saw 0 prepares [] (askedOnce (1 ∷ []) fresh)
           ∷ saw 4 [] [] (askedOnce (1 ∷ []) fresh)
           ∷ saw 0 [] [] (askedOnce (1 ∷ []) fresh)

@@ -70,7 +70,7 @@ greatest =
           ∷ [];
       last =
           state (place Normal 1 1 false)
-          (book (A ∷ B ∷ []) 1 (gives 1 10 ∷ []) (tableRow 1 0 (some (gives 1 10)) ∷ tableRow 2 0 none ∷ []) (totals3 10) (A ∷ []))
+          (book (A ∷ B ∷ []) 1 (gives 1 10 ∷ []) (tableRow 1 0 (some (gives 1 10)) ∷ tableRow 2 0 none ∷ []) (totals3 10) 10 (A ∷ []))
           (votes (acks2 0 2) 0 false) (noneStored 3 0) (clock true 0 0 0);
     }
 
@@ -101,7 +101,7 @@ excess =
           ∷ [];
       last =
           state (place Normal 0 0 false)
-          (book (A ∷ B ∷ []) 1 (gives 1 10 ∷ []) (tableRow 1 0 (some (gives 1 10)) ∷ tableRow 2 0 none ∷ []) (totals3 10) (A ∷ []))
+          (book (A ∷ B ∷ []) 1 (gives 1 10 ∷ []) (tableRow 1 0 (some (gives 1 10)) ∷ tableRow 2 0 none ∷ []) (totals3 10) 10 (A ∷ []))
           (votes (acks2 0 0) 0 false) (noneStored 3 0) (clock true 0 0 0);
     }
 
@@ -119,7 +119,7 @@ catchesUp =
           ∷ [];
       last =
           state (place Normal 2 2 false)
-          (book (B ∷ []) 1 (gives 1 20 ∷ []) (tableRow 2 0 (some (gives 1 20)) ∷ []) (totals3 20) (B ∷ []))
+          (book (B ∷ []) 1 (gives 1 20 ∷ []) (tableRow 2 0 (some (gives 1 20)) ∷ []) (totals3 20) 20 (B ∷ []))
           (votes (acks2 0 0) 0 false) (noneStored 3 0) (clock true 0 0 0);
     }
 
@@ -132,7 +132,7 @@ resentAgain =
       steps = step (gets (prepareTo 1 0 1 0 A)) 0 (prepareOkTo 0 0 1 1) [] ∷ step (gets (prepareTo 1 0 1 7 B)) 0 (prepareOkTo 0 0 1 1) [] ∷ [];
       last =
           state (place Normal 0 0 false)
-          (book (A ∷ []) 1 (gives 1 10 ∷ []) (tableRow 1 0 (some (gives 1 10)) ∷ []) (totals3 10) (A ∷ []))
+          (book (A ∷ []) 1 (gives 1 10 ∷ []) (tableRow 1 0 (some (gives 1 10)) ∷ []) (totals3 10) 10 (A ∷ []))
           (votes (acks2 0 0) 0 false) (noneStored 3 0) (clock true 0 0 0);
     }
 
@@ -151,7 +151,7 @@ lostReply =
           ∷ [];
       last =
           state (place Normal 1 1 false)
-          (book (fee 1 5 10 ∷ []) 1 (gives 1 10 ∷ []) (tableRow 1 5 none ∷ []) (totals3 10) (fee 1 5 10 ∷ []))
+          (book (fee 1 5 10 ∷ []) 1 (gives 1 10 ∷ []) (tableRow 1 5 none ∷ []) (totals3 10) 10 (fee 1 5 10 ∷ []))
           (votes (acks2 0 0) 0 false) (noneStored 3 0) (clock true 0 0 0);
     }
 
@@ -170,7 +170,7 @@ keptReply =
           ∷ [];
       last =
           state (place Normal 2 2 false)
-          (book (A ∷ fee 1 1 5 ∷ []) 1 (gives 1 10 ∷ []) (tableRow 1 1 none ∷ []) (totals3 10) (A ∷ []))
+          (book (A ∷ fee 1 1 5 ∷ []) 1 (gives 1 10 ∷ []) (tableRow 1 1 none ∷ []) (totals3 10) 10 (A ∷ []))
           (votes (acks2 0 0) 0 false) (noneStored 3 0) (clock true 0 0 0);
     }
 
@@ -206,7 +206,7 @@ exactly =
           ∷ [];
       last =
           state (place Normal 0 0 false)
-          (book (A ∷ B ∷ []) 2 (gives 1 10 ∷ gives 1 30 ∷ []) (tableRow 1 0 (some (gives 1 10)) ∷ tableRow 2 0 (some (gives 1 30)) ∷ []) (totals3 30) (A ∷ B ∷ []))
+          (book (A ∷ B ∷ []) 2 (gives 1 10 ∷ gives 1 30 ∷ []) (tableRow 1 0 (some (gives 1 10)) ∷ tableRow 2 0 (some (gives 1 30)) ∷ []) (totals3 30) 30 (A ∷ B ∷ []))
           (votes (acks2 0 0) 0 false) (noneStored 3 0) (clock true 0 0 0);
     }
 

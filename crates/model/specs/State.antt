@@ -35,14 +35,16 @@ pub record Place : Type 0 where
   pub catchingUp : Bool
 
 -- `log`, `commit_number`, `client_table` in rising order of client id, and the state machine: the members' totals. Besides, what each
--- applied entry gave (results), and the applied entries themselves, in order (document 01, "Fee rules"). `applied` is a history for the
--- theorems: a commit adds to it the entry that it put through the rules, nothing else does, and no byte of the state holds it.
+-- applied entry gave (results), the sum over all members (takings; document 02, order 4), and the applied entries themselves, in order
+-- (document 01, "Fee rules"). `applied` is a history for the theorems: a commit adds to it the entry that it put through the rules, nothing
+-- else does, and no byte of the state holds it.
 pub record Book : Type 0 where
   pub log : List Entry
   pub commit : ℕ
   pub results : List Outcome
   pub table : List ClientEntry
   pub totals : List ℕ
+  pub takings : ℕ
   pub applied : List Entry
 
 -- Who has spoken. `acks`: of each op 1 to L the set of replicas that acknowledged it, 0 where there is no row; `start_view_change_from`,

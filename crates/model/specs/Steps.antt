@@ -11,6 +11,7 @@ use Rattle.entries.specs.Entries.{entries}
 use Rattle.entries.specs.declared.Entry.{Entry}
 use Rattle.config.specs.Setup.{setupOk}
 use Rattle.config.specs.declared.Setup.{Setup}
+use Rattle.fees.specs.Takings.{mostTakings}
 use Rattle.clock.specs.Clock.{freshClock, tickOf}
 use Rattle.clock.specs.declared.Ticked.{Ticked}
 use Rattle.clock.specs.declared.Duty.the-variants.{Lead, Follow, Change}
@@ -53,7 +54,7 @@ unfoldable pub heldIn : RecoveryState → List Entry → Option Held
 heldIn Absent log = none
 heldIn (Present o c) log = some (record { commit = c .0; log = log })
 
--- Refusal 1 on a state's numbers: commit ≤ op number ≤ L, of the replica's own log and of each stored one.
+-- Refusal 1 on a state's numbers: commit ≤ op number ≤ L, of the replica's own log and of each stored one; takings of at most 4,096,000,000,000.
 unfoldable pub heldOk : ℕ → Held → Bool
 heldOk L h = leb (h .commit) (length (h .log)) and leb (length (h .log)) L
 
@@ -78,7 +79,7 @@ module _ (u : Setup) where
   -- refusal 1 is given exactly where this is false, or a lent buffer has another length (the model has no buffers)
   unfoldable pub numbersOk : State → Bool
   numbersOk m =
-      setupOk u and leb (m .book .commit) (opOf m) and leb (opOf m) (u .room)
+      setupOk u and leb (m .book .commit) (opOf m) and leb (opOf m) (u .room) and leb (m .book .takings) mostTakings
       and reportedOk (u .room) (m .store .reports) and responsesOk (u .room) (m .store .responses)
 
   -- on_message, its match

@@ -1,4 +1,5 @@
--- Directed examples for the unmarked examples of document 01, for its refusals and for surprises of the Rust. Assumes nothing.
+-- Directed examples for the unmarked examples of document 01, for its refusals, for surprises of the Rust, and for the takings of document 02. Assumes nothing.
+use Prim.Native.Nat.{ℕ}
 use mathlib.Core.Bool.{true, false}
 use mathlib.Core.List.{List, [], _∷_, _++_}
 use mathlib.Core.Option.{none, some}
@@ -25,7 +26,7 @@ pastChosen =
           ∷ [];
       last =
           state (place Normal 4 4 false)
-          (book (A ∷ B ∷ []) 2 (gives 1 10 ∷ gives 1 30 ∷ []) (tableRow 1 0 (some (gives 1 10)) ∷ tableRow 2 0 (some (gives 1 30)) ∷ []) (totals3 30) (A ∷ B ∷ []))
+          (book (A ∷ B ∷ []) 2 (gives 1 10 ∷ gives 1 30 ∷ []) (tableRow 1 0 (some (gives 1 10)) ∷ tableRow 2 0 (some (gives 1 30)) ∷ []) (totals3 30) 30 (A ∷ B ∷ []))
           (votes (acks2 0 0) 0 false) (noneStored 3 0) (clock true 0 0 0);
     }
 
@@ -48,7 +49,7 @@ acksForAnother =
           ∷ [];
       last =
           state (place Normal 10 10 false)
-          (book (C ∷ []) 1 (gives 1 30 ∷ []) (tableRow 3 0 (some (gives 1 30)) ∷ []) (totals3 30) (C ∷ []))
+          (book (C ∷ []) 1 (gives 1 30 ∷ []) (tableRow 3 0 (some (gives 1 30)) ∷ []) (totals3 30) 30 (C ∷ []))
           (votes (acks2 0 0) 0 false) (noneStored 5 0) (clock true 0 0 0);
     }
 
@@ -82,7 +83,7 @@ recovers =
           ∷ [];
       last =
           state (place Normal 0 0 false)
-          (book (A ∷ B ∷ []) 2 (gives 1 10 ∷ gives 1 30 ∷ []) (tableRow 1 0 (some (gives 1 10)) ∷ tableRow 2 0 (some (gives 1 30)) ∷ []) (totals3 30) (A ∷ B ∷ []))
+          (book (A ∷ B ∷ []) 2 (gives 1 10 ∷ gives 1 30 ∷ []) (tableRow 1 0 (some (gives 1 10)) ∷ tableRow 2 0 (some (gives 1 30)) ∷ []) (totals3 30) 30 (A ∷ B ∷ []))
           (votes (acks2 0 0) 0 false) (noneStored 3 9) (clock true 0 0 0);
     }
 
@@ -100,7 +101,7 @@ shortens =
           ∷ [];
       last =
           state (place Normal 0 0 false)
-          (book (A ∷ []) 1 (gives 1 10 ∷ []) (tableRow 1 0 (some (gives 1 10)) ∷ []) (totals3 10) (A ∷ []))
+          (book (A ∷ []) 1 (gives 1 10 ∷ []) (tableRow 1 0 (some (gives 1 10)) ∷ []) (totals3 10) 10 (A ∷ []))
           (votes (acks2 0 0) 0 false) (noneStored 3 0) (clock true 0 0 0);
     }
 
@@ -181,7 +182,7 @@ latest =
           ∷ [];
       last =
           state (place Normal 5 5 false)
-          (book (B ∷ []) 1 (gives 1 20 ∷ []) (tableRow 2 0 (some (gives 1 20)) ∷ []) (totals3 20) (B ∷ []))
+          (book (B ∷ []) 1 (gives 1 20 ∷ []) (tableRow 2 0 (some (gives 1 20)) ∷ []) (totals3 20) 20 (B ∷ []))
           (votes (acks2 0 0) 0 false) (noneStored 3 1) (clock true 0 0 0);
     }
 
@@ -285,7 +286,35 @@ onTheFrame =
           state (place Recovering 0 0 false) (untouched [] []) (votes (0 ∷ []) 0 false) (noneStored 3 1) (clock true 0 0 0);
     }
 
+-- a charge of a client, with number 0
+unfoldable pub charge : (client operation member cents : ℕ) → Entry
+charge c o m x = record { client = c; request = 0; operation = o; member = m; cents = x }
+
+-- a fee that is taken, a refund that is paid, one above the total, an Ask, a member that isn't there
+unfoldable pub fiveSorts : List Entry
+fiveSorts = charge 1 1 3 10 ∷ charge 2 2 3 4 ∷ charge 3 2 3 100 ∷ charge 4 3 3 0 ∷ charge 5 1 8 50 ∷ []
+
+-- Takings rise by a fee that is taken and fall by a refund that is paid; an install leaves them, and so does a refused call.
+unfoldable pub atAGlance : Directed
+atAGlance =
+    record {
+      setup = setup 3 1 3 8;
+      start = new;
+      steps =
+          step (gets (startViewTo 1 3 5 fiveSorts)) 0 (prepareOkTo 0 3 5 1) []
+          ∷ step (gets (startViewTo 1 6 5 (fiveSorts ++ charge 6 1 3 70 ∷ []))) 0 (prepareOkTo 0 6 6 1) []
+          ∷ step (gets []) 2 [] []
+          ∷ [];
+      last =
+          state (place Normal 6 6 false)
+          (book (fiveSorts ++ charge 6 1 3 70 ∷ []) 5 (gives 1 10 ∷ gives 2 6 ∷ gives 6 6 ∷ gives 3 6 ∷ gives 4 0 ∷ [])
+          (tableRow 1 0 (some (gives 1 10)) ∷ tableRow 2 0 (some (gives 2 6)) ∷ tableRow 3 0 (some (gives 6 6)) ∷ tableRow 4 0 (some (gives 3 6))
+          ∷ tableRow 5 0 (some (gives 4 0)) ∷ tableRow 6 0 none ∷ [])
+          (totals3 6) 6 fiveSorts)
+          (votes (acks2 0 0) 0 false) (noneStored 3 0) (clock true 0 0 0);
+    }
+
 unfoldable pub surprises : List Directed
 surprises =
     pastChosen ∷ acksForAnother ∷ notOwn ∷ recovers ∷ shortens ∷ roomFor ∷ lastView ∷ noOwnAcks ∷ lowerView ∷ latest ∷ laterRecovery ∷ ownAgain
-    ∷ noGetState ∷ unheard ∷ fromCatchingUp ∷ onTheFrame ∷ []
+    ∷ noGetState ∷ unheard ∷ fromCatchingUp ∷ onTheFrame ∷ atAGlance ∷ []

@@ -58,7 +58,7 @@ module _ (s : Replica) (c : Op) (x : Runs) (out : List ℕ) where
   unfolding takenCommit if_then_else_
   past-log a o h e = rw (lt-ltb (s .op .0) (c .0) h) (ap (alone x) e)
 
-  pub settles : (u t : Replica) (y : Runs) (a : Returned) → c .0 ≤ s .op .0 → u ≡ heardBy s → t ≡ committedTo u c → y ≡ settled u c x
+  pub settles : (u t : Replica) (y : Runs) (a : Returned) → c .0 ≤ s .op .0 → u ≡ heardBy s → t ≡ committedTo u c x → y ≡ settled u c x
       → a ≡ quiet t → left a y out ≡ takenCommit s c x out
   unfolding takenCommit if_then_else_
   settles u t y a h e p q r = rw (le-ltb (s .op .0) (c .0) h, r, q, p, e)

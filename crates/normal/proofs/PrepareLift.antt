@@ -126,7 +126,7 @@ module _ (c : Given) (table : List ClientEntry) (applied : List Entry) (sound : 
     (looks : isRecovering (c .state .status) ≡ false) (k : Op) where
   -- what a commit leaves
   abbrev settles : Left
-  settles = left (quiet (committedTo (S.heardBy (c .state)) k)) (settled (S.heardBy (c .state)) k (bookRuns (c .runs))) (c .out)
+  settles = left (quiet (committedTo (S.heardBy (c .state)) k (bookRuns (c .runs)))) (settled (S.heardBy (c .state)) k (bookRuns (c .runs))) (c .out)
 
   settles-did : k .0 ≤ c .state .op .0
       → Did c (ofLeft c settles) (now c table applied .book) (committed (heardFromPrimary (now c table applied)) (k .0)) [] []
@@ -276,7 +276,7 @@ module _ (c : Given) (p : Prepared) (table : List ClientEntry) (applied : List E
   unfolding modelOf storeOf heardFromPrimary setClock setBook
   append-reads l =
       ap (setBook (heardFromPrimary m))
-      (append-lift (s .setup .members) (s .op .0) (s .commit .0) (c .runs .log) (x .money) table applied e (met .fits)
+      (append-lift (s .setup .members) (s .op .0) (s .commit .0) (c .runs .log) (x .money) (s .takings) table applied e (met .fits)
       (append-fits s e (c .runs .log) (c .runs .results) (c .runs .totals) (met .sound) l .1))
 
   append-shown : s .op .0 < s .setup .room

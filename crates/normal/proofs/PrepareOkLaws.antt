@@ -145,7 +145,7 @@ module _ (s : Replica) (op : Op) (log results totals : List ℕ) (h : Sound s (r
   acks-fit acks n p e = omega (arith, h .op-le)
 
 module _ (s : Replica) (op : Op) (log results totals acks reps : List ℕ) where
-  pub all-committed : (t : Replica) (a : Returned) (n : ℕ) (rs ts ks ps : List ℕ) → t ≡ committedTo s op
+  pub all-committed : (t : Replica) (a : Returned) (n : ℕ) (rs ts ks ps : List ℕ) → t ≡ committedTo s op (runs log results totals)
       → runs log rs ts ≡ settled s op (runs log results totals)
       → ps ≡ over (replies (s .view) log rs (s .commit .0) (op .0 - s .commit .0)) reps → n ≡ ackPlace (op .0) → ks ≡ over (replicate n 0) acks
       → a ≡ completed t 0 (36 * (op .0 - s .commit .0)) false

@@ -147,12 +147,12 @@ module _ (c : Given) (table : List ClientEntry) (applied : List Entry) (v : View
     unfolding over blanked
     blanks = ap (λ (k : ℕ). replicate (o .0) 0 ++ drop k (c .runs .acks)) (length-replicate (o .0) 0)
 
-    reads : modelOf (committedTo s o) (ofCounted c after .runs) (next .book .table) (next .book .applied) ≡ next
+    reads : modelOf (committedTo s o (record { log = c .runs .log; money = x })) (ofCounted c after .runs) (next .book .table) (next .book .applied) ≡ next
     unfolding modelOf storeOf committedBy committed setAcks setVotes setBook
     reads =
         λ i. setAcks
         (setBook now
-        (settle-lift (s .setup .members) (c .runs .log) (s .commit .0) x bytes wide (s .op .0) table applied (o .0)
+        (settle-lift (s .setup .members) (c .runs .log) (s .commit .0) x bytes wide (s .op .0) (s .takings) table applied (o .0)
         results-room (sound .commit-le) le i))
         (blanks i)
 
@@ -166,16 +166,16 @@ module _ (c : Given) (table : List ClientEntry) (applied : List Entry) (v : View
     answers-long : length (repliesOut (commitReplies (s .view .0) (now .book) (o .0))) ≡ 36 * (o .0 - s .commit .0)
     unfolding modelOf
     answers-long =
-        settle-replies-length (s .view) (s .setup .members) (c .runs .log) (s .commit .0) x bytes wide (s .op .0)
+        settle-replies-length (s .view) (s .setup .members) (c .runs .log) (s .commit .0) x bytes wide (s .op .0) (s .takings)
         table applied (o .0) results-room (sound .commit-le) le
 
     commit-did : Did c (ofCounted c after) (now .book) next [] (commitReplies (s .view .0) (now .book) (o .0))
     unfolding modelOf committedBy messagesOut packed over
     commit-did =
         let q =
-        sym (settle-replies (s .view) (s .setup .members) (c .runs .log) (s .commit .0) x bytes wide (s .op .0)
+        sym (settle-replies (s .view) (s .setup .members) (c .runs .log) (s .commit .0) x bytes wide (s .op .0) (s .takings)
         table applied (o .0) results-room (sound .commit-le) le) in
-        told-did c (committedTo s o) (ofCounted c after .runs) false (now .book) next refl reads grew [] answers [] _ 0 _ refl refl q
+        told-did c (committedTo s o (record { log = c .runs .log; money = x })) (ofCounted c after .runs) false (now .book) next refl reads grew [] answers [] _ 0 _ refl refl q
         (sym (ap length q) ∙ answers-long)
 
     commit-shown : Agree (if ltb (length (c .reps)) (36 * (o .0 - s .commit .0)) then Refuse 10 else Commit)

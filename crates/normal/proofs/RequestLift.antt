@@ -228,7 +228,7 @@ module _ (c : Given) (table : List ClientEntry) (applied : List Entry) (e : Entr
     reads =
         λ i. setAcks
         (setBook now
-        (append-lift (s .setup .members) (s .op .0) (s .commit .0) (c .runs .log) (money (c .runs .results) (c .runs .totals)) table applied e
+        (append-lift (s .setup .members) (s .op .0) (s .commit .0) (c .runs .log) (money (c .runs .results) (c .runs .totals)) (s .takings) table applied e
         (asked .fits) place i))
         (set (c .runs .acks) (sym op-is i) (ownVote (s .setup)))
 

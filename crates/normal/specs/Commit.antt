@@ -15,7 +15,7 @@ use Rattle.book.specs.Memory.{Runs}
 unfoldable pub takenCommit : Replica → Op → Runs → List ℕ → Left
 takenCommit s c x out =
     if ltb (s .op .0) (c .0) then alone x (transferred s out) else
-    left (quiet (committedTo (heardBy s) c)) (settled (heardBy s) c x) out
+    left (quiet (committedTo (heardBy s) c x)) (settled (heardBy s) c x) out
 
 -- on_commit
 unfoldable pub commitStep : Replica → View → Op → Runs → List ℕ → Left

@@ -68,7 +68,7 @@ ackVerdict s op held from room =
 unfoldable pub committedBy : Replica → Op → (log : List ℕ) → Money → (acks reps : List ℕ) → Counted
 committedBy s op log x acks reps =
     counted
-    (completed (committedTo s op) 0 (36 * (op .0 - s .commit .0)) false)
+    (completed (committedTo s op (record { log = log; money = x })) 0 (36 * (op .0 - s .commit .0)) false)
     (moneyCommitted (s .setup .members) log (s .commit .0) (op .0 - s .commit .0) x)
     (over (replicate (ackPlace (op .0)) 0) acks)
     (over

@@ -2,22 +2,24 @@
 --     Long, long-is, is-long        of the buffers' lengths alone, and back
 --     creatable-is                  of a setup and the buffers
 --     Whole, sound-is, is-sound     of a state and its memory, and back
+--     whole-alone                   of the state alone
 -- Assumes nothing.
 use mathlib.Core.Path.{_≡_, refl, sym, _∙_}
 use mathlib.Core.Bool.{Bool, true, false, not, false≢true}
-use Prim.Native.Nat.{ℕ}
+use Prim.Native.Nat.{ℕ, _≤_}
 use borrow.Author.Tests.{ltb-false, le-ltb, eqb-true, eq-eqb, not-false}
 use Rattle.numbers.specs.Words.{if_then_else_}
 use Rattle.numbers.proofs.WordLaws.{if-true}
 use Rattle.config.specs.Setup.{setupOk}
 use Rattle.config.specs.declared.Setup.{Setup}
+use Rattle.fees.specs.Takings.{mostTakings}
 use Rattle.state.specs.Lengths.{logLength, resultsLength, acksLength, totalsLength, tableLength, storedLength}
 use Rattle.state.specs.declared.Replica.{Replica}
 use Rattle.state.proofs.SoundLaws.{both}
 use Rattle.book.specs.Memory.{Memory}
 use Rattle.steps.specs.Recorded.{Gathering}
 use Rattle.outside.specs.declared.Lengths.{Lengths}
-use Rattle.outside.specs.Sound.{lengthsWith, lengthsOk, creatable, sound}
+use Rattle.outside.specs.Sound.{lengthsWith, lengthsOk, creatable, numbersSound, sound, stateSound}
 
 -- a test that must pass, and one that must fail
 passes : (a b : Bool) → (if not a then false else b) ≡ true → (a ≡ true) × (b ≡ true)
@@ -89,17 +91,19 @@ creatable-is u l b e h =
 -- of a state and its memory
 pub record Whole (s : Replica) (m : Memory) (table old : ℕ) : Type 0 where
   pub gathering : Gathering s m
+  pub takings-le : s .takings ≤ mostTakings
   pub table-long : table ≡ tableLength (s .setup)
   pub old-long : old ≡ tableLength (s .setup)
 
 module _ (s : Replica) (m : Memory) (table old : ℕ) where
   pub sound-is : sound s (lengthsWith m table old) ≡ true → Whole s m table old
-  unfolding sound creatable
+  unfolding sound creatable numbersSound
   sound-is p =
-      let a = passes _ _ p in
+      let a = both _ _ p in
       let b = both _ _ (a .0) in
       let c = fails _ _ (a .1) in
       let d = fails _ _ (c .1) in
+      let e = fails _ _ (d .1) in
       let h = long-is (s .setup) (lengthsWith m table old) (b .1) in
       record {
         gathering =
@@ -113,16 +117,17 @@ module _ (s : Replica) (m : Memory) (table old : ℕ) where
                     results-long = h .results;
                     totals-long = h .totals;
                   };
-              reports = d .1;
+              reports = e .1;
               acks-long = h .acks;
               stored-long = h .stored;
             };
+        takings-le = ltb-false _ _ (e .0);
         table-long = h .table;
         old-long = h .old;
       }
 
   pub is-sound : Whole s m table old → sound s (lengthsWith m table old) ≡ true
-  unfolding sound creatable
+  unfolding sound creatable numbersSound
   is-sound h =
       let g = h .gathering in
       let long : Long (s .setup) (lengthsWith m table old) =
@@ -135,5 +140,15 @@ module _ (s : Replica) (m : Memory) (table old : ℕ) where
         table = h .table-long;
         old = h .old-long;
       } in
-      passed _ _ (if-true _ _ _ (g .sound .sized) ∙ is-long (s .setup) (lengthsWith m table old) long)
-      (failed _ _ (le-ltb _ _ (g .sound .commit-le)) (failed _ _ (le-ltb _ _ (g .sound .op-le)) (g .reports)))
+      if-true _ _ _ (if-true _ _ _ (g .sound .sized) ∙ is-long (s .setup) (lengthsWith m table old) long)
+      ∙ failed _ _ (le-ltb _ _ (g .sound .commit-le))
+      (failed _ _ (le-ltb _ _ (g .sound .op-le)) (failed _ _ (le-ltb _ _ (h .takings-le)) (g .reports)))
+
+  -- a state that passes with its memory passes alone
+  pub whole-alone : Whole s m table old → stateSound s ≡ true
+  unfolding stateSound numbersSound
+  whole-alone h =
+      let g = h .gathering in
+      if-true _ _ _ (g .sound .sized)
+      ∙ failed _ _ (le-ltb _ _ (g .sound .commit-le))
+      (failed _ _ (le-ltb _ _ (g .sound .op-le)) (failed _ _ (le-ltb _ _ (h .takings-le)) (g .reports)))

@@ -6,6 +6,7 @@ use lib.ListN.{length}
 use Rattle.numbers.specs.Words.{if_then_else_}
 use Rattle.config.specs.Setup.{setupOk}
 use Rattle.config.specs.declared.Setup.{Setup}
+use Rattle.fees.specs.Takings.{mostTakings}
 use Rattle.frames.specs.declared.Status.the-variants.{Normal}
 use Rattle.state.specs.Statuses.{noReports}
 use Rattle.state.specs.Lengths.{logLength, resultsLength, acksLength, totalsLength, tableLength, storedLength}
@@ -42,14 +43,22 @@ lengthsOk u l =
 unfoldable pub creatable : Setup → Lengths → Bool
 creatable u l = if setupOk u then lengthsOk u l else false
 
--- refusal 1 is given exactly where this is false: setup, lengths, commit ≤ op number ≤ L of our log and of each stored one, and what is gathered is of the
--- cluster's replicas
-unfoldable pub sound : Replica → Lengths → Bool
-sound s l =
-    if not (creatable (s .setup) l) then false else
+-- and on the numbers of a state: commit ≤ op number ≤ L of our log and of each stored one, takings of at most 4,096,000,000,000, and what is gathered is of
+-- the cluster's replicas
+unfoldable pub numbersSound : Replica → Bool
+numbersSound s =
     if ltb (s .op .0) (s .commit .0) then false else
     if ltb (s .setup .room) (s .op .0) then false else
+    if ltb mostTakings (s .takings) then false else
     gatheredOk (s .setup) (s .starts) (s .reports .rows)
+
+-- refusal 1 is given exactly where this is false: setup, lengths, numbers
+unfoldable pub sound : Replica → Lengths → Bool
+sound s l = if creatable (s .setup) l then numbersSound s else false
+
+-- of a call that is handed the state alone: setup, numbers
+unfoldable pub stateSound : Replica → Bool
+stateSound s = if setupOk (s .setup) then numbersSound s else false
 
 -- the all-zero state, which a refused creation hands back
 abbrev pub noReplica : Replica
@@ -62,6 +71,7 @@ noReplica =
       catching = false;
       op = record { 0 = 0 };
       commit = record { 0 = 0 };
+      takings = 0;
       clock = record { heard = false; waiting = 0; stable = 0; attempts = 0 };
       starts = 0;
       sent = false;

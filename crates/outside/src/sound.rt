@@ -2,7 +2,7 @@
 ghost use mathlib.Core.Path.{_≡_};
 ghost use mathlib.Core.Bool.{true};
 ghost use Rattle.config.specs.Setup.{setupOk};
-ghost use Rattle.outside.specs.Sound.{lengthsOk, creatable, sound};
+ghost use Rattle.outside.specs.Sound.{lengthsOk, creatable, numbersSound, sound, stateSound};
 use crate::Lengths;
 use config::Setup;
 use state::Replica;
@@ -44,6 +44,25 @@ pub fn is_creatable(u: Setup, l: Lengths) -> bool
     lengths_ok(u, l)
 }
 
+// The numbers of the state.
+fn numbers_sound(s: Replica) -> bool
+    requires { ⌜ setupOk (s .setup) ≡ true ⌝ }
+    ensures { λ r. ⌜ r ≡ numbersSound s ⌝ }
+{
+    if s.op.0 < s.commit.0 {
+        return false;
+    }
+    if s.setup.room < s.op.0 {
+        return false;
+    }
+    if fees::MOST < s.takings {
+        return false;
+    }
+    let setup = s.setup;
+    let rows = s.reports;
+    reports::rows::gathered_ok(s.starts, rows, setup)
+}
+
 // Given exactly where this is false.
 pub fn is_sound(s: Replica, l: Lengths) -> bool
     ensures { λ r. ⌜ r ≡ sound s l ⌝ }
@@ -52,12 +71,16 @@ pub fn is_sound(s: Replica, l: Lengths) -> bool
     if !is_creatable(setup, l) {
         return false;
     }
-    if s.op.0 < s.commit.0 {
+    numbers_sound(s)
+}
+
+// The same where nothing but the state is handed over.
+pub fn is_state_sound(s: Replica) -> bool
+    ensures { λ r. ⌜ r ≡ stateSound s ⌝ }
+{
+    let setup = s.setup;
+    if !config::setup_ok(setup) {
         return false;
     }
-    if s.setup.room < s.op.0 {
-        return false;
-    }
-    let rows = s.reports;
-    reports::rows::gathered_ok(s.starts, rows, setup)
+    numbers_sound(s)
 }

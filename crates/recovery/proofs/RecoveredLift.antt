@@ -68,12 +68,12 @@ module _ (c : Given) (table : List ClientEntry) (applied : List Entry) (sound : 
   abbrev new-book : Book
   new-book = install (was .book) es
 
-  new-book-is : bookOf (u .members) (o .0) (s .commit .0) (y .log) (y .money) (new-book .table) applied ≡ new-book
+  new-book-is : bookOf (u .members) (o .0) (s .commit .0) (y .log) (y .money) (s .takings) (new-book .table) applied ≡ new-book
   unfolding modelOf
   new-book-is =
       let fits = part-fits s v o g part (c .runs .log) (c .runs .results) (c .runs .totals) (c .runs .acks) (c .out) sound numbers l long in
-      ap (λ (n : ℕ). bookOf (u .members) n (s .commit .0) (y .log) (y .money) (new-book .table) applied) (sym (zero-add (o .0)))
-      ∙ install-lift (u .members) (s .op .0) (s .commit .0) (c .runs .log) (x .money) table applied 0 (o .0) part (omega arith) (fits .1 .0) long
+      ap (λ (n : ℕ). bookOf (u .members) n (s .commit .0) (y .log) (y .money) (s .takings) (new-book .table) applied) (sym (zero-add (o .0)))
+      ∙ install-lift (u .members) (s .op .0) (s .commit .0) (c .runs .log) (x .money) (s .takings) table applied 0 (o .0) part (omega arith) (fits .1 .0) long
 
   -- neither responses nor reports
   new-store : storeOf r (c .runs .stored) ≡ clearedStore u (forgotten u was)
@@ -106,7 +106,7 @@ module _ (c : Given) (table : List ClientEntry) (applied : List Entry) (sound : 
   abbrev pub leaves : Step
   leaves =
       record {
-        answer = completed (committedTo (withLog (normalIn (c .state) v) o (c .state .commit)) g) 0 0 true;
+        answer = completed (committedTo (withLog (normalIn (c .state) v) o (c .state .commit)) g (withLogOf o part (bookRuns (c .runs)))) 0 0 true;
         runs =
             withRuns (c .runs)
             (settled (withLog (normalIn (c .state) v) o (c .state .commit)) g (withLogOf o part (bookRuns (c .runs))));
@@ -121,6 +121,6 @@ module _ (c : Given) (table : List ClientEntry) (applied : List Entry) (sound : 
       let fits = joins-sound s v o g part (c .runs .log) (c .runs .results) (c .runs .totals) (c .runs .acks) (c .out)
       sound numbers l long r (y .log) refl refl in
       subst (λ (m : State). Did c leaves (was .book) m [] []) next-is
-      (told-did c (committedTo r g) (withRuns (c .runs) (settled r g y)) true (was .book) next refl
+      (told-did c (committedTo r g y) (withRuns (c .runs) (settled r g y)) true (was .book) next refl
       (committed-reads c r y (new-book .table) applied g true (was .book) refl (fits .0) totals (fits .1))
       new-grew [] [] [] [] 0 0 refl refl refl refl)

@@ -341,7 +341,7 @@ module _ (c : Given) (table : List ClientEntry) (applied : List Entry) where
         begin-did k =
             subst
             (λ (y : List ℕ).
-            Did c (ofCollected c (collected (completed (committedTo (backIn s best) (best .report .commit)) 0 0 true)
+            Did c (ofCollected c (collected (completed (committedTo (backIn s best) (best .report .commit) (record { log = withEntries 0 y (c .runs .log); money = bookRuns (c .runs) .money })) 0 0 true)
             (settled (backIn s best) (best .report .commit) (record { log = withEntries 0 y (c .runs .log); money = bookRuns (c .runs) .money }))
             stored)) (m .book) (recovered u m (best .report .view .0) carried) [] [])
             (sym (lent-is u stored r part best))

@@ -75,13 +75,13 @@ module _ (s : Replica) (b : Best) (g : Op) (r : ℕ) (fresh log results totals s
         )
 
   pub comes-back : (a : Returned) (t u : Replica) (log′ results′ totals′ : List ℕ) → t ≡ backIn s b
-      → log′ ≡ chosenOver b r (s .setup .room) stored fresh log → u ≡ committedTo t g
+      → log′ ≡ chosenOver b r (s .setup .room) stored fresh log → u ≡ committedTo t g (runs log′ results totals)
       → runs log′ results′ totals′ ≡ settled t g (runs log′ results totals) → a ≡ completed u 0 0 true
       → collected a (runs log′ results′ totals′) stored ≡ recoveredBy s b g r fresh (runs log results totals) stored
   unfolding recoveredBy
   comes-back a t u log′ results′ totals′ p q c e d =
       let x = e ∙ λ i. settled (p i) g (runs (q i) results totals) in
-      let y = d ∙ λ i. completed ((c ∙ λ k. committedTo (p k) g) i) 0 0 true in
+      let y = d ∙ λ i. completed ((c ∙ λ k. committedTo (p k) g (runs (q k) results totals)) i) 0 0 true in
       λ i. collected (y i) (x i) stored
 
 -- ---- a response is recorded

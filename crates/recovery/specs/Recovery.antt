@@ -115,7 +115,7 @@ withChosen s b r stored fresh x = record { log = chosenOver b r (s .setup .room)
 unfoldable pub recoveredBy : Replica → Best → (g : Op) (r : ℕ) (fresh : List ℕ) → Runs → (stored : List ℕ) → Collected
 recoveredBy s b g r fresh x stored =
     collected
-    (completed (committedTo (backIn s b) g) 0 0 true)
+    (completed (committedTo (backIn s b) g (withChosen s b r stored fresh x)) 0 0 true)
     (settled (backIn s b) g (withChosen s b r stored fresh x))
     stored
 

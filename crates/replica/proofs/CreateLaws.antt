@@ -115,7 +115,7 @@ module _ (u : Setup) (x : Lent) (out : List ℕ) (ok : setupOk u ≡ true) (long
       λ i. record {
         place = record { status = status; view = v .0; lastNormal = v .0; catchingUp = false };
         book =
-            record { log = []; commit = 0; results = []; table = rows i; totals = totals-are i; applied = [] };
+            record { log = []; commit = 0; results = []; table = rows i; totals = totals-are i; takings = 0; applied = [] };
         votes = record { acks = acks-are i; starts = 0; sent = false };
         store = store-is i;
         clock = t .clock;
@@ -146,6 +146,7 @@ module _ (u : Setup) (x : Lent) (out : List ℕ) (ok : setupOk u ≡ true) (long
               acks-long = written (acksLength u) _ (long .acks);
               stored-long = long .stored;
             };
+        takings-le = omega arith;
         table-long = written (tableLength u) _ (long .table);
         old-long = long .old;
       }

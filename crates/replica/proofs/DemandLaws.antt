@@ -28,14 +28,17 @@ use Rattle.layout.specs.Layout.{bookOf, modelOf}
 use Rattle.safety.specs.Demand.{Call, answer, run, Safe, Later}
 use Rattle.safety.proofs.Runs.{demand3}
 use Rattle.outside.specs.Calls.{checkedOf, changeBy}
+use Rattle.outside.specs.declared.takings.Taken.{Taken}
 use Rattle.replica.specs.Calls.{latestFor, tableAfter, Tabled, tabled, followedBy, withTable, following, checkedCall, messageCall, idleCall}
 use Rattle.replica.specs.Lent.{Lent, Called, called, lengthsOf}
 use Rattle.replica.specs.Meaning.{Reached, Kept, Means, meaningOf, appliedAfter, frameAnswer, tickAnswer}
-use Rattle.replica.specs.Promise.{MessagePromise, IdlePromise, CreatePromise, RecoverPromise}
+use Rattle.replica.specs.Promise.{MessagePromise, IdlePromise, CreatePromise, RecoverPromise, TakingsPromise}
 use Rattle.replica.specs.Demands.{Untouched, HandedBack, Link, Chain, GoesOn}
 use Rattle.replica.specs.Demands.Link.{message, tick as idled}
 use Rattle.replica.specs.Demands.Chain.{none, more}
 use Rattle.replica.specs.Backed.{callBy, callsIn}
+use Rattle.replica.proofs.KeptLaws.{reached-safe}
+use Rattle.replica.proofs.TakingsLaws.{full-addition}
 
 -- ---- one answer
 
@@ -50,6 +53,9 @@ one-creation u x d e p q = p .exact ∙ sym (q .exact)
 
 pub one-recovery : (u : Setup) (v : View) (k : ℕ) (x : Lent) (d e : Called) → RecoverPromise u v k x d → RecoverPromise u v k x e → d ≡ e
 one-recovery u v k x d e p q = p .exact ∙ sym (q .exact)
+
+pub one-takings : (s : Replica) (r t : Taken) → TakingsPromise s r → TakingsPromise s t → r ≡ t
+one-takings s r t p q = p .exact ∙ sym (q .exact)
 
 -- ---- demand 1
 
@@ -170,9 +176,6 @@ went s′ x′ s x applied k (more _ _ d y l h c) =
           ∙ ap (λ (m : State). run (s .setup) m (callsIn s′ x′ u y c)) (handed-means u (t .applied₁) (d .lent) y h ∙ t .is);
     }
 
-safe-reached : (u : Setup) (m : State) → Reached u m → Safe u m
-safe-reached u m r = subst (Safe u) (sym (r .is)) (demand3 u (r .first) (r .created) (r .calls) [] .safe)
-
 later-reached : (u : Setup) (m : State) (cs : List Call) → Reached u m → Later m (run u m cs)
 later-reached u m cs r =
     subst (λ (n : State). Later n (run u n cs)) (sym (r .is)) (demand3 u (r .first) (r .created) (r .calls) cs .later)
@@ -185,8 +188,9 @@ chain-goes s x applied s′ x′ k c =
       applied′ = w .applied′;
       kept = w .kept;
       setup = w .setup;
-      safe = subst (λ (u : Setup). Safe u (meaningOf s′ x′ (w .applied′))) (w .setup) (safe-reached _ _ (w .kept .reached));
+      safe = subst (λ (u : Setup). Safe u (meaningOf s′ x′ (w .applied′))) (w .setup) (reached-safe _ _ (w .kept .reached));
       later = subst (Later (meaningOf s x applied)) (sym (w .is)) (later-reached (s .setup) (meaningOf s x applied) (callsIn s′ x′ s x c) (k .reached));
+      takings = λ r p. full-addition s′ x′ (w .applied′) (w .kept) r p;
     }
 
 -- from a creation, or a recovery, that wasn't refused

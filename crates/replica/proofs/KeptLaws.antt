@@ -10,12 +10,15 @@ use mathlib.Core.List.{List, [], _∷_, _++_}
 use Prim.Native.Nat.{ℕ, _≤_}
 use native.Mathlib.Omega.{arith}
 use lib.ListN.{length}
+use borrow.Author.Tests.{leb-true}
 use Rattle.numbers.specs.Words.{if_then_else_}
 use Rattle.numbers.proofs.CellLaws.{cells-length}
+use Rattle.numbers.proofs.WordLaws.{and-left, and-right}
 use Rattle.entries.specs.Entries.{entryOf, entries}
 use Rattle.entries.specs.declared.Entry.{Entry}
 use Rattle.config.specs.declared.Setup.{Setup}
 use Rattle.fees.specs.Results.{outcomes}
+use Rattle.fees.specs.Takings.{mostTakings}
 use Rattle.frames.specs.declared.Message.{Message}
 use Rattle.frames.specs.declared.Message.the-variants.{Request, Prepare, PrepareOk, Commit, GetState, NewState, StartViewChange, DoViewChange, StartView, Recovery, RecoveryResponse}
 use Rattle.client_table.specs.Rows.{followed}
@@ -70,6 +73,14 @@ goes-on u m c r =
 abbrev pub Promised : Replica → Lent → State → Called → Answer → Type 0
 Promised s x m d a = Means (s .setup) s x d a × Kept (d .answer .state) (d .lent) (appliedAfter m a)
 
+-- a state that calls lead to is safe, and its takings are in their range
+pub reached-safe : (u : Setup) (m : State) → Reached u m → Safe u m
+reached-safe u m r = subst (Safe u) (sym (r .is)) (demand3 u (r .first) (r .created) (r .calls) [] .safe)
+
+takings-in : (u : Setup) (m : State) → Safe u m → m .book .takings ≤ mostTakings
+unfolding numbersOk
+takings-in u m s = leb-true _ _ (and-left _ _ (and-right _ _ (and-right _ _ (and-right _ _ (s .never-1)))))
+
 module _ (s : Replica) (x : Lent) (applied : List Entry) (o : Owned x) (k : Kept s x applied) where
   abbrev pub given : Given
   given = record { state = s; runs = runsOf x; out = x .core .out; reps = x .core .reps }
@@ -84,9 +95,7 @@ module _ (s : Replica) (x : Lent) (applied : List Entry) (o : Owned x) (k : Kept
   whole = sound-is s (x .core) (length (x .table)) (length (x .old)) (k .sound)
 
   safe : Safe (s .setup) m
-  safe =
-      subst (Safe (s .setup)) (sym (k .reached .is))
-      (demand3 (s .setup) (k .reached .first) (k .reached .created) (k .reached .calls) [] .safe)
+  safe = reached-safe (s .setup) m (k .reached)
 
   pub never-1 : numbersOk (s .setup) (meaningOf s x applied) ≡ true
   never-1 = safe .never-1
@@ -174,10 +183,16 @@ module _ (s : Replica) (x : Lent) (applied : List Entry) (o : Owned x) (k : Kept
     state-is =
         ap (λ (l : List ClientEntry). modelOf t (runsOf left) l (m′ .book .applied)) (ap (tableOf byteRow) rows-are ∙ means .table) ∙ did .state
 
-    left-whole : Whole t (left .core) (length (left .table)) (length (left .old))
-    left-whole =
+    -- the sum of a state that calls lead to is in its range
+    takings-most : Reached (s .setup) m′ → t .takings ≤ mostTakings
+    unfolding modelOf bookOf
+    takings-most r = omega (arith, takings-in (s .setup) m′ (reached-safe (s .setup) m′ r), ap (λ (q : State). q .book .takings) (did .state))
+
+    left-whole : Reached (s .setup) m′ → Whole t (left .core) (length (left .table)) (length (left .old))
+    left-whole r =
         record {
           gathering = stays .gathering;
+          takings-le = takings-most r;
           table-long =
               left-size (omega (arith, whole .table-long)) table-left ∙ whole .table-long ∙ ap tableLength (sym (stays .setup));
           old-long =
@@ -189,7 +204,7 @@ module _ (s : Replica) (x : Lent) (applied : List Entry) (o : Owned x) (k : Kept
     left-kept : Reached (s .setup) m′ → Kept t left (m′ .book .applied)
     left-kept r =
         record {
-          sound = is-sound t (left .core) (length (left .table)) (length (left .old)) left-whole;
+          sound = is-sound t (left .core) (length (left .table)) (length (left .old)) (left-whole r);
           log-ok = ruled .log;
           rows-count = ruled .seven;
           stored-ok = ruled .stored;

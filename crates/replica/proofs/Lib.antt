@@ -1,6 +1,7 @@
 pub mod RowLaws
 pub mod TableLaws
 pub mod KeptLaws
+pub mod TakingsLaws
 pub mod CreateLaws
 pub mod StartLaws
 pub mod PromiseLaws

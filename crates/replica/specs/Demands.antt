@@ -1,15 +1,18 @@
 -- Demands 1 and 3 of the outside calls, over any chain of them that are linked by their promises alone. Assumes nothing.
 use mathlib.Core.Path.{_≡_}
 use mathlib.Core.List.{List}
-use Prim.Native.Nat.{ℕ}
+use Prim.Native.Nat.{ℕ, _+_}
 use Rattle.numbers.specs.Numbers.{Bytes}
 use Rattle.entries.specs.declared.Entry.{Entry}
 use Rattle.state.specs.Answers.{refusal}
 use Rattle.state.specs.declared.Replica.{Replica}
-use Rattle.safety.specs.Demand.{Safe, Later}
+use Rattle.safety.specs.Money.{sum, allFees, allRefunds}
+use Rattle.safety.specs.Demand.{Safe, Later, zeros}
+use Rattle.outside.specs.Takings.{taken}
+use Rattle.outside.specs.declared.takings.Taken.{Taken}
 use Rattle.replica.specs.Lent.{Lent, Called, called}
 use Rattle.replica.specs.Meaning.{Owned, Kept, meaningOf}
-use Rattle.replica.specs.Promise.{MessagePromise, IdlePromise}
+use Rattle.replica.specs.Promise.{MessagePromise, IdlePromise, TakingsPromise}
 
 -- Demand 1: a call that is refused leaves the state and every lent byte as they were, with counts of 0.
 abbrev pub Untouched : Replica → Lent → Called → Type 0
@@ -35,10 +38,17 @@ pub data Chain (s′ : Replica) (x′ : Lent) : Replica → Lent → Type 0 wher
       (s : Replica) (x : Lent) (d : Called) (y : Lent) → Link s x d → HandedBack (d .lent) y → Chain s′ x′ (d .answer .state) y
       → Chain s′ x′ s x
 
--- Demand 3 after a chain, from what state s and memory x mean with the entries that were applied: what they mean is safe, and later.
+-- The takings that are answered: the full addition of the totals in memory, which is fees taken less refunds paid over the applied entries.
+pub record FullAddition (s : Replica) (x : Lent) (applied : List Entry) (r : Taken) : Type 0 where
+  pub answered : r ≡ taken 0 (sum (meaningOf s x applied .book .totals))
+  pub balanced : r .cents + allRefunds (zeros (s .setup)) applied ≡ allFees (zeros (s .setup)) applied
+
+-- Demand 3 after a chain, from what state s and memory x mean with the entries that were applied: what they mean is safe, and later; who then asks for the
+-- takings is answered the full addition.
 pub record GoesOn (s : Replica) (x : Lent) (applied : List Entry) (s′ : Replica) (x′ : Lent) : Type 0 where
   pub applied′ : List Entry
   pub kept : Kept s′ x′ applied′
   pub setup : s′ .setup ≡ s .setup
   pub safe : Safe (s .setup) (meaningOf s′ x′ applied′)
   pub later : Later (meaningOf s x applied) (meaningOf s′ x′ applied′)
+  pub takings : (r : Taken) → TakingsPromise s′ r → FullAddition s′ x′ applied′ r

@@ -11,7 +11,10 @@ use Rattle.entries.specs.declared.Entry.{Entry}
 use Rattle.config.specs.declared.Setup.{Setup}
 use Rattle.state.specs.declared.Replica.{Replica}
 use Rattle.model.specs.Steps.{create, recover}
+use Rattle.safety.specs.Money.{sum}
 use Rattle.outside.specs.Sound.{lengthsOk, noReplica}
+use Rattle.outside.specs.Takings.{taken, takingsCall}
+use Rattle.outside.specs.declared.takings.Taken.{Taken}
 use Rattle.replica.specs.Calls.{messageCall, idleCall, createCall, recoverCall}
 use Rattle.replica.specs.Lent.{Lent, Called, lengthsOf}
 use Rattle.replica.specs.Meaning.{meaningOf, Owned, Kept, Means, frameAnswer, tickAnswer, appliedAfter}
@@ -43,3 +46,8 @@ pub record RecoverPromise (u : Setup) (v : View) (nonce : ℕ) (x : Lent) (d : C
   pub exact : d ≡ recoverCall u v nonce x
   pub meaning : lengthsOk u (lengthsOf x) ≡ true → Means u noReplica x d (recover u (v .0) nonce (length (x .core .out)))
   pub keeps : d .answer .code ≡ 0 → Kept (d .answer .state) (d .lent) []
+
+-- takings: of memory that calls produced, the full addition of its totals
+pub record TakingsPromise (s : Replica) (r : Taken) : Type 0 where
+  pub exact : r ≡ takingsCall s
+  pub meaning : (x : Lent) (applied : List Entry) → Kept s x applied → r ≡ taken 0 (sum (meaningOf s x applied .book .totals))

@@ -16,7 +16,7 @@ ghost use Rattle.offsets.specs.Offsets.{Points};
 ghost use Rattle.outside.specs.Calls.{changeBy};
 ghost use Rattle.replica.specs.Calls.{KnownFor, Following, tabled, followedBy, checkedCall};
 ghost use Rattle.replica.specs.Lent.{called, Keeps, lentBefore, lentAfter};
-ghost use Rattle.replica.specs.Promise.{MessagePromise, IdlePromise};
+ghost use Rattle.replica.specs.Promise.{MessagePromise, IdlePromise, TakingsPromise};
 ghost use Rattle.numbers.specs.Lending.{was, last};
 use client_table::Latest;
 use client_table_bytes::Found;
@@ -25,6 +25,7 @@ use frames::Checked;
 use frames::Message;
 use outside::Lengths;
 use outside::call::WithOffset;
+use outside::takings::Taken;
 use state::Replica;
 use state::Returned;
 
@@ -239,4 +240,11 @@ pub fn on_idle(
     }
     let a = handlers::idle::on_idle(s, log, results, totals, acks, stored, out, reps);
     follow(s, a, log, results, table, old)
+}
+
+// takings: the sum over all members that the state keeps, in any state.
+pub fn takings(s: Replica) -> Taken
+    ensures { λ r. ⌜ TakingsPromise s r ⌝ }
+{
+    outside::takings::takings(s)
 }

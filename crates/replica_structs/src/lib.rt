@@ -1,10 +1,11 @@
-// The replica for callers in Rattle, with the client table as a slice of row structs: creation, recovery, a frame, a tick. None asks anything of its caller. Each is thin:
+// The replica for callers in Rattle, with the client table as a slice of row structs: creation, recovery, a frame, a tick, the takings. None asks anything of its caller. Each is thin:
 // refusals 1 to 6, the row that the core asks for, the core, and the table brought up to what it did.
 ghost use mathlib.Core.Path.{_≡_};
 ghost use mathlib.Core.List.{[]};
 ghost use Rattle.offsets.specs.Offsets.{Points};
 ghost use Rattle.frames.specs.Kinds.{wellFormed};
 ghost use Rattle.replica_structs.specs.Calls.{KeepsRows};
+ghost use Rattle.replica.specs.Promise.{TakingsPromise};
 ghost use Rattle.replica_structs.specs.Promise.{MessageRowsPromise, IdleRowsPromise, CreateRowsPromise, RecoverRowsPromise};
 ghost use Rattle.numbers.specs.Lending.{was};
 ghost use Rattle.book.specs.Memory.{unlent};
@@ -12,6 +13,7 @@ use client_table_structs::Row;
 use config::Setup;
 use numbers::View;
 use outside::call::WithOffset;
+use outside::takings::Taken;
 use state::Replica;
 use state::Returned;
 
@@ -157,4 +159,11 @@ pub fn on_idle(
     );
     client_table_structs::follow(table, old, log, results, core::change_after(s, a));
     a
+}
+
+// takings: of the state alone, so that the table's form plays no part.
+pub fn takings(s: Replica) -> Taken
+    ensures { λ r. ⌜ TakingsPromise s r ⌝ }
+{
+    outside::takings::takings(s)
 }

@@ -13,8 +13,8 @@ use Rattle.entries.specs.declared.Entry.{Entry}
 use Rattle.config.specs.declared.Setup.{Setup}
 use Rattle.fees.specs.declared.Outcome.{Outcome}
 use Rattle.model.specs.State.{ClientEntry, Book}
-use Rattle.model.specs.Book.{through, resultsOf, put, entryRow, append, appendAll, commitOne, commitAll, commitUpTo, dueEntries, install, agree, Rises}
-use Rattle.model.proofs.BookLaws.{through-append, answers-append, commitAll-log, commitAll-commit, commitAll-applied, commitAll-totals, commitAll-results}
+use Rattle.model.specs.Book.{through, resultsOf, takingsThrough, put, entryRow, append, appendAll, commitOne, commitAll, commitUpTo, dueEntries, install, agree, Rises}
+use Rattle.model.proofs.BookLaws.{through-append, answers-append, takings-append, commitAll-log, commitAll-commit, commitAll-applied, commitAll-totals, commitAll-takings, commitAll-results}
 use Rattle.model.proofs.BookLaws.{agree-take, agree-le, length-due, appendAll-log, appendAll-length, Rest, appendAll-rest}
 use Rattle.safety.specs.Demand.{bare, rowsLeftBy, zeros}
 use Rattle.model.proofs.TableLaws.{put-rises, keep-rises, rebuilt-rises}
@@ -29,6 +29,7 @@ pub record BookInv (u : Setup) (b : Book) : Type 0 where
   pub table-rises : Rises (b .table)
   pub table-is : bare (b .table) ≡ rowsLeftBy [] (b .log)
   pub totals-are : b .totals ≡ through (zeros u) (b .applied)
+  pub takings-are : b .takings ≡ takingsThrough 0 (zeros u) (b .applied)
   pub results-are : b .results ≡ resultsOf (zeros u) (b .applied)
 
 -- what a book that followed has besides
@@ -72,6 +73,7 @@ module _ (u : Setup) (b : Book) where
               table-rises = put-rises (b .table) _ (i .table-rises);
               table-is = append-table e (i .table-is);
               totals-are = i .totals-are;
+              takings-are = i .takings-are;
               results-are = i .results-are;
             };
         commit-up = le-refl _;
@@ -92,6 +94,12 @@ module _ (u : Setup) (b : Book) where
               table-rises = commitAll-table b (dueEntries b k) (i .table-rises) .0;
               table-is = rw commitAll-log (commitAll-table b (dueEntries b k) (i .table-rises) .1 ∙ i .table-is);
               totals-are = simp (commitAll-applied, commitAll-totals, through-append) (ap (λ (t : List ℕ). through t (dueEntries b k)) (i .totals-are));
+              takings-are =
+                  commitAll-takings b (dueEntries b k)
+                  ∙ ap (λ (n : ℕ). takingsThrough n (b .totals) (dueEntries b k)) (i .takings-are)
+                  ∙ ap (λ (t : List ℕ). takingsThrough (takingsThrough 0 (zeros u) (b .applied)) t (dueEntries b k)) (i .totals-are)
+                  ∙ sym (takings-append 0 (zeros u) (b .applied) (dueEntries b k))
+                  ∙ ap (takingsThrough 0 (zeros u)) (sym (commitAll-applied b (dueEntries b k)));
               results-are =
                   commitAll-results b (dueEntries b k)
                   ∙ ap (λ (l : List Outcome). l ++ resultsOf (b .totals) (dueEntries b k)) (i .results-are)
@@ -118,6 +126,7 @@ module _ (u : Setup) (b : Book) where
               table-rises = rebuilt-rises (b .table) (b .commit) [] log tt;
               table-is = rebuilt-bare (b .table) (b .commit) [] log;
               totals-are = i .totals-are;
+              takings-are = i .takings-are;
               results-are = i .results-are;
             };
         commit-up = le-refl _;
@@ -148,6 +157,7 @@ appendAll-ok u b es h r i =
             table-rises = appendAll-table u b es (i .table-rises) (i .table-is) .0;
             table-is = appendAll-table u b es (i .table-rises) (i .table-is) .1;
             totals-are = simp (x .totals, x .applied) (i .totals-are);
+            takings-are = simp (x .takings, x .applied) (i .takings-are);
             results-are = simp (x .results, x .applied) (i .results-are);
           };
       commit-up = omega (arith, x .commit);

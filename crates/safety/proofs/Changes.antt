@@ -61,7 +61,7 @@ module _ {A : Type 0} (P : A → Type 0) where
   all-get (x ∷ xs) zero d p q = p .0
   all-get (x ∷ xs) (suc i) d p q = all-get xs i d (p .1) q
 
-  all-same : (n : ℕ) (a : A) → P a → All P (replicate n a)
+  pub all-same : (n : ℕ) (a : A) → P a → All P (replicate n a)
   all-same zero a q = tt
   all-same (suc n) a q = (q, all-same n a q)
 
@@ -130,11 +130,11 @@ outcome-small ts e p =
     split (λ (o : Outcome). o .total ≤ 1000000000) _ _ _
     (λ _. fee-small _ (e .cents) (operationOf (e .operation)) (all-get Small ts (e .member) 0 p (omega arith))) (λ _. omega arith)
 
-after-small : (ts : List ℕ) (e : Entry) → All Small ts → All Small (totalsAfter ts e)
+pub after-small : (ts : List ℕ) (e : Entry) → All Small ts → All Small (totalsAfter ts e)
 unfolding totalsAfter
 after-small ts e p = split (All Small) _ _ _ (λ _. all-set Small ts (e .member) _ p (outcome-small ts e p)) (λ _. p)
 
-through-small : (ts : List ℕ) (es : List Entry) → All Small ts → All Small (through ts es)
+pub through-small : (ts : List ℕ) (es : List Entry) → All Small ts → All Small (through ts es)
 unfolding through
 through-small ts [] p = p
 through-small ts (e ∷ es) p = through-small (totalsAfter ts e) es (after-small ts e p)

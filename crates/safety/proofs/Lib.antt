@@ -5,6 +5,7 @@ pub mod Handlers
 pub mod Messages
 pub mod Runs
 pub mod Changes
+pub mod Takings
 pub mod Ranges
 pub mod Latest
 pub mod Earned

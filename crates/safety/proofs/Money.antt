@@ -91,7 +91,7 @@ sum-set [] i v h = omega arith
 sum-set (t ∷ ts) zero v h = omega arith
 sum-set (t ∷ ts) (suc i) v h = omega (arith, sum-set ts i v (omega arith))
 
-sum-one : (ts : List ℕ) (e : Entry) → sum (totalsAfter ts e) + refundPaid ts e ≡ sum ts + feeTaken ts e
+pub sum-one : (ts : List ℕ) (e : Entry) → sum (totalsAfter ts e) + refundPaid ts e ≡ sum ts + feeTaken ts e
 sum-one ts e = go _ refl
   where
     go : (b : Bool) → ltb (e .member) (length ts) ≡ b → sum (totalsAfter ts e) + refundPaid ts e ≡ sum ts + feeTaken ts e
@@ -110,7 +110,7 @@ none-yet zero k = refl
 none-yet (suc n) zero = refl
 none-yet (suc n) (suc k) = none-yet n k
 
-sum-zeros : (n : ℕ) → sum (replicate n 0) ≡ 0
+pub sum-zeros : (n : ℕ) → sum (replicate n 0) ≡ 0
 unfolding sum
 sum-zeros zero = refl
 sum-zeros (suc n) = omega (arith, sum-zeros n)

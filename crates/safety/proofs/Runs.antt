@@ -1,8 +1,8 @@
 -- Demand 3: any calls, refused ones included, from a creation that was not refused. Assumes nothing.
-use Prim.Native.Nat.{ℕ, zero, suc, _<_}
+use Prim.Native.Nat.{ℕ, zero, suc, _≤_, _<_}
 use native.Mathlib.Nat.{le-refl}
 use native.Mathlib.Omega.{arith}
-use mathlib.Core.Path.{_≡_, refl, ap, _∙_}
+use mathlib.Core.Path.{_≡_, refl, ap, sym, _∙_}
 use mathlib.Core.Bool.{true, not}
 use mathlib.Core.List.{List, [], _∷_}
 use mathlib.Core.Option.{Option, none, some}
@@ -15,17 +15,23 @@ use Rattle.entries.specs.Rising.{breaksAt, follows, rising}
 use Rattle.entries.specs.declared.Entry.{Entry}
 use Rattle.config.specs.Setup.{setupOk}
 use Rattle.config.specs.declared.Setup.{Setup}
+use Rattle.config.proofs.SetupLaws.{sized}
+use Rattle.fees.specs.Takings.{mostTakings}
 use Rattle.frames.specs.declared.Status.{Status}
 use Rattle.model.specs.State.{Held, Reported, Response, State, Sent, Reply, Answer, opOf}
 use Rattle.model.specs.State.Answer.{refused, done}
-use Rattle.model.specs.Book.{through, resultsOf, emptyBook}
+use Rattle.model.specs.Book.{through, resultsOf, takingsThrough, emptyBook}
 use Rattle.model.specs.ViewChange.{noReports}
 use Rattle.model.specs.Recovery.{noResponses}
 use Rattle.model.specs.Steps.{fitted, heldOk, heldOkIn, reportedOk, responsesOk, numbersOk, newAt, create, recover}
 use Rattle.safety.specs.Demand.{Call, run, Created, bare, rowsLeftBy, At, Every, StoredSound, SoundReport, SoundResponse, zeros, Safe, Later, Demand3}
 use Rattle.safety.specs.Demand.Created.{new, back}
+use Rattle.safety.specs.Money.{sum}
+use Rattle.safety.specs.Ranges.{All, Small}
 use Rattle.model.proofs.BookLaws.{through-length, answers-length}
-use Rattle.safety.proofs.Money.{member-total, all-totals}
+use Rattle.safety.proofs.Money.{member-total, all-totals, sum-zeros}
+use Rattle.safety.proofs.Changes.{all-same, through-small}
+use Rattle.safety.proofs.Takings.{sum-most, takings-sum}
 use Rattle.safety.proofs.Tables.{table-length, table-there}
 use Rattle.safety.proofs.Books.{BookInv, Grown}
 use Rattle.safety.proofs.Handlers.{Inv, Next, still, next-next, every-none, after-next}
@@ -75,18 +81,39 @@ module _ (u : Setup) where
   responses-ok (none ∷ xs) p = responses-ok xs (p .1)
   responses-ok (some d ∷ xs) p = and-true _ _ (held-in-ok (d .held) (p .0)) (responses-ok xs (p .1))
 
+  -- the sum that is kept is that of the totals, and inside its range
+  module _ (m : State) (s : setupOk u ≡ true) (i : Inv u m) where
+    few : length (zeros u) ≤ 4096
+    few = omega (arith, length-replicate {A = ℕ} (u .members) 0, sized u s .members-high)
+
+    none-large : All Small (zeros u)
+    none-large = all-same Small (u .members) 0 (omega arith)
+
+    kept-sum : m .book .takings ≡ sum (m .book .totals)
+    kept-sum =
+        i .book .takings-are ∙ ap (λ (t : ℕ). takingsThrough t (zeros u) (m .book .applied)) (sym (sum-zeros (u .members)))
+        ∙ takings-sum (zeros u) (m .book .applied) none-large few ∙ ap sum (sym (i .book .totals-are))
+
+    takings-most : m .book .takings ≤ mostTakings
+    takings-most =
+        let ts = through (zeros u) (m .book .applied) in
+        let e : m .book .takings ≡ sum ts = kept-sum ∙ ap sum (i .book .totals-are) in
+        let l : length ts ≤ 4096 = omega (arith, through-length (zeros u) (m .book .applied), few) in
+        omega (arith, e, sum-most ts (through-small (zeros u) (m .book .applied) none-large), l)
+
   state-ok : (m : State) → setupOk u ≡ true → Inv u m → numbersOk u m ≡ true
   unfolding numbersOk opOf
   state-ok m s i =
       and-true _ _ s
       (and-true _ _ (le-leb _ _ (i .book .commit-le))
       (and-true _ _ (le-leb _ _ (i .book .log-fits))
-      (and-true _ _ (reports-ok (m .store .reports) (i .store .reports)) (responses-ok (m .store .responses) (i .store .responses)))))
+      (and-true _ _ (le-leb _ _ (takings-most m s i))
+      (and-true _ _ (reports-ok (m .store .reports) (i .store .reports)) (responses-ok (m .store .responses) (i .store .responses))))))
 
   -- ---- creation
 
   new-inv : (t : Status) (v x : ℕ) → Inv u (newAt u t v x)
-  unfolding newAt emptyBook rising through resultsOf bare rowsLeftBy noReports noResponses
+  unfolding newAt emptyBook rising through takingsThrough resultsOf bare rowsLeftBy noReports noResponses
   new-inv t v x =
       record {
         book =
@@ -98,6 +125,7 @@ module _ (u : Setup) where
               table-rises = tt;
               table-is = refl;
               totals-are = refl;
+              takings-are = refl;
               results-are = refl;
             };
         store = record { reports = every-none (SoundReport u) (u .n); responses = every-none (SoundResponse u) (u .n) };
@@ -150,6 +178,7 @@ module _ (u : Setup) where
             ap (λ l. length l) (b .results-are) ∙ answers-length (zeros u) (m .book .applied) ∙ ap (λ l. length l) (b .applied-is) ∙ taken;
         member-totals = λ k. rw (b .totals-are) (member-total (u .members) (m .book .applied) k);
         sum-of-totals = rw (b .totals-are) (all-totals (u .members) (m .book .applied));
+        takings-are = kept-sum m s i;
         totals-count =
             ap (λ l. length l) (b .totals-are) ∙ through-length (zeros u) (m .book .applied) ∙ length-replicate (u .members) 0;
         table-rises = b .table-rises;

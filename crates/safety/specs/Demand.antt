@@ -91,6 +91,8 @@ pub record Safe (u : Setup) (m : State) : Type 0 where
   pub member-totals :
       (k : ℕ) → getD (m .book .totals) k 0 + refundsOf k (zeros u) (m .book .applied) ≡ feesOf k (zeros u) (m .book .applied)
   pub sum-of-totals : sum (m .book .totals) + allRefunds (zeros u) (m .book .applied) ≡ allFees (zeros u) (m .book .applied)
+  -- the takings that are kept are the full addition (document 02, order 4)
+  pub takings-are : m .book .takings ≡ sum (m .book .totals)
   pub totals-count : length (m .book .totals) ≡ u .members
   -- the table: client ids rise, a row for each client of the log, and but for the replies it is what the log's entries leave
   pub table-rises : Rises (m .book .table)

@@ -31,6 +31,7 @@ withClock s c =
       catching = s .catching;
       op = s .op;
       commit = s .commit;
+      takings = s .takings;
       clock = c;
       starts = s .starts;
       sent = s .sent;
@@ -53,6 +54,7 @@ withStatus s status =
       catching = s .catching;
       op = s .op;
       commit = s .commit;
+      takings = s .takings;
       clock = s .clock;
       starts = s .starts;
       sent = s .sent;
@@ -71,6 +73,26 @@ withLog s op commit =
       catching = s .catching;
       op = op;
       commit = commit;
+      takings = s .takings;
+      clock = s .clock;
+      starts = s .starts;
+      sent = s .sent;
+      nonce = s .nonce;
+      reports = s .reports;
+    }
+
+-- another commit number and other takings: what commits change
+abbrev pub withCommit : Replica → (commit : Op) (takings : ℕ) → Replica
+withCommit s commit takings =
+    record {
+      setup = s .setup;
+      status = s .status;
+      view = s .view;
+      normal = s .normal;
+      catching = s .catching;
+      op = s .op;
+      commit = commit;
+      takings = takings;
       clock = s .clock;
       starts = s .starts;
       sent = s .sent;
@@ -89,6 +111,7 @@ moved s status view last catching clock =
       catching = catching;
       op = s .op;
       commit = s .commit;
+      takings = s .takings;
       clock = clock;
       starts = 0;
       sent = false;
@@ -119,6 +142,7 @@ withVotes s starts sent =
       catching = s .catching;
       op = s .op;
       commit = s .commit;
+      takings = s .takings;
       clock = s .clock;
       starts = starts;
       sent = sent;
@@ -145,6 +169,7 @@ withReports s t =
       catching = s .catching;
       op = s .op;
       commit = s .commit;
+      takings = s .takings;
       clock = s .clock;
       starts = s .starts;
       sent = s .sent;
@@ -163,6 +188,7 @@ newIn u status v x =
       catching = false;
       op = record { 0 = 0 };
       commit = record { 0 = 0 };
+      takings = 0;
       clock = freshClock;
       starts = 0;
       sent = false;

@@ -1,7 +1,7 @@
 // The replica's state by value, and one small function for each change of it.
 ghost use mathlib.Core.Path.{_≡_};
 ghost use Prim.Native.Nat.{_<_};
-ghost use Rattle.state.specs.State.{leads, heardBy, withClock, withStatus, withLog, moved, normalIn, catchingUpIn, changingTo, withStart, withSent, withReports, newIn};
+ghost use Rattle.state.specs.State.{leads, heardBy, withClock, withStatus, withLog, withCommit, moved, normalIn, catchingUpIn, changingTo, withStart, withSent, withReports, newIn};
 ghost use Rattle.state.specs.Statuses.{isNormal, isTransfer, isChanging, noReports};
 ghost use Rattle.state.specs.Answers.{refusal, completed};
 use clock::Clock;
@@ -25,8 +25,8 @@ pub struct Reports {
     pub rows: [Report; 7],
 }
 
-// The Rust's `struct Replica`, less what lies in lent runs. `normal`: the last view in which it was Normal; `catching`: catching up; `starts`: who asked for this view, one bit for each replica; `sent`: our
-// DoViewChange went out.
+// The Rust's `struct Replica`, less what lies in lent runs. `normal`: the last view in which it was Normal; `catching`: catching up; `takings`: all members' totals added up, kept beside them; `starts`: who
+// asked for this view, one bit for each replica; `sent`: our DoViewChange went out.
 pub struct Replica {
     pub setup: Setup,
     pub status: Status,
@@ -35,6 +35,7 @@ pub struct Replica {
     pub catching: bool,
     pub op: Op,
     pub commit: Op,
+    pub takings: u64,
     pub clock: Clock,
     pub starts: u8,
     pub sent: bool,
@@ -142,6 +143,7 @@ pub fn with_status(s: Replica, status: Status) -> Replica
         catching: s.catching,
         op,
         commit,
+        takings: s.takings,
         clock,
         starts: s.starts,
         sent: s.sent,
@@ -157,6 +159,16 @@ pub fn with_log(s: Replica, op: Op, commit: Op) -> Replica
     let mut t = s;
     t.op = op;
     t.commit = commit;
+    t
+}
+
+// Commit number and takings: what commits change.
+pub fn with_commit(s: Replica, commit: Op, takings: u64) -> Replica
+    ensures { λ r. ⌜ r ≡ withCommit s commit takings ⌝ }
+{
+    let mut t = s;
+    t.commit = commit;
+    t.takings = takings;
     t
 }
 
@@ -183,6 +195,7 @@ fn moved(
         catching,
         op,
         commit,
+        takings: s.takings,
         clock,
         starts: 0,
         sent: false,
@@ -267,6 +280,7 @@ pub fn new(setup: Setup, status: Status, view: View, nonce: u64) -> Replica
         catching: false,
         op,
         commit: op,
+        takings: 0,
         clock,
         starts: 0,
         sent: false,

@@ -1,17 +1,18 @@
 -- Laws of the state's bytes.
 --     flag-byte, report-codec                         a flag as a byte, a report as a cell of 14
 --     put-report, kept-length, fits-more, all-put     the reports, written one behind the other
+--     front, front-takings, front-length              the bytes before the takings
 --     bytes-held, state-held                          a state that was written passes and is read back
 -- Assumes nothing.
 use mathlib.Core.Path.{_≡_, refl, sym, ap, _∙_, subst}
 use mathlib.Core.Logic.{⊎-elim}
 use mathlib.Core.Bool.{Bool, true, false, not}
-use mathlib.Core.List.{List, [], _∷_, _++_, append-nil}
-use Prim.Native.Nat.{ℕ, zero, suc, _+_, _-_, _*_, _≤_, _<_}
+use mathlib.Core.List.{List, [], _∷_, _++_, append-nil, append-assoc}
+use Prim.Native.Nat.{ℕ, zero, suc, _+_, _-_, _*_, _^_, _≤_, _<_}
 use native.Mathlib.Numerals.{add-one}
 use native.Mathlib.Omega.{arith}
 use lib.Dec.{leb}
-use lib.ListN.{length, getD, take, drop, drop-of-length-le}
+use lib.ListN.{length, getD, take, drop, drop-of-length-le, length-append}
 use lib.Seq.{drop-at, take-suc, take-all, length-take-le}
 use borrow.Author.Tests.{eq-eqb}
 use mir.Val.{boolByte}
@@ -19,7 +20,7 @@ use Rattle.numbers.specs.Words.{if_then_else_}
 use Rattle.numbers.specs.Numbers.{big, num, over}
 use Rattle.numbers.specs.Cells.{cells, packed, Codec}
 use Rattle.numbers.proofs.WordLaws.{if-false, and-true}
-use Rattle.numbers.proofs.NumberLaws.{be-big, num-front, eq-or-not}
+use Rattle.numbers.proofs.NumberLaws.{be-big, length-big, num-front, num-drop, eq-or-not}
 use Rattle.numbers.proofs.RunLaws.{over-lend, length-over}
 use Rattle.numbers.proofs.CellLaws.{cells-one, packed-append, packed-length}
 use Rattle.frames.specs.declared.Status.{Status}
@@ -31,7 +32,7 @@ use Rattle.state.specs.declared.Reports.{Reports}
 use Rattle.frames.specs.Looks.{statusNumber}
 use Rattle.state_bytes.specs.Layout.{flagOk, flagOf, flagNumber, statusOf, setupOf, encodeSetup, clockOf, encodeClock}
 use Rattle.state_bytes.specs.Layout.{reportIn, encodeReport, ReportFits, reportsOf, encodeReports, allReportsOk}
-use Rattle.state_bytes.specs.Layout.{stateOf, encodePlace, encodeVotes, encodeState, StateFits, stateOk, HoldsState}
+use Rattle.state_bytes.specs.Layout.{stateOf, encodePlace, encodeVotes, encodeState, StateFits, frontOk, stateOk, HoldsState}
 
 -- ---- a report as a cell
 
@@ -111,15 +112,16 @@ module _ (t : Reports) (a : List ℕ) (seven : length (t .rows) ≡ 7) where
 
 -- ---- what was written passes and is read back
 
-rows-back : (k : ℕ) (l : List Report) → length l ≡ k → ((i : ℕ) → i < k → ReportFits (getD l i noReport))
-    → cells 14 reportIn k (packed encodeReport l) ≡ l
+rows-back : (k : ℕ) (l : List Report) (w : List ℕ) → length l ≡ k → ((i : ℕ) → i < k → ReportFits (getD l i noReport))
+    → cells 14 reportIn k (packed encodeReport l ++ w) ≡ l
 unfolding packed cells
-rows-back zero [] e f = refl
-rows-back zero (d ∷ l) e f = absurd (omega arith)
-rows-back (suc k) [] e f = absurd (omega arith)
-rows-back (suc k) (d ∷ l) e f =
-    cells-one 14 reportIn encodeReport ReportFits report-codec k d (packed encodeReport l) (f 0 (omega arith))
-    ∙ ap (λ (x : List Report). d ∷ x) (rows-back k l (omega arith) (λ i h. f (suc i) (omega arith)))
+rows-back zero [] w e f = refl
+rows-back zero (d ∷ l) w e f = absurd (omega arith)
+rows-back (suc k) [] w e f = absurd (omega arith)
+rows-back (suc k) (d ∷ l) w e f =
+    ap (cells 14 reportIn (suc k)) (append-assoc (encodeReport d) (packed encodeReport l) w)
+    ∙ cells-one 14 reportIn encodeReport ReportFits report-codec k d (packed encodeReport l ++ w) (f 0 (omega arith))
+    ∙ ap (λ (x : List Report). d ∷ x) (rows-back k l w (omega arith) (λ i h. f (suc i) (omega arith)))
 
 flag-passes : (b : Bool) → flagOk (num 1 0 (big 1 (flagNumber b))) ≡ true
 unfolding flagOk flagNumber num big
@@ -148,34 +150,57 @@ full-passes : (d : Report) (t : List ℕ) → flagOk (num 1 1 (encodeReport d ++
 unfolding encodeReport num big
 full-passes d t = flag-passes (d .full)
 
-rows-pass : (k : ℕ) (l : List Report) → length l ≡ k → allReportsOk k (packed encodeReport l) ≡ true
+rows-pass : (k : ℕ) (l : List Report) (w : List ℕ) → length l ≡ k → allReportsOk k (packed encodeReport l ++ w) ≡ true
 unfolding packed allReportsOk
-rows-pass zero l e = refl
-rows-pass (suc k) [] e = absurd (omega arith)
-rows-pass (suc k) (d ∷ l) e =
-    let t = packed encodeReport l in
+rows-pass zero l w e = refl
+rows-pass (suc k) [] w e = absurd (omega arith)
+rows-pass (suc k) (d ∷ l) w e =
+    let t = packed encodeReport l ++ w in
+    let same : (encodeReport d ++ packed encodeReport l) ++ w ≡ encodeReport d ++ t = append-assoc (encodeReport d) (packed encodeReport l) w in
     let more : allReportsOk k (drop 14 (encodeReport d ++ t)) ≡ true =
-    rw (drop-at (encodeReport d) t 14 (length-report d)) (rows-pass k l (omega arith)) in
-    and-true _ _ (there-passes d t) (and-true _ _ (full-passes d t) more)
+    rw (drop-at (encodeReport d) t 14 (length-report d)) (rows-pass k l w (omega arith)) in
+    rw same (and-true _ _ (there-passes d t) (and-true _ _ (full-passes d t) more))
+
+-- the bytes before the takings, which stand last
+abbrev pub front : Replica → List ℕ
+front s = encodeSetup (s .setup) ++ encodePlace s ++ encodeClock (s .clock) ++ encodeVotes s ++ encodeReports (s .reports)
+
+pub front-takings : (s : Replica) → front s ++ big 8 (s .takings) ≡ encodeState s
+unfolding encodeState encodeSetup encodePlace encodeClock encodeVotes big
+front-takings s = refl
+
+number-back : (x : ℕ) → x < 2 ^ 64 → num 8 0 (big 8 x) ≡ x
+unfolding num big
+number-back x h = be-big 8 x h
 
 module _ (s : Replica) (f : StateFits s) where
-  reports-length : length (encodeReports (s .reports)) ≡ 98
+  pub reports-length : length (encodeReports (s .reports)) ≡ 98
   unfolding encodeReports
   reports-length =
       packed-length 14 reportIn encodeReport ReportFits report-codec (s .reports .rows) ∙ ap (λ (k : ℕ). 14 * k) (f .reports .seven)
 
-  state-length : length (encodeState s) ≡ 146
-  unfolding encodeState encodeSetup encodePlace encodeClock encodeVotes big
-  state-length = omega (arith, reports-length)
+  pub front-length : length (front s) ≡ 146
+  unfolding encodeSetup encodePlace encodeClock encodeVotes big
+  front-length = omega (arith, reports-length)
+
+  pub state-length : length (encodeState s) ≡ 154
+  state-length =
+      ap length (sym (front-takings s)) ∙ length-append (front s) (big 8 (s .takings))
+      ∙ ap (λ (k : ℕ). k + length (big 8 (s .takings))) front-length ∙ ap (λ (k : ℕ). 146 + k) (length-big 8 (s .takings))
 
   state-passes : stateOk (encodeState s) ≡ true
-  unfolding stateOk encodeState encodeSetup encodePlace encodeClock encodeVotes encodeReports big num
+  unfolding stateOk frontOk encodeState encodeSetup encodePlace encodeClock encodeVotes encodeReports big num
   state-passes =
-      if-false _ _ _ (ap not (eq-eqb _ _ state-length))
+      and-true _ _
+      (if-false _ _ _ (ap not (eq-eqb _ _ state-length))
       ∙ and-true _ _ (status-passes (s .status))
-      (and-true _ _ (flag-passes (s .catching))
-      (and-true _ _ (flag-passes (s .clock .heard))
-      (and-true _ _ (flag-passes (s .sent)) (rows-pass 7 (s .reports .rows) (f .reports .seven)))))
+      (and-true _ _ (flag-passes (s .catching)) (and-true _ _ (flag-passes (s .clock .heard)) (flag-passes (s .sent)))))
+      (rows-pass 7 (s .reports .rows) (big 8 (s .takings)) (f .reports .seven))
+
+  takings-back : num 8 146 (encodeState s) ≡ s .takings
+  takings-back =
+      ap (num 8 146) (sym (front-takings s)) ∙ sym (num-drop 8 146 0 (front s ++ big 8 (s .takings)))
+      ∙ ap (num 8 0) (drop-at (front s) (big 8 (s .takings)) 146 front-length) ∙ number-back (s .takings) (f .takings)
 
   state-back : stateOf (encodeState s) ≡ s
   unfolding stateOf setupOf clockOf reportsOf encodeState encodeSetup encodePlace encodeClock encodeVotes encodeReports big num
@@ -194,6 +219,7 @@ module _ (s : Replica) (f : StateFits s) where
         catching = flag-back (s .catching) i;
         op = record { 0 = be-big 4 (s .op .0) (f .op) i };
         commit = record { 0 = be-big 4 (s .commit .0) (f .commit) i };
+        takings = takings-back i;
         clock = record {
           heard = flag-back (s .clock .heard) i;
           waiting = be-big 4 (s .clock .waiting) (f .waiting) i;
@@ -203,13 +229,13 @@ module _ (s : Replica) (f : StateFits s) where
         starts = be-big 1 (s .starts) (f .starts) i;
         sent = flag-back (s .sent) i;
         nonce = be-big 8 (s .nonce) (f .nonce) i;
-        reports = record { rows = rows-back 7 (s .reports .rows) (f .reports .seven) (f .reports .each) i };
+        reports = record { rows = rows-back 7 (s .reports .rows) (big 8 (s .takings)) (f .reports .seven) (f .reports .each) i };
       }
 
   pub bytes-held : {run : List ℕ} → run ≡ encodeState s → HoldsState s run
   bytes-held e = record { bytes = e; ok = rw e state-passes; back = rw e state-back }
 
-  pub state-held : {run : List ℕ} (before : List ℕ) → length before ≡ 146 → run ≡ over (encodeState s) before → HoldsState s run
+  pub state-held : {run : List ℕ} (before : List ℕ) → length before ≡ 154 → run ≡ over (encodeState s) before → HoldsState s run
   unfolding over
   state-held before l p =
       bytes-held (p ∙ rw (drop-of-length-le before {i = length (encodeState s)} (omega (arith, state-length)), append-nil (encodeState s)))

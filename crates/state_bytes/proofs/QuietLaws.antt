@@ -6,15 +6,15 @@
 -- Assumes nothing.
 use mathlib.Core.Path.{_≡_, refl, sym, ap, _∙_}
 use mathlib.Core.Logic.{⊎-elim}
-use mathlib.Core.Bool.{Bool, true, false}
+use mathlib.Core.Bool.{Bool, true, false, not}
 use mathlib.Core.List.{List, [], _∷_, _++_}
 use Prim.Native.Nat.{ℕ, zero, suc, _+_, _*_, _≤_}
 use native.Mathlib.Omega.{arith}
 use lib.Dec.{eqb, leb}
 use lib.ListN.{length, take, drop, replicate, length-drop}
 use lib.Seq.{drop-drop, take-add, length-take-le}
-use borrow.Author.Tests.{eqb-true, eq-eqb, ne-eqb}
-use Rattle.numbers.specs.Words.{if_then_else_}
+use borrow.Author.Tests.{eqb-true, eq-eqb, ne-eqb, not-true, not-false}
+use Rattle.numbers.specs.Words.{if_then_else_, _and_}
 use Rattle.numbers.specs.Numbers.{beFrom, num}
 use Rattle.numbers.specs.Cells.{cells}
 use Rattle.numbers.proofs.WordLaws.{if-true, if-false, and-true}
@@ -22,7 +22,7 @@ use Rattle.numbers.proofs.NumberLaws.{eq-or-not}
 use Rattle.numbers.proofs.CellLaws.{cells-front}
 use Rattle.state.specs.Statuses.{noReports}
 use Rattle.state.proofs.SoundLaws.{both}
-use Rattle.state_bytes.specs.Layout.{flagOk, flagOf, reportIn, encodeReport, ReportFits, reportsOf, allReportsOk, allZero, isQuiet}
+use Rattle.state_bytes.specs.Layout.{flagOk, flagOf, reportIn, encodeReport, ReportFits, reportsOf, allReportsOk, allZero, isQuiet, frontOk, stateOk, lookOf}
 use Rattle.state_bytes.proofs.LayoutLaws.{report-codec}
 
 from-least : (acc : ℕ) (bs : List ℕ) → acc ≤ beFrom acc bs
@@ -101,7 +101,7 @@ none-in : cells 14 reportIn 7 (replicate 98 0 ++ []) ≡ noReports .rows
 unfolding cells reportIn num flagOf
 none-in = refl
 
-pub quiet-reports : (s : List ℕ) → 146 ≤ length s → isQuiet s ≡ true → reportsOf (drop 48 s) ≡ noReports
+pub quiet-reports : (s : List ℕ) → 154 ≤ length s → isQuiet s ≡ true → reportsOf (drop 48 s) ≡ noReports
 unfolding isQuiet reportsOf
 quiet-reports s l h =
     let n : length (take 98 (drop 48 s)) ≡ 98 = length-take-le 98 (drop 48 s) (rw length-drop (omega (arith, l))) in
@@ -110,3 +110,19 @@ quiet-reports s l h =
     sym (cells-front 14 reportIn encodeReport ReportFits report-codec 7 (drop 48 s) [] (rw length-drop (omega (arith, l))))
     ∙ ap (λ (r : List ℕ). cells 14 reportIn 7 (r ++ [])) z ∙ none-in in
     λ i. record { rows = e i }
+
+-- ---- a look over a run
+
+module _ (s : List ℕ) {f : Bool} (p : f ≡ frontOk s) where
+  pub look-none : not f ≡ true → (record { ok = false; quiet = false }) ≡ lookOf s
+  unfolding stateOk _and_
+  look-none h = rw (← p, not-true f h)
+
+  module _ (h : not f ≡ false) {q : Bool} (r : q ≡ isQuiet s) where
+    pub look-quiet : q ≡ true → (record { ok = true; quiet = true }) ≡ lookOf s
+    unfolding stateOk _and_
+    look-quiet e = rw (← p, not-false f h, ← r, e, quiet-passes s (sym r ∙ e))
+
+    pub look-reports : q ≡ false → {o : Bool} → o ≡ allReportsOk 7 (drop 48 s) → (record { ok = o; quiet = false }) ≡ lookOf s
+    unfolding stateOk _and_
+    look-reports e t = rw (← p, not-false f h, ← r, e, t)

@@ -1,7 +1,8 @@
 -- What reading a state run by places gives.
 --     setupOf-at, clockOf-at, reportOf-at, reportsOf-at, stateWith-is                 the parts, and the state
 --     reports-next, reports-stop, reports-stop₂                                       one turn of the look over the reports
---     not-long, no-status, no-catching, no-heard, no-sent, by-reports, state-long     the tests in order; a run that passes is 146 bytes long
+--     not-long, no-status, no-catching, no-heard, by-sent                             the tests in order, those of the reports left aside
+--     front-long, state-long                                                          a run that passes is 154 bytes long
 -- Assumes nothing.
 use mathlib.Core.Path.{_≡_, sym, ap, _∙_}
 use mathlib.Core.Logic.{⊎-elim}
@@ -15,6 +16,7 @@ use borrow.Author.Tests.{not-true, not-false, le-leb, lt-leb, ne-eqb}
 use Rattle.numbers.specs.Words.{if_then_else_, _and_}
 use Rattle.numbers.specs.Numbers.{num, viewAt, opAt}
 use Rattle.numbers.specs.Cells.{cells}
+use Rattle.numbers.proofs.WordLaws.{and-both}
 use Rattle.numbers.specs.declared.View.{View}
 use Rattle.numbers.specs.declared.Op.{Op}
 use Rattle.numbers.proofs.NumberLaws.{num-drop, eq-or-not}
@@ -26,7 +28,7 @@ use Rattle.state.specs.declared.Report.{Report}
 use Rattle.state.specs.declared.Reports.{Reports}
 use Rattle.state_bytes.specs.Layout.{flagOk, flagOf, statusOf, setupOf, clockOf}
 use Rattle.state_bytes.specs.Layout.{reportIn, reportsOf, allReportsOk}
-use Rattle.state_bytes.specs.Layout.{stateWith, stateOk}
+use Rattle.state_bytes.specs.Layout.{stateWith, frontOk, stateOk}
 
 -- ---- reading by places
 
@@ -105,10 +107,10 @@ module _ (s : List ℕ) (at : ℕ) where
         p6,
       )
 
-pub stateWith-is : (s : List ℕ) (reports : Reports) {k : ℕ} {setup : Setup} {status : Status} {view normal : View} {catching : Bool} {op commit : Op} {clock : Clock}
-    {starts : ℕ} {sent : Bool} {nonce : ℕ}
+pub stateWith-is : (s : List ℕ) (reports : Reports) {k : ℕ} {setup : Setup} {status : Status} {view normal : View} {catching : Bool} {op commit : Op} {takings : ℕ}
+    {clock : Clock} {starts : ℕ} {sent : Bool} {nonce : ℕ}
     → setup ≡ setupOf s → k ≡ num 1 12 s → status ≡ statusOf k → view ≡ viewAt 13 s → normal ≡ viewAt 17 s → catching ≡ flagOf (num 1 21 s)
-    → op ≡ opAt 22 s → commit ≡ opAt 26 s → clock ≡ clockOf (drop 30 s) → starts ≡ num 1 38 s → sent ≡ flagOf (num 1 39 s)
+    → op ≡ opAt 22 s → commit ≡ opAt 26 s → takings ≡ num 8 146 s → clock ≡ clockOf (drop 30 s) → starts ≡ num 1 38 s → sent ≡ flagOf (num 1 39 s)
     → nonce ≡ num 8 40 s
     → _≡_ {A = Replica} (record {
       setup = setup;
@@ -118,13 +120,14 @@ pub stateWith-is : (s : List ℕ) (reports : Reports) {k : ℕ} {setup : Setup} 
       catching = catching;
       op = op;
       commit = commit;
+      takings = takings;
       clock = clock;
       starts = starts;
       sent = sent;
       nonce = nonce;
       reports = reports;
     }) (stateWith s reports)
-stateWith-is s reports p k q r t u v w x y z a =
+stateWith-is s reports p k q r t u v w j x y z a =
     λ i. record {
       setup = p i;
       status = (q ∙ ap statusOf k) i;
@@ -133,6 +136,7 @@ stateWith-is s reports p k q r t u v w x y z a =
       catching = u i;
       op = v i;
       commit = w i;
+      takings = j i;
       clock = x i;
       starts = y i;
       sent = z i;
@@ -159,33 +163,32 @@ module _ (s : List ℕ) (p m : ℕ) where
 -- ---- the tests in order
 
 module _ (s : List ℕ) where
-  pub not-long : (length s ≡ 146 → ⊥) → false ≡ stateOk s
-  unfolding stateOk if_then_else_
-  not-long h = rw (ne-eqb (length s) 146 h)
+  pub not-long : (length s ≡ 154 → ⊥) → false ≡ frontOk s
+  unfolding frontOk if_then_else_
+  not-long h = rw (ne-eqb (length s) 154 h)
 
-  module _ (l : length s ≡ 146) {k : ℕ} (p : k ≡ num 1 12 s) where
-    pub no-status : 3 < k → false ≡ stateOk s
-    unfolding stateOk if_then_else_ _and_
+  module _ (l : length s ≡ 154) {k : ℕ} (p : k ≡ num 1 12 s) where
+    pub no-status : 3 < k → false ≡ frontOk s
+    unfolding frontOk if_then_else_ _and_
     no-status h = rw (l, ← p, lt-leb k 3 h)
 
     module _ (h : k ≤ 3) {a : Bool} (q : a ≡ flagOk (num 1 21 s)) where
-      pub no-catching : not a ≡ true → false ≡ stateOk s
-      unfolding stateOk if_then_else_ _and_
+      pub no-catching : not a ≡ true → false ≡ frontOk s
+      unfolding frontOk if_then_else_ _and_
       no-catching e = rw (l, ← p, le-leb k 3 h, ← q, not-true a e)
 
       module _ (e : not a ≡ false) {b : Bool} (r : b ≡ flagOk (num 1 30 s)) where
-        pub no-heard : not b ≡ true → false ≡ stateOk s
-        unfolding stateOk if_then_else_ _and_
+        pub no-heard : not b ≡ true → false ≡ frontOk s
+        unfolding frontOk if_then_else_ _and_
         no-heard f = rw (l, ← p, le-leb k 3 h, ← q, not-false a e, ← r, not-true b f)
 
-        module _ (f : not b ≡ false) {d : Bool} (t : d ≡ flagOk (num 1 39 s)) where
-          pub no-sent : not d ≡ true → false ≡ stateOk s
-          unfolding stateOk if_then_else_ _and_
-          no-sent g = rw (l, ← p, le-leb k 3 h, ← q, not-false a e, ← r, not-false b f, ← t, not-true d g)
+        pub by-sent : not b ≡ false → {d : Bool} → d ≡ flagOk (num 1 39 s) → d ≡ frontOk s
+        unfolding frontOk if_then_else_ _and_
+        by-sent f t = rw (l, ← p, le-leb k 3 h, ← q, not-false a e, ← r, not-false b f, t)
 
-          pub by-reports : not d ≡ false → {o : Bool} → o ≡ allReportsOk 7 (drop 48 s) → o ≡ stateOk s
-          unfolding stateOk if_then_else_ _and_
-          by-reports g u = rw (l, ← p, le-leb k 3 h, ← q, not-false a e, ← r, not-false b f, ← t, not-false d g, u)
+pub front-long : (s : List ℕ) → frontOk s ≡ true → length s ≡ 154
+front-long s h = ⊎-elim (λ l. l) (λ n. absurd (false≢true (not-long s n ∙ h))) (eq-or-not (length s) 154)
 
-pub state-long : (s : List ℕ) → stateOk s ≡ true → length s ≡ 146
-state-long s h = ⊎-elim (λ l. l) (λ n. absurd (false≢true (not-long s n ∙ h))) (eq-or-not (length s) 146)
+pub state-long : (s : List ℕ) → stateOk s ≡ true → length s ≡ 154
+unfolding stateOk
+state-long s h = front-long s (and-both _ _ h .0)

@@ -11,14 +11,14 @@ use lib.ListN.{length, take, drop, length-drop}
 use lib.Seq.{drop-drop, take-add, take-all}
 use borrow.Author.Tests.{leb-true, eq-eqb}
 use Rattle.numbers.specs.Words.{if_then_else_, _and_}
-use Rattle.numbers.specs.Numbers.{num, Bytes}
+use Rattle.numbers.specs.Numbers.{num, big, Bytes}
 use Rattle.numbers.specs.Cells.{cells, packed}
 use Rattle.numbers.proofs.WordLaws.{if-false, and-both}
 use Rattle.numbers.proofs.NumberLaws.{big-num, num-drop, drop-bytes}
 use Rattle.frames.specs.Looks.{statusNumber}
 use Rattle.state_bytes.specs.Layout.{flagOk, flagOf, flagNumber, statusOf, setupOf, encodeSetup, clockOf, encodeClock}
 use Rattle.state_bytes.specs.Layout.{reportIn, encodeReport, reportsOf, encodeReports, allReportsOk}
-use Rattle.state_bytes.specs.Layout.{stateOf, encodePlace, encodeVotes, encodeState, stateOk}
+use Rattle.state_bytes.specs.Layout.{stateOf, encodePlace, encodeVotes, encodeState, frontOk, stateOk}
 use Rattle.state_bytes.proofs.ReadLaws.{state-long}
 
 -- ---- every byte of a run that passes has a meaning
@@ -143,7 +143,7 @@ votes-whole s b h f =
 
 -- what a run that passes says, field by field
 record Passes (s : List ℕ) : Type 0 where
-  pub long : length s ≡ 146
+  pub long : length s ≡ 154
   pub status : leb (num 1 12 s) 3 ≡ true
   pub catching : flagOk (num 1 21 s) ≡ true
   pub heard : flagOk (num 1 30 s) ≡ true
@@ -151,22 +151,23 @@ record Passes (s : List ℕ) : Type 0 where
   pub reports : allReportsOk 7 (drop 48 s) ≡ true
 
 passed : (s : List ℕ) → stateOk s ≡ true → Passes s
-unfolding stateOk
+unfolding stateOk frontOk
 passed s h =
     let l = state-long s h in
-    let p = and-both _ _ (sym (if-false (not (eqb (length s) 146)) false _ (ap not (eq-eqb (length s) 146 l))) ∙ h) in
+    let f = and-both _ _ h in
+    let p = and-both _ _ (sym (if-false (not (eqb (length s) 154)) false _ (ap not (eq-eqb (length s) 154 l))) ∙ f .0) in
     let q = and-both _ _ (p .1) in
     let r = and-both _ _ (q .1) in
-    let t = and-both _ _ (r .1) in
-    record { long = l; status = p .0; catching = q .0; heard = r .0; sent = t .0; reports = t .1 }
+    record { long = l; status = p .0; catching = q .0; heard = r .0; sent = r .1; reports = f .1 }
 
--- five parts are the run
+-- six parts are the run
 parts : (s : List ℕ) → encodeSetup (setupOf s) ≡ take 12 s → encodePlace (stateOf s) ≡ take 18 (drop 12 s)
     → encodeClock (clockOf (drop 30 s)) ≡ take 8 (drop 30 s) → encodeVotes (stateOf s) ≡ take 10 (drop 38 s)
-    → packed encodeReport (cells 14 reportIn 7 (drop 48 s)) ≡ take 98 (drop 48 s) → length s ≡ 146 → encodeState (stateOf s) ≡ s
+    → packed encodeReport (cells 14 reportIn 7 (drop 48 s)) ≡ take 98 (drop 48 s) → big 8 (num 8 146 s) ≡ take 8 (drop 146 s) → length s ≡ 154
+    → encodeState (stateOf s) ≡ s
 unfolding encodeState stateOf encodeReports reportsOf
-parts s p q r t u l =
-    rw (p, q, r, t, u, ← take-add 12 18 s, ← take-add 30 8 s, ← take-add 38 10 s, ← take-add 48 98 s) (take-all 146 s (omega arith))
+parts s p q r t u w l =
+    rw (p, q, r, t, u, w, ← take-add 12 18 s, ← take-add 30 8 s, ← take-add 38 10 s, ← take-add 48 98 s, ← take-add 146 8 s) (take-all 154 s (omega arith))
 
 -- the bytes of the state that a passing run holds are the run
 pub state-whole : (s : List ℕ) → Bytes s → stateOk s ≡ true → encodeState (stateOf s) ≡ s
@@ -176,4 +177,4 @@ state-whole s b h =
     parts s (setup-whole s b (omega arith)) (place-whole s b (omega arith) (k .status) (k .catching))
     (clock-whole (drop 30 s) (drop-bytes 30 s b) (rw length-drop (omega arith)) (rw (num-drop 1 30 0 s) (k .heard)))
     (votes-whole s b (omega arith) (k .sent))
-    (rows-whole 7 (drop 48 s) (drop-bytes 48 s b) (rw length-drop (omega arith)) (k .reports)) l
+    (rows-whole 7 (drop 48 s) (drop-bytes 48 s b) (rw length-drop (omega arith)) (k .reports)) (big-num 8 146 s b (omega arith)) l

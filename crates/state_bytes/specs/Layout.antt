@@ -1,6 +1,6 @@
--- The state as a run of 146 bytes, for callers that aren't Rattle: setup 12 (n 1, id 1, T 2, L 4, M 4); status 1, view 4, last normal view 4, catching up 1, op
+-- The state as a run of 154 bytes, for callers that aren't Rattle: setup 12 (n 1, id 1, T 2, L 4, M 4); status 1, view 4, last normal view 4, catching up 1, op
 -- number 4, commit number 4; clock 8 (heard 1, waiting 4, stable 2, attempts 1); who asked for this view 1, DoViewChange sent 1, nonce 8; then for each of
--- seven replica ids a report, 14: there 1, with a log 1, view 4, op number 4, commit number 4. A status is 0 Normal, 1 StateTransfer, 2 ViewChange,
+-- seven replica ids a report, 14: there 1, with a log 1, view 4, op number 4, commit number 4; takings 8. A status is 0 Normal, 1 StateTransfer, 2 ViewChange,
 -- 3 Recovering; a flag is 0 or 1. Any other number there is a byte without meaning, and refusal 1. Assumes nothing.
 use mathlib.Core.Path.{_≡_}
 use mathlib.Core.Bool.{Bool, true, false, not}
@@ -22,6 +22,7 @@ use Rattle.state.specs.Statuses.{noReport}
 use Rattle.state.specs.declared.Replica.{Replica}
 use Rattle.state.specs.declared.Report.{Report}
 use Rattle.state.specs.declared.Reports.{Reports}
+use Rattle.state_bytes.specs.declared.Look.{Look}
 
 -- flags
 unfoldable pub flagOk : ℕ → Bool
@@ -108,6 +109,7 @@ stateWith s reports =
       catching = flagOf (num 1 21 s);
       op = opAt 22 s;
       commit = opAt 26 s;
+      takings = num 8 146 s;
       clock = clockOf (drop 30 s);
       starts = num 1 38 s;
       sent = flagOf (num 1 39 s);
@@ -130,7 +132,7 @@ encodeVotes s = big 1 (s .starts) ++ big 1 (flagNumber (s .sent)) ++ big 8 (s .n
 
 unfoldable pub encodeState : Replica → List ℕ
 encodeState s =
-    encodeSetup (s .setup) ++ encodePlace s ++ encodeClock (s .clock) ++ encodeVotes s ++ encodeReports (s .reports)
+    encodeSetup (s .setup) ++ encodePlace s ++ encodeClock (s .clock) ++ encodeVotes s ++ encodeReports (s .reports) ++ big 8 (s .takings)
 
 -- what the types of a state's fields say
 pub record StateFits (s : Replica) : Type 0 where
@@ -143,6 +145,7 @@ pub record StateFits (s : Replica) : Type 0 where
   pub normal : s .normal .0 < 2 ^ 32
   pub op : s .op .0 < 2 ^ 32
   pub commit : s .commit .0 < 2 ^ 32
+  pub takings : s .takings < 2 ^ 64
   pub waiting : s .clock .waiting < 2 ^ 32
   pub stable : s .clock .stable < 2 ^ 16
   pub attempts : s .clock .attempts < 2 ^ 8
@@ -150,9 +153,9 @@ pub record StateFits (s : Replica) : Type 0 where
   pub nonce : s .nonce < 2 ^ 64
   pub reports : ReportsFit (s .reports)
 
--- a state that goes on in its view: status, op and commit number, and whether the primary was heard, are others
-abbrev pub onward : Replica → Status → (op commit : Op) → (heard : Bool) → Replica
-onward s status op commit heard =
+-- a state that goes on in its view: status, op and commit number, takings, and whether the primary was heard, are others
+abbrev pub onward : Replica → Status → (op commit : Op) (takings : ℕ) (heard : Bool) → Replica
+onward s status op commit takings heard =
     record {
       setup = s .setup;
       status = status;
@@ -161,6 +164,7 @@ onward s status op commit heard =
       catching = s .catching;
       op = op;
       commit = commit;
+      takings = takings;
       clock = record { heard = heard; waiting = s .clock .waiting; stable = s .clock .stable; attempts = s .clock .attempts };
       starts = s .starts;
       sent = s .sent;
@@ -170,17 +174,25 @@ onward s status op commit heard =
 
 -- t is s but for these
 abbrev pub Onward : (s t : Replica) → Type 0
-Onward s t = t ≡ onward s (t .status) (t .op) (t .commit) (t .clock .heard)
+Onward s t = t ≡ onward s (t .status) (t .op) (t .commit) (t .takings) (t .clock .heard)
 
 -- t is s but for its clock
 abbrev pub Clocked : (s t : Replica) → Type 0
 Clocked s t = t ≡ withClock s (t .clock)
 
--- a run holds a state: it is 146 bytes long, and no byte of it is without meaning
+-- a run is 154 bytes long, and its status and flags have a meaning, those of the reports left aside
+unfoldable pub frontOk : List ℕ → Bool
+frontOk s =
+    if not (eqb (length s) 154) then false else
+    leb (num 1 12 s) 3 and flagOk (num 1 21 s) and flagOk (num 1 30 s) and flagOk (num 1 39 s)
+
+-- a run holds a state: it is 154 bytes long, and no byte of it is without meaning
 unfoldable pub stateOk : List ℕ → Bool
-stateOk s =
-    if not (eqb (length s) 146) then false else
-    leb (num 1 12 s) 3 and flagOk (num 1 21 s) and flagOk (num 1 30 s) and flagOk (num 1 39 s) and allReportsOk 7 (drop 48 s)
+stateOk s = frontOk s and allReportsOk 7 (drop 48 s)
+
+-- what a look over a run tells: whether it holds a state, and whether it is then one without reports
+abbrev pub lookOf : List ℕ → Look
+lookOf s = record { ok = stateOk s; quiet = frontOk s and isQuiet s }
 
 -- A writer's promise: the run is the state's bytes, it passes, and the state is read back from it.
 pub record HoldsState (s : Replica) (run : List ℕ) : Type 0 where

@@ -54,14 +54,14 @@ module _ (c : Given) (t : Replica) (x : Memory.Runs) (table : List ClientEntry) 
   next = committed before (k .0)
 
   abbrev u : Replica
-  u = committedTo t k
+  u = committedTo t k x
 
   -- what commit_up_to leaves
   pub committed-reads : modelOf u (withRuns (c .runs) (settled t k x)) (next .book .table) (next .book .applied) ≡ next
   unfolding modelOf storeOf committed setBook settled
   committed-reads =
       ap (setBook (modelOf t (withRuns (c .runs) x) table applied))
-      (settle-lift (t .setup .members) (x .log) (t .commit .0) (x .money) bytes (omega (arith, sound .totals-long)) (t .op .0) table applied (k .0)
+      (settle-lift (t .setup .members) (x .log) (t .commit .0) (x .money) bytes (omega (arith, sound .totals-long)) (t .op .0) (t .takings) table applied (k .0)
       (omega (arith, sound .results-long, sound .op-le)) (sound .commit-le) le)
 
   op-is : opOf next ≡ t .op .0

@@ -117,7 +117,7 @@ module _ {s : Replica} {x : Runs} (h : Held (s .setup) s x) where
 
 -- ---- commits
 
-pub settled-held : {u : Setup} {t : Replica} {x : Runs} (k : Op) → Held u t x → k .0 ≤ t .op .0 → Held u (committedTo t k) (settled t k x)
+pub settled-held : {u : Setup} {t : Replica} {x : Runs} (k : Op) → Held u t x → k .0 ≤ t .op .0 → Held u (committedTo t k x) (settled t k x)
 unfolding settled
 settled-held {u} {t} {x} k h l =
     let a = h .sound in

@@ -122,7 +122,7 @@ module _ (s : Replica) (m : Memory) (h : Has s m) where
 -- ---- commits, and PrepareOk, whose area was tested before
 
 pub acked-left : (P : Left → Type 0) (s t : Replica) (k : Op) (installed : Bool) (x : Runs) (out : List ℕ) → ltb (length out) 16 ≡ false
-    → P (left (completed (committedTo t k) 16 0 installed) (settled t k x) (over (prepareOkOf (committedTo t k)) out))
+    → P (left (completed (committedTo t k x) 16 0 installed) (settled t k x) (over (prepareOkOf (committedTo t k x)) out))
     → P (committedAndAcked s t k installed x out)
 unfolding committedAndAcked
 acked-left P s t k installed x out e p = split P _ _ _ (λ f. absurd (false≢true (sym e ∙ f))) (λ _. p)

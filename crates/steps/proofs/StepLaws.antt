@@ -17,9 +17,9 @@ use Rattle.config.specs.Setup.{primaryOf}
 use Rattle.config.proofs.SetupLaws.{sized}
 use Rattle.frames.specs.declared.Message.the-variants.{PrepareOk, GetState}
 use Rattle.writers.specs.Writers.{header, encode}
-use Rattle.book.specs.Runs.{moneyCommitted}
+use Rattle.book.specs.Runs.{moneyCommitted, takingsCommitted}
 use Rattle.book.specs.Memory.{Money, money, Runs, runs}
-use Rattle.state.specs.State.{leads, withLog}
+use Rattle.state.specs.State.{leads, withCommit}
 use Rattle.state.specs.Statuses.{isNormal, isChanging}
 use Rattle.state.specs.Answers.{refusal, completed}
 use Rattle.state.specs.declared.Returned.{Returned}
@@ -58,12 +58,13 @@ module _ (s : Replica) (v : View) where
 -- commit_up_to
 module _ (s : Replica) (k : Op) (log results totals : List ℕ) where
   pub commits-nothing : k .0 ≤ s .commit .0
-      → (s ≡ committedTo s k) × (runs log results totals ≡ settled s k (runs log results totals))
-  unfolding settled moneyCommitted
+      → (s ≡ committedTo s k (runs log results totals)) × (runs log results totals ≡ settled s k (runs log results totals))
+  unfolding settled moneyCommitted takingsCommitted
   commits-nothing h =
       let m : max (s .commit .0) (k .0) ≡ s .commit .0 = omega arith in
       let z : k .0 - s .commit .0 ≡ 0 = omega arith in
-      (λ i. withLog s (s .op) (record { 0 = sym m i }), rw z)
+      let w : s .takings ≡ takingsCommitted (s .setup .members) log (s .commit .0) (k .0 - s .commit .0) (money results totals) (s .takings) = rw z in
+      (λ i. withCommit s (record { 0 = sym m i }) (w i), rw z)
 
   -- what book::commit_up_to asks
   pub commits-fit : Sound s (runs log results totals) → k .0 ≤ s .op .0 → s .commit .0 < k .0
@@ -82,13 +83,14 @@ module _ (s : Replica) (k : Op) (log results totals : List ℕ) where
         ),
       )
 
-  pub commits : (t : Replica) (rs ts : List ℕ) → s .commit .0 < k .0 → t ≡ withLog s (s .op) k
-      → money rs ts ≡ moneyCommitted (s .setup .members) log (s .commit .0) (k .0 - s .commit .0) (money results totals)
-      → (t ≡ committedTo s k) × (runs log rs ts ≡ settled s k (runs log results totals))
+  pub commits : (t : Replica) (w : ℕ) (rs ts : List ℕ) → s .commit .0 < k .0 → t ≡ withCommit s k w
+      → (money rs ts ≡ moneyCommitted (s .setup .members) log (s .commit .0) (k .0 - s .commit .0) (money results totals))
+      × (w ≡ takingsCommitted (s .setup .members) log (s .commit .0) (k .0 - s .commit .0) (money results totals) (s .takings))
+      → (t ≡ committedTo s k (runs log results totals)) × (runs log rs ts ≡ settled s k (runs log results totals))
   unfolding settled
-  commits t rs ts h p q =
+  commits t w rs ts h p q =
       let m : max (s .commit .0) (k .0) ≡ k .0 = omega arith in
-      (p ∙ λ i. withLog s (s .op) (record { 0 = sym m i }), λ i. record { log = log; money = q i })
+      (p ∙ λ i. withCommit s (record { 0 = sym m i }) (q .1 i), λ i. record { log = log; money = q .0 i })
 
 -- send_get_state
 module _ (s t : Replica) (at : Op) (out : List ℕ) where
@@ -118,7 +120,7 @@ module _ (s t : Replica) (k : Op) (installed : Bool) (x : Runs) (out : List ℕ)
   unfolding committedAndAcked if_then_else_
   acks-short a h p = rw (lt-ltb (length out) 16 h, p)
 
-  pub acks : (a : Returned) (u : Replica) (y : Runs) (w : ℕ) (o : List ℕ) → 16 ≤ length out → u ≡ committedTo t k → y ≡ settled t k x
+  pub acks : (a : Returned) (u : Replica) (y : Runs) (w : ℕ) (o : List ℕ) → 16 ≤ length out → u ≡ committedTo t k x → y ≡ settled t k x
       → w ≡ 16 → o ≡ over (prepareOkOf u) out → a ≡ completed u w 0 installed → left a y o ≡ committedAndAcked s t k installed x out
   unfolding committedAndAcked if_then_else_
   acks a u y w o h p q e b c = rw (le-ltb (length out) 16 h, c, q, e, b, p)

@@ -14,9 +14,9 @@ use Rattle.config.specs.Setup.{setupOk, primaryOf}
 use Rattle.frames.specs.declared.Message.the-variants.{PrepareOk, GetState}
 use Rattle.frames.specs.declared.Status.the-variants.{StateTransfer}
 use Rattle.writers.specs.Writers.{encode}
-use Rattle.book.specs.Runs.{moneyCommitted}
+use Rattle.book.specs.Runs.{moneyCommitted, takingsCommitted}
 use Rattle.book.specs.Memory.{money, Runs, runs}
-use Rattle.state.specs.State.{leads, heardBy, withStatus, withLog, catchingUpIn}
+use Rattle.state.specs.State.{leads, heardBy, withStatus, withCommit, catchingUpIn}
 use Rattle.state.specs.Statuses.{isNormal, isChanging}
 use Rattle.state.specs.Answers.{refusal, completed, quiet}
 use Rattle.state.specs.Lengths.{logLength, resultsLength, totalsLength}
@@ -80,9 +80,11 @@ isTake Take = true
 abbrev pub laterOp : Op → Op → Op
 laterOp a b = record { 0 = max (a .0) (b .0) }
 
--- commit_up_to k, its state: the commit number never falls
-abbrev pub committedTo : Replica → Op → Replica
-committedTo s k = withLog s (s .op) (laterOp (s .commit) k)
+-- commit_up_to k, its state: the commit number never falls, and the takings follow what the fee rules give
+abbrev pub committedTo : Replica → Op → Runs → Replica
+committedTo s k x =
+    withCommit s (laterOp (s .commit) k)
+    (takingsCommitted (s .setup .members) (x .log) (s .commit .0) (k .0 - s .commit .0) (x .money) (s .takings))
 
 -- and its runs: the entries after the commit number go through the fee rules, in order
 unfoldable pub settled : Replica → Op → Runs → Runs
@@ -115,4 +117,4 @@ prepareOkOf s = encode (primaryOf (s .setup .n) (s .view)) (PrepareOk (s .view) 
 unfoldable pub committedAndAcked : (s t : Replica) (k : Op) (installed : Bool) → Runs → List ℕ → Left
 committedAndAcked s t k installed x out =
     if ltb (length out) 16 then left (refusal 9 s) x out else
-    left (completed (committedTo t k) 16 0 installed) (settled t k x) (over (prepareOkOf (committedTo t k)) out)
+    left (completed (committedTo t k x) 16 0 installed) (settled t k x) (over (prepareOkOf (committedTo t k x)) out)

@@ -72,23 +72,23 @@ pub fn takes(a: Accept) -> bool
 // commit_up_to: the ops after the commit number, up to k.
 pub fn commit_up_to(s: Replica, k: Op, log: &[u8], results: &mut [u8], totals: &mut [u8]) -> Replica
     requires { ⌜ Sound s (runsHeld log results totals) × (k .0 ≤ s .op .0) ⌝ }
-    ensures { λ r. ⌜ (r ≡ committedTo s k) × (runsAfter log results totals ≡ settled s k (runsBefore log results totals)) ⌝ }
+    ensures { λ r. ⌜ (r ≡ committedTo s k (runsBefore log results totals)) × (runsAfter log results totals ≡ settled s k (runsBefore log results totals)) ⌝ }
 {
     if k.0 <= s.commit.0 {
         return s;
     }
     let from = s.commit.0;
     let count = k.0 - from;
-    book::commit_up_to(
+    let takings = book::commit_up_to(
         log,
         results,
         totals,
         s.setup.members,
+        s.takings,
         from as usize,
         count as usize,
     );
-    let op = s.op;
-    state::with_log(s, op, k)
+    state::with_commit(s, k, takings)
 }
 
 // send_get_state from op `at` on, to the primary of the view of `t`, which is the state after it; `s` is the state as it was, for refusal 9.

@@ -252,13 +252,13 @@ module _ (c : Given) (table : List ClientEntry) (applied : List Entry) where
       abbrev more-book : Book
       more-book = appendAll (now .book) (entries k rest)
 
-      fill-book : bookOf (c .state .setup .members) (p .end .0) (c .state .commit .0) (y .log) (y .money) (more-book .table) applied
+      fill-book : bookOf (c .state .setup .members) (p .end .0) (c .state .commit .0) (y .log) (y .money) (c .state .takings) (more-book .table) applied
           ≡ more-book
       unfolding modelOf
       fill-book =
           let e : c .state .op .0 + k ≡ p .end .0 = omega (arith, l) in
-          ap (λ (n : ℕ). bookOf (c .state .setup .members) n (c .state .commit .0) (y .log) (y .money) (more-book .table) applied) (sym e)
-          ∙ part-lift (c .state .setup .members) (c .state .op .0) (c .state .commit .0) (c .runs .log) (x .money) table applied k rest
+          ap (λ (n : ℕ). bookOf (c .state .setup .members) n (c .state .commit .0) (y .log) (y .money) (c .state .takings) (more-book .table) applied) (sym e)
+          ∙ part-lift (c .state .setup .members) (c .state .op .0) (c .state .commit .0) (c .runs .log) (x .money) (c .state .takings) table applied k rest
           (omega (arith, h .numbers .end-le, h .sound .log-long, place-is (c .state .op .0 + k))) rest-long
 
       -- the places hold reports before and after
@@ -321,13 +321,13 @@ module _ (c : Given) (table : List ClientEntry) (applied : List Entry) where
       abbrev new-book : Book
       new-book = install (now .book) (committedThen now es)
 
-      install-book : bookOf (c .state .setup .members) (p .end .0) (c .state .commit .0) (z .log) (z .money) (new-book .table) applied
+      install-book : bookOf (c .state .setup .members) (p .end .0) (c .state .commit .0) (z .log) (z .money) (c .state .takings) (new-book .table) applied
           ≡ new-book
       unfolding modelOf committedThen bookOf
       install-book =
           let e : c .state .commit .0 + j ≡ p .end .0 = omega (arith, g, h .numbers .start-le) in
-          ap (λ (n : ℕ). bookOf (c .state .setup .members) n (c .state .commit .0) (z .log) (z .money) (new-book .table) applied) (sym e)
-          ∙ install-lift (c .state .setup .members) (c .state .op .0) (c .state .commit .0) (c .runs .log) (x .money) table applied
+          ap (λ (n : ℕ). bookOf (c .state .setup .members) n (c .state .commit .0) (z .log) (z .money) (c .state .takings) (new-book .table) applied) (sym e)
+          ∙ install-lift (c .state .setup .members) (c .state .op .0) (c .state .commit .0) (c .runs .log) (x .money) (c .state .takings) table applied
           (c .state .commit .0) j part (h .sound .commit-le)
           (omega (arith, e, h .numbers .end-le, h .sound .log-long, place-is (c .state .commit .0 + j))) (h .long)
 

@@ -1,5 +1,5 @@
 -- What a Request, a PrepareOk, a Prepare or Commit of its view, and a Recovery of no later view leave of the state of a Normal replica: all but status, op and commit
--- number and whether the primary was heard.
+-- number, takings and whether the primary was heard.
 --     request-onward, prepare-onward, prepare-ok-onward, commit-onward, recovery-onward
 -- Assumes nothing.
 use mathlib.Core.Path.{_≡_, refl}

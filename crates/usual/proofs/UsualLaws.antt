@@ -1,5 +1,5 @@
 -- What the usual calls leave of the state.
---     usual-onward       a usual frame: all but status, op and commit number and whether the primary was heard
+--     usual-onward       a usual frame: all but status, op and commit number, takings and whether the primary was heard
 --     leading-clocked    the tick of a Normal primary: all but the clock
 -- Assumes nothing.
 use mathlib.Core.Path.{_≡_, refl, sym, subst}

@@ -1,4 +1,4 @@
--- The usual calls, by the state and the bytes of the frame alone: those that leave all of the state but status, op and commit number and the clock as it was.
+-- The usual calls, by the state and the bytes of the frame alone: those that leave all of the state but status, op and commit number, takings and the clock as it was.
 -- Any bytes are asked, and a usual call may still be refused. Assumes nothing.
 use mathlib.Core.Bool.{Bool, true, false, not}
 use mathlib.Core.List.{List}

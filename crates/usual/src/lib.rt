@@ -1,5 +1,5 @@
 // The usual calls: a Request, a PrepareOk, a Prepare or Commit of its view, or a Recovery of no later view, given to a Normal replica; and the tick of a Normal primary.
-// They leave all of the state but status, op and commit number and the clock, so that who keeps it in bytes needs to write no more.
+// They leave all of the state but status, op and commit number, takings and the clock, so that who keeps it in bytes needs to write no more.
 ghost use mathlib.Core.Path.{_≡_};
 ghost use Rattle.usual.specs.Usual.{isAnswered, isUsual, isLeading};
 ghost use Rattle.numbers.specs.Lending.{was};

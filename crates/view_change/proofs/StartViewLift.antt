@@ -253,15 +253,15 @@ module _ (c : Given) (table : List ClientEntry) (applied : List Entry) (v : View
     abbrev new-book : Book
     new-book = install (was .book) es
 
-    new-book-is : bookOf (c .state .setup .members) (o .0) (c .state .commit .0) (y .log) (y .money) (new-book .table) applied ≡ new-book
+    new-book-is : bookOf (c .state .setup .members) (o .0) (c .state .commit .0) (y .log) (y .money) (c .state .takings) (new-book .table) applied ≡ new-book
     unfolding modelOf
     new-book-is =
         let M = c .state .setup .members in
         let i = c .state .commit .0 in
         let fits = part-fits (c .state) v o k part (c .runs .log) (c .runs .results) (c .runs .totals) (c .runs .acks) (c .out)
         (h .sound) (h .numbers) l (h .long) in
-        ap (λ (n : ℕ). bookOf M n i (y .log) (y .money) (new-book .table) applied) (sym (zero-add (o .0)))
-        ∙ install-lift M (c .state .op .0) i (c .runs .log) (x .money) table applied 0 (o .0) part (omega arith) (fits .1 .0) (h .long)
+        ap (λ (n : ℕ). bookOf M n i (y .log) (y .money) (c .state .takings) (new-book .table) applied) (sym (zero-add (o .0)))
+        ∙ install-lift M (c .state .op .0) i (c .runs .log) (x .money) (c .state .takings) table applied 0 (o .0) part (omega arith) (fits .1 .0) (h .long)
 
     new-store : storeOf r (c .runs .stored) ≡ clearedStore (c .state .setup) was
     unfolding modelOf storeOf clearedStore noReports isRecovering if_then_else_

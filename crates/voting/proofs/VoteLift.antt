@@ -84,6 +84,7 @@ module _ (c : Given) (t : Replica) (k : Clock) (starts : ℕ) (sent : Bool) wher
         setup = h .setup;
         op = h .op;
         commit = h .commit;
+        takings = h .takings;
         looks = h .looks;
         totals = h .totals;
         log-ok = h .log-ok;

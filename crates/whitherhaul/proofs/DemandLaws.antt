@@ -11,24 +11,27 @@ use native.Mathlib.Omega.{arith}
 use borrow.Author.Tests.{ne-eqb}
 use Rattle.numbers.specs.Words.{if_then_else_}
 use Rattle.numbers.specs.declared.View.{View}
-use Rattle.numbers.proofs.WordLaws.{split, if-false}
+use Rattle.numbers.proofs.WordLaws.{split, if-true, if-false}
 use Rattle.entries.specs.declared.Entry.{Entry}
 use Rattle.config.specs.declared.Setup.{Setup}
 use Rattle.state.specs.declared.Replica.{Replica}
 use Rattle.state_bytes.specs.Layout.{stateOf, stateOk}
 use Rattle.safety.specs.Demand.{Call}
 use Rattle.outside.specs.Sound.{noReplica}
+use Rattle.outside.specs.Takings.{takingsCall}
+use Rattle.outside.specs.declared.takings.Taken.{Taken}
 use Rattle.replica.specs.Calls.{messageCall, idleCall, createCall, recoverCall}
 use Rattle.replica.specs.Lent.{Lent, Called}
 use Rattle.replica.specs.Meaning.{Kept}
-use Rattle.replica.specs.Demands.{Untouched, HandedBack, Link, Chain}
+use Rattle.replica.specs.Promise.{TakingsPromise}
+use Rattle.replica.specs.Demands.{Untouched, HandedBack, Link, Chain, FullAddition}
 use Rattle.replica.specs.Demands.Link.{message, tick}
 use Rattle.replica.specs.Demands.Chain.{none, more}
 use Rattle.replica.specs.Backed.{callBy, callsIn}
 use Rattle.replica.proofs.DemandLaws.{message-untouched, tick-untouched, handed-kept, chain-goes}
 use Rattle.replica.proofs.CreateDemands.{create-untouched, recover-untouched}
-use Rattle.whitherhaul.specs.Replicas.{Ran, keptState, leaves, noState, messageRun, idleRun, createRun, recoverRun, StateHeld}
-use Rattle.whitherhaul.specs.Replicas.{MessageRan, IdleRan, CreateRan, RecoverRan}
+use Rattle.whitherhaul.specs.Replicas.{Ran, keptState, leaves, noState, messageRun, idleRun, createRun, recoverRun, takingsRun, StateHeld}
+use Rattle.whitherhaul.specs.Replicas.{MessageRan, IdleRan, CreateRan, RecoverRan, TakingsRan}
 use Rattle.whitherhaul.specs.Demands.{UntouchedRun, RunLink, RunChain, RunGoesOn}
 use Rattle.whitherhaul.specs.Demands.RunLink.{message as sent, tick as idled}
 use Rattle.whitherhaul.specs.Demands.RunChain.{none as no-run, more as more-runs}
@@ -129,11 +132,19 @@ chained state′ x′ state x ok (more-runs _ _ d y l h c) =
       is = λ i. t .is i ∷ (moved-calls _ _ _ _ _ (t .held .back) (r .chain) ∙ r .is) i;
     }
 
+-- who asks for the takings is answered what the replica's own call answers
+run-takings : (state : List ℕ) (x : Lent) (applied : List Entry) → stateOk state ≡ true → (r : Taken) → TakingsRan state r
+    → ((t : Taken) → TakingsPromise (stateOf state) t → FullAddition (stateOf state) x applied t) → FullAddition (stateOf state) x applied r
+unfolding takingsRun
+run-takings state x applied ok r p f =
+    subst (FullAddition (stateOf state) x applied) (sym (p .exact ∙ if-true _ _ _ ok)) (f (takingsCall (stateOf state)) (p .call))
+
 pub run-chain-goes : (state : List ℕ) (x : Lent) (applied : List Entry) (state′ : List ℕ) (x′ : Lent) → stateOk state ≡ true
     → Kept (stateOf state) x applied → RunChain state′ x′ state x → RunGoesOn state x applied state′ x′
 run-chain-goes state x applied state′ x′ ok k c =
     let r = chained state′ x′ state x ok c in
-    record { ok = r .ok; goes = chain-goes _ _ _ _ _ k (r .chain) }
+    let g = chain-goes (stateOf state) x applied (stateOf state′) x′ k (r .chain) in
+    record { ok = r .ok; goes = g; takings = λ t p. run-takings state′ x′ (g .applied′) (r .ok) t p (g .takings) }
 
 -- what a creation that wasn't refused left, handed back
 pub begun : (state : List ℕ) (y : Lent) (c : Called) (d : Ran) → d ≡ leaves state c → StateHeld (d .state) (c .answer .state)

@@ -4,6 +4,8 @@
 --     create-unsized, recover-unsized                              a setup outside the sizes
 --     message-ran, idle-ran, create-ran, recover-ran               a call of the replica
 --     usual-kept, leading-kept                                     what a usual call leaves of the state
+--     looks-none, looks-ok, looks-quiet, may-short, may-long, may-is    what is looked at before
+--     no-takings, takings-ran                                      the takings
 -- Assumes nothing.
 use mathlib.Core.Path.{_≡_, refl, sym, ap, _∙_, subst}
 use mathlib.Core.Bool.{Bool, true, false, not, false≢true}
@@ -12,30 +14,34 @@ use mathlib.Core.Logic.{⊎-elim}
 use Prim.Native.Nat.{ℕ, _≤_, _<_}
 use native.Mathlib.Omega.{arith}
 use lib.ListN.{length}
-use borrow.Author.Tests.{ne-eqb, eq-eqb, not-false, lt-ltb, le-ltb, ltb-false}
+use borrow.Author.Tests.{ne-eqb, eq-eqb, not-true, not-false, lt-ltb, le-ltb, ltb-false}
 use Rattle.numbers.specs.Words.{if_then_else_}
 use Rattle.numbers.specs.declared.View.{View}
-use Rattle.numbers.proofs.WordLaws.{if-true, if-false, split}
+use Rattle.numbers.proofs.WordLaws.{if-true, if-false, split, and-both}
 use Rattle.numbers.proofs.NumberLaws.{eq-or-not}
 use Rattle.config.specs.Setup.{setupOk}
 use Rattle.config.specs.declared.Setup.{Setup}
 use Rattle.state.specs.Answers.{refusal}
 use Rattle.state.specs.declared.Returned.{Returned}
 use Rattle.state.specs.declared.Replica.{Replica}
-use Rattle.state_bytes.specs.Layout.{stateOf, Onward, Clocked, stateOk, isQuiet, HoldsState}
+use Rattle.state_bytes.specs.Layout.{stateOf, Onward, Clocked, stateOk, isQuiet, lookOf, HoldsState}
+use Rattle.state_bytes.specs.declared.Look.{Look}
 use Rattle.usual.specs.Usual.{isUsual, isLeading}
 use Rattle.usual.proofs.UsualLaws.{usual-onward, leading-clocked}
 use Rattle.outside.specs.Sound.{noReplica}
 use Rattle.outside.specs.Creation.{Started, createStep, recoverStep}
+use Rattle.outside.specs.Takings.{taken, takingsCall}
+use Rattle.outside.specs.declared.takings.Taken.{Taken}
 use Rattle.replica.specs.Calls.{messageCall, idleCall, cleared, createCall, recoverCall}
 use Rattle.replica.specs.Lent.{Lent, Called, called}
-use Rattle.replica.specs.Promise.{MessagePromise, IdlePromise, CreatePromise, RecoverPromise}
+use Rattle.replica.specs.Promise.{MessagePromise, IdlePromise, CreatePromise, RecoverPromise, TakingsPromise}
 use Rattle.replica.specs.Demands.{Untouched}
 use Rattle.replica.proofs.PromiseLaws.{message-promised, idle-promised, create-promised, recover-promised}
+use Rattle.replica.proofs.TakingsLaws.{takings-promised}
 use Rattle.replica.proofs.DemandLaws.{message-untouched, tick-untouched}
 use Rattle.replica.proofs.CreateDemands.{create-outside, recover-outside}
-use Rattle.whitherhaul.specs.Replicas.{Ran, ran, keptState, leaves, messageRun, idleRun, createRun, recoverRun, StateHeld, KeptIn, mayBeUsual}
-use Rattle.whitherhaul.specs.Replicas.{MessageRan, IdleRan, CreateRan, RecoverRan}
+use Rattle.whitherhaul.specs.Replicas.{Ran, ran, keptState, leaves, messageRun, idleRun, createRun, recoverRun, takingsRun, StateHeld, KeptIn, mayBeUsual}
+use Rattle.whitherhaul.specs.Replicas.{MessageRan, IdleRan, CreateRan, RecoverRan, TakingsRan}
 
 -- ---- keep
 
@@ -153,11 +159,11 @@ unfolding keptState if_then_else_
 outside-leaves state x = refl
 
 module _ (u : Setup) (state : List ℕ) (x : Lent) where
-  pub no-creation : (length state ≡ 146 → ⊥) → CreateRan u state x (ran 1 (0 ∷ 0 ∷ []) state x)
+  pub no-creation : (length state ≡ 154 → ⊥) → CreateRan u state x (ran 1 (0 ∷ 0 ∷ []) state x)
   unfolding createRun
   no-creation h =
       record {
-        exact = sym (if-true _ _ _ (ap not (ne-eqb (length state) 146 h)));
+        exact = sym (if-true _ _ _ (ap not (ne-eqb (length state) 154 h)));
         next = λ z. absurd (not-0 z);
         call = create-promised u x _ refl;
       }
@@ -173,7 +179,7 @@ module _ (u : Setup) (state : List ℕ) (x : Lent) where
         call = create-promised u x _ refl;
       }
 
-  pub create-ran : (w : Setup) (a : Returned) (y : Lent) {after : List ℕ} {code : ℕ} → length state ≡ 146 → w ≡ u
+  pub create-ran : (w : Setup) (a : Returned) (y : Lent) {after : List ℕ} {code : ℕ} → length state ≡ 154 → w ≡ u
       → CreatePromise w x (called a y) → KeptIn a state after code → CreateRan u state x (ran code (0 ∷ 0 ∷ []) after y)
   unfolding createRun
   create-ran w a y {after} {code} l same q k =
@@ -183,17 +189,17 @@ module _ (u : Setup) (state : List ℕ) (x : Lent) where
       let m : 0 ≡ a .messages = sym (sends .0) ∙ sym (ap (λ (z : Called). z .answer .messages) (p .exact)) in
       let r : 0 ≡ a .replies = sym (sends .1) ∙ sym (ap (λ (z : Called). z .answer .replies) (p .exact)) in
       record {
-        exact = (λ i. ran code (m i ∷ r i ∷ []) after y) ∙ left a y k d (p .exact) ∙ sym (if-false _ _ _ (ap not (eq-eqb (length state) 146 l)));
+        exact = (λ i. ran code (m i ∷ r i ∷ []) after y) ∙ left a y k d (p .exact) ∙ sym (if-false _ _ _ (ap not (eq-eqb (length state) 154 l)));
         next = λ z. done-held a y k d (p .exact) (sym (k .number) ∙ z);
         call = create-promised u x d refl;
       }
 
 module _ (u : Setup) (v : View) (nonce : ℕ) (state : List ℕ) (x : Lent) where
-  pub no-recovery : (length state ≡ 146 → ⊥) → RecoverRan u v nonce state x (ran 1 (0 ∷ 0 ∷ []) state x)
+  pub no-recovery : (length state ≡ 154 → ⊥) → RecoverRan u v nonce state x (ran 1 (0 ∷ 0 ∷ []) state x)
   unfolding recoverRun
   no-recovery h =
       record {
-        exact = sym (if-true _ _ _ (ap not (ne-eqb (length state) 146 h)));
+        exact = sym (if-true _ _ _ (ap not (ne-eqb (length state) 154 h)));
         next = λ z. absurd (not-0 z);
         call = recover-promised u v nonce x _ refl;
       }
@@ -209,14 +215,14 @@ module _ (u : Setup) (v : View) (nonce : ℕ) (state : List ℕ) (x : Lent) wher
         call = recover-promised u v nonce x _ refl;
       }
 
-  pub recover-ran : (w : Setup) (a : Returned) (y : Lent) {after : List ℕ} {code : ℕ} → length state ≡ 146 → w ≡ u
+  pub recover-ran : (w : Setup) (a : Returned) (y : Lent) {after : List ℕ} {code : ℕ} → length state ≡ 154 → w ≡ u
       → RecoverPromise w v nonce x (called a y) → KeptIn a state after code → RecoverRan u v nonce state x (ran code (a .messages ∷ a .replies ∷ []) after y)
   unfolding recoverRun
   recover-ran w a y l same q k =
       let p = subst (λ (z : Setup). RecoverPromise z v nonce x (called a y)) same q in
       let d = recoverCall u v nonce x in
       record {
-        exact = left a y k d (p .exact) ∙ sym (if-false _ _ _ (ap not (eq-eqb (length state) 146 l)));
+        exact = left a y k d (p .exact) ∙ sym (if-false _ _ _ (ap not (eq-eqb (length state) 154 l)));
         next = λ z. done-held a y k d (p .exact) (sym (k .number) ∙ z);
         call = recover-promised u v nonce x d refl;
       }
@@ -228,17 +234,42 @@ unfolding if_then_else_
 fails true b p = absurd (false≢true p)
 fails false b p = (refl, p)
 
-pub may-short : (state frame : List ℕ) → length frame < 7 → false ≡ mayBeUsual state frame
-unfolding mayBeUsual
-may-short state frame h = sym (if-true _ _ _ (lt-ltb (length frame) 7 h))
+-- what a look over the run tells
+module _ (state : List ℕ) {l : Look} (e : l ≡ lookOf state) where
+  pub looks-none : not (l .ok) ≡ true → stateOk state ≡ false
+  looks-none n = sym (ap (λ (r : Look). r .ok) e) ∙ not-true (l .ok) n
 
-pub may-long : (state frame : List ℕ) → 7 ≤ length frame → {b : Bool} → b ≡ isQuiet state → b ≡ mayBeUsual state frame
-unfolding mayBeUsual
-may-long state frame h e = e ∙ sym (if-false _ _ _ (le-ltb (length frame) 7 h))
+  pub looks-ok : not (l .ok) ≡ false → stateOk state ≡ true
+  looks-ok n = sym (ap (λ (r : Look). r .ok) e) ∙ not-false (l .ok) n
 
-pub may-is : (state frame : List ℕ) {b : Bool} → b ≡ mayBeUsual state frame → not b ≡ false → (7 ≤ length frame) × (isQuiet state ≡ true)
+  pub looks-quiet : l .quiet ≡ true → isQuiet state ≡ true
+  looks-quiet q = and-both _ _ (sym (ap (λ (r : Look). r .quiet) e) ∙ q) .1
+
+pub may-short : (quiet : Bool) (frame : List ℕ) → length frame < 7 → false ≡ mayBeUsual quiet frame
 unfolding mayBeUsual
-may-is state frame {b} e n =
+may-short quiet frame h = sym (if-true _ _ _ (lt-ltb (length frame) 7 h))
+
+pub may-long : (quiet : Bool) (frame : List ℕ) → 7 ≤ length frame → quiet ≡ mayBeUsual quiet frame
+unfolding mayBeUsual
+may-long quiet frame h = sym (if-false _ _ _ (le-ltb (length frame) 7 h))
+
+pub may-is : (quiet : Bool) (frame : List ℕ) {b : Bool} → b ≡ mayBeUsual quiet frame → not b ≡ false → (7 ≤ length frame) × (quiet ≡ true)
+unfolding mayBeUsual
+may-is quiet frame {b} e n =
     let t = sym e ∙ not-false b n in
     let p = fails _ _ t in
     (ltb-false (length frame) 7 (p .0), p .1)
+
+-- ---- the takings
+
+pub no-takings : (state : List ℕ) → stateOk state ≡ false → TakingsRan state (taken 1 0)
+unfolding takingsRun
+no-takings state h = record { exact = sym (if-false _ _ _ h); call = takings-promised (stateOf state) _ refl }
+
+pub takings-ran : (state : List ℕ) (s : Replica) (r : Taken) → stateOk state ≡ true → s ≡ stateOf state → TakingsPromise s r → TakingsRan state r
+unfolding takingsRun
+takings-ran state s r ok e p =
+    record {
+      exact = p .exact ∙ ap takingsCall e ∙ sym (if-true _ _ _ ok);
+      call = takings-promised (stateOf state) _ refl;
+    }

@@ -7,9 +7,10 @@ use Rattle.numbers.specs.Numbers.{Bytes}
 use Rattle.entries.specs.declared.Entry.{Entry}
 use Rattle.replica.specs.Lent.{Lent}
 use Rattle.replica.specs.Meaning.{Owned}
-use Rattle.replica.specs.Demands.{HandedBack, GoesOn}
+use Rattle.outside.specs.declared.takings.Taken.{Taken}
+use Rattle.replica.specs.Demands.{HandedBack, FullAddition, GoesOn}
 use Rattle.state_bytes.specs.Layout.{stateOf, stateOk}
-use Rattle.whitherhaul.specs.Replicas.{Ran, ran, MessageRan, IdleRan}
+use Rattle.whitherhaul.specs.Replicas.{Ran, ran, MessageRan, IdleRan, TakingsRan}
 
 -- Demand 1: a call that is refused leaves the state run and every lent byte as they were, with counts of 0.
 abbrev pub UntouchedRun : (state : List ℕ) → Lent → Ran → Type 0
@@ -27,7 +28,9 @@ pub data RunChain (state′ : List ℕ) (x′ : Lent) : List ℕ → Lent → Ty
       (state : List ℕ) (x : Lent) (d : Ran) (y : Lent) → RunLink state x d → HandedBack (d .lent) y → RunChain state′ x′ (d .state) y
       → RunChain state′ x′ state x
 
--- Demand 3 after a chain: the run holds a state, and from what the first run holds to what the last one holds it goes on as the replica's does.
+-- Demand 3 after a chain: the run holds a state, and from what the first run holds to what the last one holds it goes on as the replica's does; who then asks
+-- for the takings is answered the full addition.
 pub record RunGoesOn (state : List ℕ) (x : Lent) (applied : List Entry) (state′ : List ℕ) (x′ : Lent) : Type 0 where
   pub ok : stateOk state′ ≡ true
   pub goes : GoesOn (stateOf state) x applied (stateOf state′) x′
+  pub takings : (r : Taken) → TakingsRan state′ r → FullAddition (stateOf state′) x′ (goes .applied′) r

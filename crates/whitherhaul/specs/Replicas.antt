@@ -13,7 +13,9 @@ use Rattle.state.specs.declared.Returned.{Returned}
 use Rattle.state.specs.declared.Replica.{Replica}
 use Rattle.replica.specs.Calls.{messageCall, idleCall, createCall, recoverCall}
 use Rattle.replica.specs.Lent.{Lent, Called, lentBefore, lentAfter}
-use Rattle.replica.specs.Promise.{MessagePromise, IdlePromise, CreatePromise, RecoverPromise}
+use Rattle.outside.specs.Takings.{taken, takingsCall}
+use Rattle.outside.specs.declared.takings.Taken.{Taken}
+use Rattle.replica.specs.Promise.{MessagePromise, IdlePromise, CreatePromise, RecoverPromise, TakingsPromise}
 use Rattle.state_bytes.specs.Layout.{stateOf, encodeState, stateOk, isQuiet, HoldsState}
 use Rattle.numbers.specs.Lending.{last}
 use Rattle.book.specs.Memory.{Run}
@@ -61,13 +63,17 @@ idleRun state x =
 -- new, recover: what the state run held doesn't matter, only its length
 unfoldable pub createRun : Setup → (state : List ℕ) → Lent → Ran
 createRun u state x =
-    if not (eqb (length state) 146) then noState state x else
+    if not (eqb (length state) 154) then noState state x else
     leaves state (createCall u x)
 
 unfoldable pub recoverRun : Setup → View → (nonce : ℕ) → (state : List ℕ) → Lent → Ran
 recoverRun u v k state x =
-    if not (eqb (length state) 146) then noState state x else
+    if not (eqb (length state) 154) then noState state x else
     leaves state (recoverCall u v k x)
+
+-- takings: of the state that the run holds; it is only read
+unfoldable pub takingsRun : (state : List ℕ) → Taken
+takingsRun state = if stateOk state then takingsCall (stateOf state) else taken 1 0
 
 -- The run holds the state that the call answered: so the next call at the boundary is the next call of the replica.
 pub record StateHeld (state : List ℕ) (s : Replica) : Type 0 where
@@ -95,9 +101,13 @@ pub record RecoverRan (u : Setup) (v : View) (nonce : ℕ) (state : List ℕ) (x
   pub next : d .code ≡ 0 → StateHeld (d .state) (recoverCall u v nonce x .answer .state)
   pub call : RecoverPromise u v nonce x (recoverCall u v nonce x)
 
+pub record TakingsRan (state : List ℕ) (r : Taken) : Type 0 where
+  pub exact : r ≡ takingsRun state
+  pub call : TakingsPromise (stateOf state) (takingsCall (stateOf state))
+
 -- whether a frame may be a usual one: it names a kind, and no report is there
-unfoldable pub mayBeUsual : (state frame : List ℕ) → Bool
-mayBeUsual state frame = if ltb (length frame) 7 then false else isQuiet state
+unfoldable pub mayBeUsual : (quiet : Bool) (frame : List ℕ) → Bool
+mayBeUsual quiet frame = if ltb (length frame) 7 then false else quiet
 
 -- what the state run holds after an answer
 pub record KeptIn (a : Returned) (before after : List ℕ) (code : ℕ) : Type 0 where

@@ -1,4 +1,4 @@
-// A replica, whose state lies in a lent run of 146 bytes. A refused call leaves that run, like all else, as it was.
+// A replica, whose state lies in a lent run of 154 bytes. A refused call leaves that run, like all else, as it was.
 ghost use mathlib.Core.Path.{_≡_};
 ghost use mathlib.Core.Bool.{true};
 ghost use mathlib.Core.List.{[], _∷_};
@@ -6,7 +6,8 @@ ghost use lib.ListN.{length};
 ghost use Rattle.offsets.specs.Offsets.{Points};
 ghost use Rattle.frames.specs.Kinds.{wellFormed};
 ghost use Rattle.state_bytes.specs.Layout.{stateOf, Onward, Clocked, stateOk, isQuiet};
-ghost use Rattle.whitherhaul.specs.Replicas.{KeptIn, mayBeUsual, CreateRan, RecoverRan, MessageRan, IdleRan, Ends};
+ghost use Rattle.whitherhaul.specs.Replicas.{KeptIn, mayBeUsual, CreateRan, RecoverRan, MessageRan, IdleRan, TakingsRan, Ends};
+ghost use Rattle.outside.specs.Takings.{taken};
 ghost use Rattle.numbers.specs.Lending.{was, last};
 ghost use Rattle.book.specs.Memory.{unlent};
 use numbers::View;
@@ -14,7 +15,7 @@ use state::Returned;
 
 // The state after a call that wasn't refused; a refused one leaves the run as it was.
 fn keep(a: Returned, state: &mut [u8]) -> u8
-    requires { ⌜ length (now state) ≡ 146 ⌝ }
+    requires { ⌜ length (now state) ≡ 154 ⌝ }
     ensures { λ r. ⌜ KeptIn a (was state) (last state) r ⌝ }
 {
     if a.code != 0 {
@@ -70,7 +71,7 @@ pub extern "C" fn whitherhaul_create(
 ) -> u8
     ensures { λ r. ⌜ Ends (CreateRan (record { n = n; id = id; timeout = timeout; room = room; members = members }) (was state)) r (0 ∷ 0 ∷ []) state log results totals acks stored table old unlent unlent ⌝ }
 {
-    if state.len() != 146 {
+    if state.len() != 154 {
         return 1;
     }
     if !config::sizes_ok(n, id, timeout, room, members) {
@@ -107,7 +108,7 @@ pub extern "C" fn whitherhaul_recover(
     ensures { λ r. ⌜ Ends (RecoverRan (record { n = n; id = id; timeout = timeout; room = room; members = members }) (record { 0 = view }) nonce (was state)) r (last counts) state log results totals acks stored table old out unlent ⌝ }
 {
     *counts = [0, 0];
-    if state.len() != 146 {
+    if state.len() != 154 {
         return 1;
     }
     if !config::sizes_ok(n, id, timeout, room, members) {
@@ -226,14 +227,13 @@ fn message_usual(
 }
 
 // Whether a frame may be a usual one: it names a kind, and no report is there.
-fn may_be_usual<'a>(state: &'a [u8], frame: &'a [u8]) -> bool
-    requires { ⌜ stateOk (now state) ≡ true ⌝ }
-    ensures { λ r. ⌜ r ≡ mayBeUsual (was state) (was frame) ⌝ }
+fn may_be_usual(quiet: bool, frame: &[u8]) -> bool
+    ensures { λ r. ⌜ r ≡ mayBeUsual quiet (was frame) ⌝ }
 {
     if frame.len() < 7 {
         return false;
     }
-    state_bytes::is_quiet(state)
+    quiet
 }
 
 // on_message, and with refusal 2 the offset of the frame's first wrong byte, else 0. The same call stands once for each kind of a usual frame, and nothing is written between the look at the kind and the call: so the compiler makes of each the code of that kind alone.
@@ -257,10 +257,11 @@ pub extern "C" fn whitherhaul_on_message(
 {
     *counts = [0, 0];
     *offset = 0;
-    if !state_bytes::state_ok(state) {
+    let l = state_bytes::look_over(state);
+    if !l.ok {
         return 1;
     }
-    if !may_be_usual(state, frame) {
+    if !may_be_usual(l.quiet, frame) {
         return message_whole(
             state,
             frame,
@@ -460,10 +461,11 @@ pub extern "C" fn whitherhaul_on_idle(
     ensures { λ r. ⌜ Ends (IdleRan (was state)) r (last counts) state log results totals acks stored table old out reps ⌝ }
 {
     *counts = [0, 0];
-    if !state_bytes::state_ok(state) {
+    let l = state_bytes::look_over(state);
+    if !l.ok {
         return 1;
     }
-    if !state_bytes::is_quiet(state) {
+    if !l.quiet {
         return tick_whole(
             state,
             log,
@@ -491,4 +493,18 @@ pub extern "C" fn whitherhaul_on_idle(
         reps,
         counts,
     )
+}
+
+// takings: the sum over all members, 0 where it is refused. Nothing is written but the answer.
+#[no_mangle]
+pub extern "C" fn whitherhaul_takings(state: &[u8], cents: &mut u64) -> u8
+    ensures { λ r. ⌜ TakingsRan (was state) (taken r (last cents)) ⌝ }
+{
+    *cents = 0;
+    if !state_bytes::look_over(state).ok {
+        return 1;
+    }
+    let a = replica::call::takings(state_bytes::read_state(state));
+    *cents = a.cents;
+    a.code
 }

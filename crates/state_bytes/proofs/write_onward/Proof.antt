@@ -1,12 +1,13 @@
 -- `state_bytes::write_onward` meets its contract. Assumes nothing.
 use mathlib.Core.Path.{refl}
+use Prim.Native.Nat.{_^_, _<_}
 use native.Mathlib.Omega.{arith}
 use lib.ListN.{length-take, length-drop}
 use Rattle.numbers.specs.Numbers.{big, Bytes}
 use Rattle.numbers.proofs.RunLaws.{over-lend}
 use Rattle.state_bytes.specs.Layout.{encodeSetup, encodePlace}
 use Rattle.state_bytes.proofs.ReadLaws.{state-long}
-use Rattle.state_bytes.proofs.OnwardLaws.{setup-front, status-front, onward-held}
+use Rattle.state_bytes.proofs.OnwardLaws.{setup-front, status-front, onward-front, onward-long, onward-held}
 use borrow.Author.Needs.{needs}
 use Rattle.state_bytes.proofs.write_onward.Statement.{statement}
 use Rattle.state_bytes.proofs.write_onward.Tie as tie
@@ -47,15 +48,26 @@ part-write-flag-start c = let l = state-long _ (c .before .before .before .befor
 write-flag-requires : tie.Need-write-flag-requires
 write-flag-requires c κs = let l = state-long _ (c .before .before .before .before .before .before .before .before .before .before .before .before .before .before .before .before .pre .0) in search needs
 
+sub-write-u64 : tie.Need-sub-write-u64
+sub-write-u64 c = let l = state-long _ (c .before .before .before .before .before .before .before .before .before .before .before .before .before .before .before .before .before .before .before .pre .0) in search needs
+
+part-write-u64-start : tie.Need-part-write-u64-start
+part-write-u64-start c = let l = state-long _ (c .before .before .before .before .before .before .before .before .before .before .before .before .before .before .before .before .before .before .before .pre .0) in search needs
+
+write-u64-requires : tie.Need-write-u64-requires
+write-u64-requires c κs = let l = state-long _ (c .before .before .before .before .before .before .before .before .before .before .before .before .before .before .before .before .before .before .before .before .pre .0) in search needs
+
 returns : tie.Need-returns
 unfolding big encodeSetup encodePlace
 returns c =
-    let c4 = c .before .before in
+    let c5 = c .before .before in
+    let c4 = c5 .before .before .before .before in
     let c3 = c4 .before .before .before .before .before in
     let c2 = c3 .before .before .before .before in
     let c1 = c2 .before .before .before .before in
     let known = c1 .before .before .before in
     let s = known .before in
+    let t = s .args .s in
     let g = s .good .1 .0 in
     let b : Bytes (s .args .run .now) = λ i. omega (arith, known .slice-known .given i) in
     let s1 = setup-front _ b (s .pre .0) in
@@ -63,7 +75,12 @@ returns c =
     let s3 = over-lend _ _ _ 22 refl (status-front _ b (s .pre .0) (c1 .before .status-number .ensures) s2) (c2 .write-u32 .ensures) in
     let s4 = over-lend _ _ _ 26 refl s3 (c3 .write-u322 .ensures) in
     let s5 = over-lend _ _ _ 30 refl s4 (c4 .write-flag .ensures) in
-    onward-held _ b (s .pre .0) (s .pre .1) (omega (arith, g)) (omega (arith, g)) s5
+    let p : t .op .0 < 2 ^ 32 = omega (arith, g) in
+    let q : t .commit .0 < 2 ^ 32 = omega (arith, g) in
+    let x = t .status in
+    let h = t .clock .heard in
+    let s6 = over-lend _ _ _ 146 (onward-long _ b (s .pre .0) x (t .op) (t .commit) h p q) (onward-front _ b (s .pre .0) x (t .op) (t .commit) h p q s5) (c5 .write-u64 .ensures) in
+    onward-held _ b (s .pre .0) x (t .op) (t .commit) h p q (s .pre .1) refl refl refl refl (omega (arith, g)) s6
 
 pub write-onward-spec : {M : Type 1} → statement M
 write-onward-spec =
@@ -86,5 +103,9 @@ write-onward-spec =
     part-write-flag-start
     (λ c. search needs)
     write-flag-requires
+    sub-write-u64
+    part-write-u64-start
+    (λ c. search needs)
+    write-u64-requires
     (λ c. search needs)
     returns)

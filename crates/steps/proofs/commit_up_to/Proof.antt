@@ -12,7 +12,7 @@ commit-up-to-requires : tie.Need-commit-up-to-requires
 commit-up-to-requires c κs = let a = c .before .before .before .before .before .before .before .before .before .args in commits-fit (a .s) (a .k) (a .log .now) (a .results .now) (a .totals .now) (c .before .before .before .before .before .before .before .before .before .pre .0) (c .before .before .before .before .before .before .before .before .before .pre .1) (c .before .before .before .if1 .left)
 
 returns-2 : tie.Need-returns-2
-returns-2 c = let a = c .before .before .before .before .before .before .before .before .before .before .before .before .before .before .before .before .args in commits (a .s) (a .k) (a .log .now) (a .results .now) (a .totals .now) _ _ _ (c .before .before .before .before .before .before .before .before .before .before .if1 .left) (c .with-log .ensures) (c .before .before .before .before .before .before .commit-up-to .ensures)
+returns-2 c = let a = c .before .before .before .before .before .before .before .before .before .before .before .before .before .before .before .args in commits (a .s) (a .k) (a .log .now) (a .results .now) (a .totals .now) _ _ _ _ (c .before .before .before .before .before .before .before .before .before .if1 .left) (c .with-commit .ensures) (c .before .before .before .before .before .commit-up-to .ensures)
 
 pub commit-up-to-spec : {M : Type 1} → statement M
 commit-up-to-spec =

@@ -1,8 +1,7 @@
 -- `outside::sound::is_sound` meets its contract. Assumes nothing.
-use borrow.Author.Tests.{lt-ltb, le-ltb}
-use native.Mathlib.Omega.{arith}
-use Rattle.config.proofs.SetupLaws.{sized}
-use Rattle.numbers.specs.Words.{if_then_else_}
+use mathlib.Core.Path.{sym, _∙_}
+use borrow.Author.Tests.{not-true, not-false}
+use Rattle.numbers.proofs.WordLaws.{if-true, if-false}
 use Rattle.outside.specs.Sound.{sound}
 use Rattle.outside.proofs.SoundLaws.{creatable-is}
 use borrow.Author.Needs.{needs}
@@ -10,23 +9,15 @@ use Rattle.outside.proofs.sound.is_sound.Statement.{statement}
 use Rattle.outside.proofs.sound.is_sound.Tie as tie
 
 returns : tie.Need-returns
-unfolding sound if_then_else_
-returns c = rw (← c .before .is-creatable .ensures, c .if1 .taken)
+unfolding sound
+returns c = let k = c .before .is-creatable in sym (if-false _ _ _ (sym (k .ensures) ∙ not-true (k .result) (c .if1 .taken)))
+
+numbers-sound-requires : tie.Need-numbers-sound-requires
+numbers-sound-requires c κs = let a = c .before .before .before .args in let k = c .before .is-creatable in creatable-is (a .s .setup) (a .l) (k .result) (k .ensures) (c .if1 .left) .0
 
 returns-2 : tie.Need-returns-2
-unfolding sound if_then_else_
-returns-2 c = let a = c .before .before .before .before .before .args in rw (← c .before .before .before .is-creatable .ensures, c .before .before .if1 .left, lt-ltb (a .s .op .0) (a .s .commit .0) (c .if2 .taken))
-
-returns-3 : tie.Need-returns-3
-unfolding sound if_then_else_
-returns-3 c = let a = c .before .before .before .before .before .before .before .args in rw (← c .before .before .before .before .before .is-creatable .ensures, c .before .before .before .before .if1 .left, le-ltb (a .s .op .0) (a .s .commit .0) (c .before .before .if2 .left), lt-ltb (a .s .setup .room) (a .s .op .0) (c .if3 .taken))
-
-gathered-ok-requires : tie.Need-gathered-ok-requires
-gathered-ok-requires c κs = let a = c .before .before .before .before .before .before .before .before .args in let z = sized (a .s .setup) (creatable-is (a .s .setup) (a .l) (c .before .before .before .before .before .before .is-creatable .result) (c .before .before .before .before .before .before .is-creatable .ensures) (c .before .before .before .before .before .if1 .left) .0) in omega (arith, z .seven)
-
-returns-4 : tie.Need-returns-4
-unfolding sound if_then_else_
-returns-4 c = let a = c .before .before .before .before .before .before .before .before .before .args in rw (← c .before .before .before .before .before .before .before .is-creatable .ensures, c .before .before .before .before .before .before .if1 .left, le-ltb (a .s .op .0) (a .s .commit .0) (c .before .before .before .before .if2 .left), le-ltb (a .s .setup .room) (a .s .op .0) (c .before .before .if3 .left)) (c .gathered-ok .ensures)
+unfolding sound
+returns-2 c = let k = c .before .before .is-creatable in c .numbers-sound .ensures ∙ sym (if-true _ _ _ (sym (k .ensures) ∙ not-false (k .result) (c .before .if1 .left)))
 
 pub is-sound-spec : {M : Type 1} → statement M
-is-sound-spec = tie.close (tie.spec (λ c κs. search needs) returns returns-2 returns-3 gathered-ok-requires returns-4)
+is-sound-spec = tie.close (tie.spec (λ c κs. search needs) returns numbers-sound-requires returns-2)

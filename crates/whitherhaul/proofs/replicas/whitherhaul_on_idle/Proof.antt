@@ -1,25 +1,19 @@
 -- `whitherhaul::replicas::whitherhaul_on_idle` meets its contract. Assumes nothing.
-use native.Mathlib.Omega.{arith}
-use mathlib.Core.Path.{sym, _∙_}
-use borrow.Author.Tests.{not-true, not-false}
+use borrow.Author.Tests.{not-false}
 use Rattle.replica.specs.Lent.{lent}
-use Rattle.state_bytes.proofs.ReadLaws.{state-long}
-use Rattle.whitherhaul.proofs.ReplicaLaws.{no-tick}
+use Rattle.whitherhaul.proofs.ReplicaLaws.{no-tick, looks-none, looks-ok, looks-quiet}
 use borrow.Author.Needs.{needs}
 use Rattle.whitherhaul.proofs.replicas.whitherhaul_on_idle.Statement.{statement}
 use Rattle.whitherhaul.proofs.replicas.whitherhaul_on_idle.Tie as tie
 
 returns : tie.Need-returns
-returns c = no-tick (c .before .before .before .before .before .before .before .before .before .before .before .before .before .before .args .state .now) (lent (c .before .before .before .before .before .before .before .before .before .before .before .before .before .before .args .log .now) (c .before .before .before .before .before .before .before .before .before .before .before .before .before .before .args .results .now) (c .before .before .before .before .before .before .before .before .before .before .before .before .before .before .args .totals .now) (c .before .before .before .before .before .before .before .before .before .before .before .before .before .before .args .acks .now) (c .before .before .before .before .before .before .before .before .before .before .before .before .before .before .args .stored .now) (c .before .before .before .before .before .before .before .before .before .before .before .before .before .before .args .table .now) (c .before .before .before .before .before .before .before .before .before .before .before .before .before .before .args .old .now) (c .before .before .before .before .before .before .before .before .before .before .before .before .before .before .args .out .now) (c .before .before .before .before .before .before .before .before .before .before .before .before .before .before .args .reps .now)) (sym (c .before .state-ok .ensures) ∙ not-true (c .before .state-ok .result) (c .if1 .taken))
-
-is-quiet-requires : tie.Need-is-quiet-requires
-is-quiet-requires c κs = omega (arith, state-long _ (sym (c .before .before .state-ok .ensures) ∙ not-false (c .before .before .state-ok .result) (c .before .if1 .left)))
+returns c = let a = c .before .before .before .before .before .before .before .before .before .before .before .before .before .before .before .args in no-tick (a .state .now) (lent (a .log .now) (a .results .now) (a .totals .now) (a .acks .now) (a .stored .now) (a .table .now) (a .old .now) (a .out .now) (a .reps .now)) (looks-none _ (c .before .before .look-over .ensures) (c .if1 .taken))
 
 tick-whole-requires : tie.Need-tick-whole-requires
-tick-whole-requires c κs = (sym (c .before .before .before .before .before .before .before .before .before .before .before .before .before .before .before .state-ok .ensures) ∙ not-false (c .before .before .before .before .before .before .before .before .before .before .before .before .before .before .before .state-ok .result) (c .before .before .before .before .before .before .before .before .before .before .before .before .before .before .if1 .left))
+tick-whole-requires c κs = looks-ok _ (c .before .before .before .before .before .before .before .before .before .before .before .before .before .before .before .look-over .ensures) (c .before .before .before .before .before .before .before .before .before .before .before .before .before .if1 .left)
 
 tick-usual-requires : tie.Need-tick-usual-requires
-tick-usual-requires c κs = ((sym (c .before .before .before .before .before .before .before .before .before .before .before .before .before .before .before .state-ok .ensures) ∙ not-false (c .before .before .before .before .before .before .before .before .before .before .before .before .before .before .before .state-ok .result) (c .before .before .before .before .before .before .before .before .before .before .before .before .before .before .if1 .left)), sym (c .before .before .before .before .before .before .before .before .before .before .before .before .is-quiet .ensures) ∙ not-false (c .before .before .before .before .before .before .before .before .before .before .before .before .is-quiet .result) (c .before .before .before .before .before .before .before .before .before .before .before .if2 .left))
+tick-usual-requires c κs = let l = c .before .before .before .before .before .before .before .before .before .before .before .before .before .before .before .look-over in (looks-ok _ (l .ensures) (c .before .before .before .before .before .before .before .before .before .before .before .before .before .if1 .left), looks-quiet _ (l .ensures) (not-false (l .result .quiet) (c .before .before .before .before .before .before .before .before .before .before .before .if2 .left)))
 
 same-length-2 : tie.Need-same-length-2
 same-length-2 c = c .before .before .before .before .before .before .before .before .before .before .before .before .before .before .before .before .before .before .before .before .tick-whole .kept .0
@@ -94,7 +88,6 @@ whitherhaul-on-idle-spec =
     (λ c κs. search needs)
     (λ c. search needs)
     returns
-    is-quiet-requires
     tick-whole-requires
     same-length-2
     same-length-3

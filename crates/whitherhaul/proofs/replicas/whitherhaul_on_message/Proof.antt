@@ -1,22 +1,17 @@
 -- `whitherhaul::replicas::whitherhaul_on_message` meets its contract. Assumes nothing.
 use native.Mathlib.Omega.{arith}
-use mathlib.Core.Path.{sym, _∙_}
-use borrow.Author.Tests.{not-true, not-false}
 use Rattle.frames.proofs.PointLaws.{other-points}
 use Rattle.replica.specs.Lent.{lent}
-use Rattle.whitherhaul.proofs.ReplicaLaws.{no-message, may-is}
+use Rattle.whitherhaul.proofs.ReplicaLaws.{no-message, looks-none, looks-ok, looks-quiet, may-is}
 use borrow.Author.Needs.{needs}
 use Rattle.whitherhaul.proofs.replicas.whitherhaul_on_message.Statement.{statement}
 use Rattle.whitherhaul.proofs.replicas.whitherhaul_on_message.Tie as tie
 
 returns : tie.Need-returns
-returns c = (no-message (c .before .before .before .before .before .before .before .before .before .before .before .before .before .before .before .args .state .now) (c .before .before .before .before .before .before .before .before .before .before .before .before .before .before .before .args .frame .now) (lent (c .before .before .before .before .before .before .before .before .before .before .before .before .before .before .before .args .log .now) (c .before .before .before .before .before .before .before .before .before .before .before .before .before .before .before .args .results .now) (c .before .before .before .before .before .before .before .before .before .before .before .before .before .before .before .args .totals .now) (c .before .before .before .before .before .before .before .before .before .before .before .before .before .before .before .args .acks .now) (c .before .before .before .before .before .before .before .before .before .before .before .before .before .before .before .args .stored .now) (c .before .before .before .before .before .before .before .before .before .before .before .before .before .before .before .args .table .now) (c .before .before .before .before .before .before .before .before .before .before .before .before .before .before .before .args .old .now) (c .before .before .before .before .before .before .before .before .before .before .before .before .before .before .before .args .out .now) (c .before .before .before .before .before .before .before .before .before .before .before .before .before .before .before .args .reps .now)) (sym (c .before .state-ok .ensures) ∙ not-true (c .before .state-ok .result) (c .if1 .taken)), other-points (c .before .before .before .before .before .before .before .before .before .before .before .before .before .before .before .args .frame .now) 1 (λ e. omega (arith, e)))
-
-may-be-usual-requires : tie.Need-may-be-usual-requires
-may-be-usual-requires c κs = (sym (c .before .before .state-ok .ensures) ∙ not-false (c .before .before .state-ok .result) (c .before .if1 .left))
+returns c = let a = c .before .before .before .before .before .before .before .before .before .before .before .before .before .before .before .before .args in (no-message (a .state .now) (a .frame .now) (lent (a .log .now) (a .results .now) (a .totals .now) (a .acks .now) (a .stored .now) (a .table .now) (a .old .now) (a .out .now) (a .reps .now)) (looks-none _ (c .before .before .look-over .ensures) (c .if1 .taken)), other-points (a .frame .now) 1 (λ e. omega (arith, e)))
 
 message-whole-requires : tie.Need-message-whole-requires
-message-whole-requires c κs = (sym (c .before .before .before .before .before .before .before .before .before .before .before .before .before .before .before .before .state-ok .ensures) ∙ not-false (c .before .before .before .before .before .before .before .before .before .before .before .before .before .before .before .before .state-ok .result) (c .before .before .before .before .before .before .before .before .before .before .before .before .before .before .before .if1 .left))
+message-whole-requires c κs = looks-ok _ (c .before .before .before .before .before .before .before .before .before .before .before .before .before .before .before .before .look-over .ensures) (c .before .before .before .before .before .before .before .before .before .before .before .before .before .before .if1 .left)
 
 same-length-2 : tie.Need-same-length-2
 same-length-2 c = c .before .before .before .before .before .before .before .before .before .before .before .before .before .before .before .before .before .before .before .before .message-whole .kept .0
@@ -52,25 +47,25 @@ returns-2 : tie.Need-returns-2
 returns-2 c = c .before .before .before .before .before .before .before .before .before .before .before .before .before .before .before .before .before .before .before .before .message-whole .ensures
 
 kind-of-requires : tie.Need-kind-of-requires
-kind-of-requires c κs = omega (arith, may-is (c .before .before .before .before .before .before .before .before .before .before .before .before .before .before .before .before .before .before .args .state .now) (c .before .before .before .before .before .before .before .before .before .before .before .before .before .before .before .before .before .before .args .frame .now) (c .before .may-be-usual .ensures) (c .if2 .left) .0)
+kind-of-requires c κs = omega (arith, may-is _ (c .before .before .before .before .before .before .before .before .before .before .before .before .before .before .before .before .before .before .args .frame .now) (c .before .may-be-usual .ensures) (c .if2 .left) .0)
 
 message-usual-requires : tie.Need-message-usual-requires
-message-usual-requires c κs = ((sym (c .before .before .before .before .before .before .before .before .before .before .before .before .before .before .before .before .before .before .state-ok .ensures) ∙ not-false (c .before .before .before .before .before .before .before .before .before .before .before .before .before .before .before .before .before .before .state-ok .result) (c .before .before .before .before .before .before .before .before .before .before .before .before .before .before .before .before .before .if1 .left)), may-is (c .before .before .before .before .before .before .before .before .before .before .before .before .before .before .before .before .before .before .before .before .before .before .before .before .before .before .before .before .before .before .before .before .args .state .now) (c .before .before .before .before .before .before .before .before .before .before .before .before .before .before .before .before .before .before .before .before .before .before .before .before .before .before .before .before .before .before .before .before .args .frame .now) (c .before .before .before .before .before .before .before .before .before .before .before .before .before .before .before .may-be-usual .ensures) (c .before .before .before .before .before .before .before .before .before .before .before .before .before .before .if2 .left) .1)
+message-usual-requires c κs = let l = c .before .before .before .before .before .before .before .before .before .before .before .before .before .before .before .before .before .before .look-over .ensures in (looks-ok _ l (c .before .before .before .before .before .before .before .before .before .before .before .before .before .before .before .before .if1 .left), looks-quiet _ l (may-is _ (c .before .before .before .before .before .before .before .before .before .before .before .before .before .before .before .before .before .before .before .before .before .before .before .before .before .before .before .before .before .before .before .before .args .frame .now) (c .before .before .before .before .before .before .before .before .before .before .before .before .before .before .before .may-be-usual .ensures) (c .before .before .before .before .before .before .before .before .before .before .before .before .before .before .if2 .left) .1))
 
 message-usual-requires-2 : tie.Need-message-usual-requires-2
-message-usual-requires-2 c κs = ((sym (c .before .before .before .before .before .before .before .before .before .before .before .before .before .before .before .before .before .before .state-ok .ensures) ∙ not-false (c .before .before .before .before .before .before .before .before .before .before .before .before .before .before .before .before .before .before .state-ok .result) (c .before .before .before .before .before .before .before .before .before .before .before .before .before .before .before .before .before .if1 .left)), may-is (c .before .before .before .before .before .before .before .before .before .before .before .before .before .before .before .before .before .before .before .before .before .before .before .before .before .before .before .before .before .before .before .before .args .state .now) (c .before .before .before .before .before .before .before .before .before .before .before .before .before .before .before .before .before .before .before .before .before .before .before .before .before .before .before .before .before .before .before .before .args .frame .now) (c .before .before .before .before .before .before .before .before .before .before .before .before .before .before .before .may-be-usual .ensures) (c .before .before .before .before .before .before .before .before .before .before .before .before .before .before .if2 .left) .1)
+message-usual-requires-2 c κs = let l = c .before .before .before .before .before .before .before .before .before .before .before .before .before .before .before .before .before .before .look-over .ensures in (looks-ok _ l (c .before .before .before .before .before .before .before .before .before .before .before .before .before .before .before .before .if1 .left), looks-quiet _ l (may-is _ (c .before .before .before .before .before .before .before .before .before .before .before .before .before .before .before .before .before .before .before .before .before .before .before .before .before .before .before .before .before .before .before .before .args .frame .now) (c .before .before .before .before .before .before .before .before .before .before .before .before .before .before .before .may-be-usual .ensures) (c .before .before .before .before .before .before .before .before .before .before .before .before .before .before .if2 .left) .1))
 
 message-usual-requires-3 : tie.Need-message-usual-requires-3
-message-usual-requires-3 c κs = ((sym (c .before .before .before .before .before .before .before .before .before .before .before .before .before .before .before .before .before .before .state-ok .ensures) ∙ not-false (c .before .before .before .before .before .before .before .before .before .before .before .before .before .before .before .before .before .before .state-ok .result) (c .before .before .before .before .before .before .before .before .before .before .before .before .before .before .before .before .before .if1 .left)), may-is (c .before .before .before .before .before .before .before .before .before .before .before .before .before .before .before .before .before .before .before .before .before .before .before .before .before .before .before .before .before .before .before .before .args .state .now) (c .before .before .before .before .before .before .before .before .before .before .before .before .before .before .before .before .before .before .before .before .before .before .before .before .before .before .before .before .before .before .before .before .args .frame .now) (c .before .before .before .before .before .before .before .before .before .before .before .before .before .before .before .may-be-usual .ensures) (c .before .before .before .before .before .before .before .before .before .before .before .before .before .before .if2 .left) .1)
+message-usual-requires-3 c κs = let l = c .before .before .before .before .before .before .before .before .before .before .before .before .before .before .before .before .before .before .look-over .ensures in (looks-ok _ l (c .before .before .before .before .before .before .before .before .before .before .before .before .before .before .before .before .if1 .left), looks-quiet _ l (may-is _ (c .before .before .before .before .before .before .before .before .before .before .before .before .before .before .before .before .before .before .before .before .before .before .before .before .before .before .before .before .before .before .before .before .args .frame .now) (c .before .before .before .before .before .before .before .before .before .before .before .before .before .before .before .may-be-usual .ensures) (c .before .before .before .before .before .before .before .before .before .before .before .before .before .before .if2 .left) .1))
 
 message-usual-requires-4 : tie.Need-message-usual-requires-4
-message-usual-requires-4 c κs = ((sym (c .before .before .before .before .before .before .before .before .before .before .before .before .before .before .before .before .before .before .state-ok .ensures) ∙ not-false (c .before .before .before .before .before .before .before .before .before .before .before .before .before .before .before .before .before .before .state-ok .result) (c .before .before .before .before .before .before .before .before .before .before .before .before .before .before .before .before .before .if1 .left)), may-is (c .before .before .before .before .before .before .before .before .before .before .before .before .before .before .before .before .before .before .before .before .before .before .before .before .before .before .before .before .before .before .before .before .args .state .now) (c .before .before .before .before .before .before .before .before .before .before .before .before .before .before .before .before .before .before .before .before .before .before .before .before .before .before .before .before .before .before .before .before .args .frame .now) (c .before .before .before .before .before .before .before .before .before .before .before .before .before .before .before .may-be-usual .ensures) (c .before .before .before .before .before .before .before .before .before .before .before .before .before .before .if2 .left) .1)
+message-usual-requires-4 c κs = let l = c .before .before .before .before .before .before .before .before .before .before .before .before .before .before .before .before .before .before .look-over .ensures in (looks-ok _ l (c .before .before .before .before .before .before .before .before .before .before .before .before .before .before .before .before .if1 .left), looks-quiet _ l (may-is _ (c .before .before .before .before .before .before .before .before .before .before .before .before .before .before .before .before .before .before .before .before .before .before .before .before .before .before .before .before .before .before .before .before .args .frame .now) (c .before .before .before .before .before .before .before .before .before .before .before .before .before .before .before .may-be-usual .ensures) (c .before .before .before .before .before .before .before .before .before .before .before .before .before .before .if2 .left) .1))
 
 message-usual-requires-5 : tie.Need-message-usual-requires-5
-message-usual-requires-5 c κs = ((sym (c .before .before .before .before .before .before .before .before .before .before .before .before .before .before .before .before .before .before .state-ok .ensures) ∙ not-false (c .before .before .before .before .before .before .before .before .before .before .before .before .before .before .before .before .before .before .state-ok .result) (c .before .before .before .before .before .before .before .before .before .before .before .before .before .before .before .before .before .if1 .left)), may-is (c .before .before .before .before .before .before .before .before .before .before .before .before .before .before .before .before .before .before .before .before .before .before .before .before .before .before .before .before .before .before .before .before .args .state .now) (c .before .before .before .before .before .before .before .before .before .before .before .before .before .before .before .before .before .before .before .before .before .before .before .before .before .before .before .before .before .before .before .before .args .frame .now) (c .before .before .before .before .before .before .before .before .before .before .before .before .before .before .before .may-be-usual .ensures) (c .before .before .before .before .before .before .before .before .before .before .before .before .before .before .if2 .left) .1)
+message-usual-requires-5 c κs = let l = c .before .before .before .before .before .before .before .before .before .before .before .before .before .before .before .before .before .before .look-over .ensures in (looks-ok _ l (c .before .before .before .before .before .before .before .before .before .before .before .before .before .before .before .before .if1 .left), looks-quiet _ l (may-is _ (c .before .before .before .before .before .before .before .before .before .before .before .before .before .before .before .before .before .before .before .before .before .before .before .before .before .before .before .before .before .before .before .before .args .frame .now) (c .before .before .before .before .before .before .before .before .before .before .before .before .before .before .before .may-be-usual .ensures) (c .before .before .before .before .before .before .before .before .before .before .before .before .before .before .if2 .left) .1))
 
 message-whole-requires-2 : tie.Need-message-whole-requires-2
-message-whole-requires-2 c κs = (sym (c .before .before .before .before .before .before .before .before .before .before .before .before .before .before .before .before .before .before .state-ok .ensures) ∙ not-false (c .before .before .before .before .before .before .before .before .before .before .before .before .before .before .before .before .before .before .state-ok .result) (c .before .before .before .before .before .before .before .before .before .before .before .before .before .before .before .before .before .if1 .left))
+message-whole-requires-2 c κs = looks-ok _ (c .before .before .before .before .before .before .before .before .before .before .before .before .before .before .before .before .before .before .look-over .ensures) (c .before .before .before .before .before .before .before .before .before .before .before .before .before .before .before .before .if1 .left)
 
 same-length-12 : tie.Need-same-length-12
 same-length-12 c = c .before .before .before .before .before .before .before .before .before .before .before .before .before .before .before .before .before .before .before .before .message-usual .kept .0
@@ -277,7 +272,7 @@ whitherhaul-on-message-spec =
     (λ c κs. search needs)
     (λ c. search needs)
     returns
-    may-be-usual-requires
+    (λ c κs. search needs)
     message-whole-requires
     same-length-2
     same-length-3
