@@ -35,12 +35,14 @@
 //! let reply = answer.expect("two of three hold the charge");
 //! assert_eq!((reply.outcome, reply.total), (Outcome::Fee, 4_500));
 //! assert_eq!(desk.pending(), None);
-//! assert_eq!(replicas[0].total(3), 4_500);
+//! assert_eq!((replicas[0].total(3), replicas[0].takings()?), (4_500, 4_500));
 //! # Ok(())
 //! # }
 //! ```
 //!
 //! Where the desk is in the same process, [`Sent::replies`] hands it each [`Reply`] by value.
+//! [`Replica::takings`] is the sum over all members, kept up to date, so that it may be asked for
+//! as often as one likes.
 //!
 //! # A refusal
 //!

@@ -19,7 +19,7 @@ pub(crate) use replica::Bytes;
 #[cfg(feature = "replica")]
 pub use replica::{
     client_create, client_idle, client_reply, client_request, create, on_idle, on_message,
-    read_reply, recover, state, Counts, Memory, CLIENT,
+    read_reply, recover, state, takings, Counts, Memory, CLIENT,
 };
 
 /// What stands in an answer before a call, which writes to each, refused or not.

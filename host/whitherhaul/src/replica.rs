@@ -223,6 +223,40 @@ impl Replica {
         u64_at(&self.memory.totals, 8 * member as usize)
     }
 
+    /// The takings, in cents: the totals of all members, added up. The sum is kept in the state and
+    /// only read here, so that it takes the same time for one member and for 4,096. It is proved
+    /// that after every call, refused ones included, it is what the addition gives:
+    ///
+    /// ```
+    /// use whitherhaul::{Client, Operation, Replica, Setup};
+    ///
+    /// # fn main() -> Result<(), whitherhaul::Refusal> {
+    /// let setup = Setup { replicas: 3, id: 0, timeout: 3, room: 8, members: 8 };
+    /// let mut replica = Replica::new(&setup)?;
+    /// let mut desk = Client::new(3, 7)?;
+    /// let mut seen = Vec::new();
+    /// for (operation, member, cents, op) in [
+    ///     (Operation::Fee, 3, 4_500, 1),
+    ///     (Operation::Fee, 5, 1_000, 2),
+    ///     (Operation::Refund, 3, 500, 3),
+    /// ] {
+    ///     replica.on_message(desk.on_request(operation, member, cents)?.frame)?;
+    ///     replica.on_message(&[0, 0, 0, 12, 1, 3, 0, 0, 0, 0, 0, 0, 0, 0, op, 1])?; // PrepareOk of 1
+    ///     let added: u64 = (0..setup.members).map(|member| replica.total(member)).sum();
+    ///     assert_eq!(replica.takings()?, added);
+    ///     seen.push(added);
+    /// }
+    /// assert_eq!(seen, [4_500, 5_500, 5_000]);
+    /// # Ok(())
+    /// # }
+    /// ```
+    ///
+    /// Refusal 1 where [`Replica::parts_mut`] left a state that no call takes, and never else.
+    pub fn takings(&self) -> Result<u64, Refusal> {
+        let (number, cents) = raw::takings(&self.memory.state);
+        Refusal::check(number).map(|()| cents)
+    }
+
     /// The journal's frames of the entries behind op number `op` that are committed: what an owner
     /// who has those up to `op` on disk appends to them. Refusal 1 where `op` is above the commit
     /// number. [`Journal`](crate::Journal) reads them back.
@@ -248,7 +282,8 @@ impl Replica {
     }
 
     /// The same to be changed. A run that no call produced may be refused by 1; where it isn't,
-    /// only safety and ending are promised. The methods that read panic where a run was shortened.
+    /// only safety and ending are promised. The methods that read panic where a run was shortened,
+    /// but for [`Replica::takings`], which is refused.
     pub fn parts_mut(&mut self) -> &mut Memory {
         &mut self.memory
     }
@@ -272,7 +307,8 @@ impl fmt::Debug for Replica {
                 .field("status", &self.status())
                 .field("view", &self.view())
                 .field("op_number", &self.op_number())
-                .field("commit_number", &self.commit_number());
+                .field("commit_number", &self.commit_number())
+                .field("takings", &u64_at(&self.memory.state, state::TAKINGS));
         }
         shown.finish_non_exhaustive()
     }

@@ -145,9 +145,10 @@ fn a_replica_in_a_line() {
     let replica = charged();
     assert_eq!(
         shown(&replica),
-        "Replica { id: 0, replicas: 7, status: Normal, view: 0, op_number: 1, commit_number: 0, .. }"
+        "Replica { id: 0, replicas: 7, status: Normal, view: 0, op_number: 1, commit_number: 0, \
+            takings: 0, .. }"
     );
-    let lengths = "Memory { state: 146 bytes, log: 131072 bytes, results: 36864 bytes, \
+    let lengths = "Memory { state: 154 bytes, log: 131072 bytes, results: 36864 bytes, \
         totals: 32768 bytes, acks: 4096 bytes, stored: 917504 bytes, table: 102400 bytes, \
         old: 102400 bytes }";
     assert_eq!(shown(replica.parts()), lengths);
@@ -156,7 +157,7 @@ fn a_replica_in_a_line() {
 #[test]
 fn a_replica_whose_runs_were_shortened() {
     let mut replica = charged();
-    for length in [145, 12, 0] {
+    for length in [153, 12, 0] {
         replica.parts_mut().state.truncate(length);
         assert_eq!(
             shown(&replica),

@@ -8,7 +8,7 @@ use std::fmt;
 /// [`Memory::of`].
 #[derive(Default, PartialEq, Eq)]
 pub struct Memory {
-    /// The state, 146 bytes: see [`state`].
+    /// The state, 154 bytes: see [`state`].
     pub state: Vec<u8>,
     /// Entries of 32 bytes, as on the wire.
     pub log: Vec<u8>,
@@ -101,7 +101,7 @@ impl fmt::Debug for Bytes {
 /// Where the parts of the state run stand; all numbers are big-endian.
 pub mod state {
     /// How long the run is.
-    pub const LENGTH: usize = 146;
+    pub const LENGTH: usize = 154;
     /// n (1), id (1), T (2), L (4), M (4).
     pub const SETUP: usize = 0;
     /// L (4), of the setup.
@@ -130,6 +130,8 @@ pub mod state {
     pub const REPORTS: usize = 48;
     /// How long a report is.
     pub const REPORT: usize = 14;
+    /// The takings (8): at most 4,096,000,000,000.
+    pub const TAKINGS: usize = 146;
 }
 
 /// How long a client's record is: n (1), id (8), view (4), next (8), pending (1), its entry (32).
@@ -254,6 +256,7 @@ extern "C" {
         reps_length: usize,
         counts: *mut [u64; 2],
     ) -> u8;
+    fn whitherhaul_takings(state: *const u8, state_length: usize, cents: *mut u64) -> u8;
     fn whitherhaul_client_create(n: u32, id: u64, record: *mut u8, record_length: usize) -> u8;
     fn whitherhaul_client_request(
         record: *mut u8,
@@ -438,6 +441,14 @@ pub fn on_idle(memory: &mut Memory, out: &mut [u8], reps: &mut [u8]) -> (u8, Cou
         )
     };
     (number, Counts::of(counts))
+}
+
+/// The takings that a state run holds. 0 or 1, and the sum in cents, 0 where it is refused.
+pub fn takings(state: &[u8]) -> (u8, u64) {
+    let mut cents = UNWRITTEN;
+    // Safety: the pointer comes with the length of its slice, and the sum is a place of its own.
+    let number = unsafe { whitherhaul_takings(state.as_ptr(), state.len(), &mut cents) };
+    (number, cents)
 }
 
 /// A client's record for the first time. 0 or 1.

@@ -1,5 +1,6 @@
-//! What the tests of journals share. Each of them uses a part.
+//! What tests share. Each of them uses a part.
 #![allow(dead_code)]
 
+pub mod frames;
 pub mod lent;
 pub mod model;
