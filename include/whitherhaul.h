@@ -6,7 +6,7 @@
  * replica the frames that arrive, tells it when time has passed, and delivers what it sends; a
  * client (a desk that charges fees) likewise.
  *
- * The nine calls of the library take every piece of memory as a pointer and a length. Behind them
+ * The ten calls of the library take every piece of memory as a pointer and a length. Behind them
  * stand helpers that keep the memory of a replica or a client together; most owners use only these:
  *
  * Example (example.c):
@@ -68,6 +68,7 @@
  * {
  *     const uint8_t *frame, *next = network;
  *     struct whitherhaul_said said;
+ *     uint64_t takings;
  *     size_t length;
  *     if (!start() ||
  *         whitherhaul_client_on_request(&desk, WHITHERHAUL_FEE, MEMBER, 4500) != WHITHERHAUL_DONE)
@@ -81,8 +82,11 @@
  *         // Who wants to recover after a crash keeps whitherhaul_replica_view(r) before this.
  *         post(r->out.bytes, r->counts.messages);
  *         if (answered(r, &said)) {
- *             printf("total of member %d: %u.%02u\n", MEMBER, (unsigned)(said.total / 100),
- *                    (unsigned)(said.total % 100));
+ *             if (whitherhaul_replica_takings(r, &takings) != WHITHERHAUL_DONE)
+ *                 return 1;
+ *             printf("total of member %d: %u.%02u, takings %u.%02u\n", MEMBER,
+ *                    (unsigned)(said.total / 100), (unsigned)(said.total % 100),
+ *                    (unsigned)(takings / 100), (unsigned)(takings % 100));
  *             return 0;
  *         }
  *     }
@@ -91,15 +95,15 @@
  * End of the example.
  *
  * From the repository's root: cc example.c -I include target/staticlib/native/libwhitherhaul.a
- * It prints: total of member 3: 45.00
+ * It prints: total of member 3: 45.00, takings 45.00
  *
  * Every call returns document 01's number: 0 where it is done, else a refusal
- * (WHITHERHAUL_REFUSED_..). What it answers besides goes to one struct of numbers, to which an
- * argument behind the runs points; a creation has none. A refused call leaves every byte of the
- * lent runs as it was and writes zeros to the struct. The two calls that read a frame say last
+ * (WHITHERHAUL_REFUSED_..). What it answers besides goes to one struct of numbers, or to a number,
+ * to which an argument behind the runs points; a creation has none. A refused call leaves every
+ * byte of the lent runs as it was and writes zeros there. The two calls that read a frame say last
  * where in it refusal 2 is (`offset`, below). No call keeps a pointer, allocates memory, blocks or
  * ends the program, whatever the bytes: what a caller owes is only that each pointer points to as
- * many bytes as the length behind it says, that no two of a call's runs, struct and offset share a
+ * many bytes as the length behind it says, that no two of a call's runs, answers and offset share a
  * byte, and that every pointer is valid also for a length of 0 (never NULL).
  *
  * `offset`, with 2, counts a frame's bytes from 0: the first byte at which no well-formed frame
@@ -172,7 +176,7 @@ extern "C" {
 #define WHITHERHAUL_DEFAULT_TIMEOUT 3
 
 /* Lengths of the lent runs. */
-#define WHITHERHAUL_STATE_BYTES 146
+#define WHITHERHAUL_STATE_BYTES 154
 /* Entries, as on the wire. */
 #define WHITHERHAUL_LOG_BYTES(L) (32 * (size_t)(L))
 /* Of each applied entry: outcome 1, total 8. */
@@ -224,6 +228,7 @@ extern "C" {
 #define WHITHERHAUL_STATE_NONCE_AT 40       /* 8 */
 #define WHITHERHAUL_STATE_REPORTS_AT 48     /* 7 times: there 1, with a log 1, view 4, op 4, commit
                                                4; all zero where none is there, and from n on */
+#define WHITHERHAUL_STATE_TAKINGS_AT 146    /* 8: all totals added up, at most 4,096,000,000,000 */
 
 #define WHITHERHAUL_NORMAL 0
 #define WHITHERHAUL_STATE_TRANSFER 1
@@ -345,6 +350,13 @@ uint8_t whitherhaul_on_idle(uint8_t *state, size_t state_length,
                             uint8_t *out, size_t out_length,
                             uint8_t *reps, size_t reps_length,
                             struct whitherhaul_counts *counts);
+
+/*
+ * The takings, all members' totals added up, in cents, in any status. The sum is kept in the state,
+ * so that this takes the same time for any M; after every call it is what the addition gives. Only
+ * the state is looked at, and nothing is changed. 0, or 1 and no cents.
+ */
+uint8_t whitherhaul_takings(const uint8_t *state, size_t state_length, uint64_t *cents);
 
 /* A new client of n replicas. Its id must be its own for ever. 0 or 1. */
 uint8_t whitherhaul_client_create(uint32_t n, uint64_t id, uint8_t *record, size_t record_length);
@@ -654,6 +666,13 @@ static inline uint64_t whitherhaul_replica_total(const struct whitherhaul_replic
                                                  uint32_t member)
 {
     return member < r->members ? whitherhaul_u64_at(r->totals.bytes + 8 * (size_t)member) : 0;
+}
+
+/* The takings, in cents. 0, or 1 and no cents; what the last call sent and its offset stay. */
+static inline uint8_t whitherhaul_replica_takings(const struct whitherhaul_replica *r,
+                                                  uint64_t *cents)
+{
+    return whitherhaul_takings(WHITHERHAUL_RUN(r->state), cents);
 }
 
 /*

@@ -1,8 +1,8 @@
 /*
  * Keeps include/whitherhaul.h true: document 01's marked examples, refusals that change no byte, a
- * recovery, the places of the state, which byte of a frame is wrong, the client's calls, and each
- * helper, through the archive. With the word `words` it prints the words of the refusals, one a
- * line. host/c-check builds and runs it.
+ * recovery, the places of the state, the takings, which byte of a frame is wrong, the client's
+ * calls, and each helper, through the archive. With the word `words` it prints the words of the
+ * refusals, one a line. host/c-check builds and runs it.
  */
 #include "whitherhaul.h"
 
@@ -329,9 +329,9 @@ static void block_lengths(void)
         {3, 65544, 8},      {3, UINT32_MAX, 8}, {3, 8, 0},    {3, 8, 4097},
         {3, 8, 0x20000001}, {3, 8, UINT32_MAX}, {UINT32_MAX, UINT32_MAX, UINT32_MAX}};
     size_t i;
-    expect(whitherhaul_replica_bytes(3, 8, 8) == 2848, "a block for n=3, L=8, M=8");
-    expect(whitherhaul_replica_bytes(3, 1, 1) == 510, "a block for the least numbers");
-    expect(whitherhaul_replica_bytes(7, 4096, 4096) == 2728172, "a block for the greatest numbers");
+    expect(whitherhaul_replica_bytes(3, 8, 8) == 2856, "a block for n=3, L=8, M=8");
+    expect(whitherhaul_replica_bytes(3, 1, 1) == 518, "a block for the least numbers");
+    expect(whitherhaul_replica_bytes(7, 4096, 4096) == 2728180, "a block for the greatest numbers");
     expect(whitherhaul_replica_bytes(5, 2, 9) == WHITHERHAUL_REPLICA_BYTES(5, 2, 9), "the macro");
     for (i = 0; i < sizeof outside / sizeof outside[0]; i++)
         expect(whitherhaul_replica_bytes(outside[i][0], outside[i][1], outside[i][2]) == 0,
@@ -443,6 +443,120 @@ static void layout(void)
     expect(message(&o, report, sizeof report) == WHITHERHAUL_DONE, "a DoViewChange from 2");
     expect(state[WHITHERHAUL_STATE_REPORTS_AT + 2 * 14] == 1, "its report is there");
     expect(whitherhaul_replica_is_primary(&o.r) == 1, "replica 0 leads view 3");
+}
+
+/* An entry of client 7 is asked for and committed as this op. */
+static void commit_entry(struct owned *o, uint8_t op, uint8_t operation, uint8_t member,
+                         uint8_t cents)
+{
+    uint8_t frame[sizeof request], acknowledged[sizeof prepare_ok];
+    memcpy(frame, request, sizeof frame);
+    frame[22] = op;
+    frame[23] = operation;
+    frame[30] = member;
+    frame[37] = 0;
+    frame[38] = cents;
+    memcpy(acknowledged, prepare_ok, sizeof acknowledged);
+    acknowledged[14] = op;
+    expect(message(o, frame, sizeof frame) == WHITHERHAUL_DONE, "a Request of a day");
+    expect(message(o, acknowledged, sizeof acknowledged) == WHITHERHAUL_DONE, "its PrepareOk");
+    expect(whitherhaul_replica_commit_number(&o->r) == op, "it is committed");
+}
+
+/* The call and the helper answer so, and only look. */
+static void expect_takings(struct owned *o, uint8_t number, uint64_t cents, const char *what)
+{
+    static struct owned before;
+    uint64_t called = 77, helped = 77;
+    memcpy(&before, o, sizeof before);
+    expect(whitherhaul_takings(RUN(o->r.state), &called) == number && called == cents, what);
+    expect(whitherhaul_replica_takings(&o->r, &helped) == number && helped == cents, what);
+    expect(same(&before, o), what);
+}
+
+/* The same, and all totals added up give it too. */
+static void expect_added(struct owned *o, uint64_t cents, const char *what)
+{
+    uint64_t added = 0;
+    uint32_t member;
+    for (member = 0; member < MEMBERS; member++)
+        added += whitherhaul_replica_total(&o->r, member);
+    expect(added == cents, what);
+    expect(whitherhaul_u64_at(o->r.state.bytes + WHITHERHAUL_STATE_TAKINGS_AT) == cents, what);
+    expect_takings(o, WHITHERHAUL_DONE, cents, what);
+}
+
+/* Fees and refunds that take effect change the takings, and nothing else does. */
+static void takings(void)
+{
+    static struct owned o;
+    memset(&o, 0xA5, sizeof o);
+    expect(recover(&o, N, 1, T) == WHITHERHAUL_DONE, "a recovery");
+    expect_added(&o, 0, "no takings in a recovery");
+    fresh(&o, 0);
+    expect_added(&o, 0, "no takings of a fresh replica");
+    commit_entry(&o, 1, WHITHERHAUL_FEE, 3, 200);
+    expect_added(&o, 200, "takings after a fee");
+    commit_entry(&o, 2, WHITHERHAUL_FEE, MEMBERS - 1, 100);
+    expect_added(&o, 300, "takings after a fee of another member");
+    commit_entry(&o, 3, WHITHERHAUL_REFUND, 3, 150);
+    expect_added(&o, 150, "takings after a refund");
+    commit_entry(&o, 4, WHITHERHAUL_REFUND, 3, 51);
+    expect_added(&o, 150, "takings after a refund past the total");
+    commit_entry(&o, 5, WHITHERHAUL_FEE, MEMBERS, 1);
+    expect_added(&o, 150, "takings after a fee of no member");
+    commit_entry(&o, 6, WHITHERHAUL_ASK, 3, 0);
+    expect_added(&o, 150, "takings after an Ask");
+}
+
+/* A replica that no call made so: it keeps this sum. */
+static void keeps_takings(struct owned *o, uint64_t cents)
+{
+    size_t place;
+    fresh(o, 0);
+    for (place = 8; place > 0; place--, cents >>= 8)
+        o->r.state.bytes[WHITHERHAUL_STATE_TAKINGS_AT + place - 1] = (uint8_t)cents;
+}
+
+/* Sums that no call refuses, and where they are cut. */
+static void cut_takings(void)
+{
+    static const uint64_t most = 4096000000000;
+    static struct owned o;
+    keeps_takings(&o, most - 50);
+    commit_entry(&o, 1, WHITHERHAUL_FEE, 0, 100);
+    expect_takings(&o, WHITHERHAUL_DONE, most, "a sum that would pass the most");
+    commit_entry(&o, 2, WHITHERHAUL_FEE, 0, 1);
+    expect_takings(&o, WHITHERHAUL_DONE, most, "a sum at the most");
+    commit_entry(&o, 3, WHITHERHAUL_REFUND, 0, 1);
+    expect_takings(&o, WHITHERHAUL_DONE, most - 1, "a sum below it again");
+    keeps_takings(&o, 50);
+    memset(o.r.totals.bytes + 6, 1, 2);
+    commit_entry(&o, 1, WHITHERHAUL_REFUND, 0, 100);
+    expect_takings(&o, WHITHERHAUL_DONE, 0, "a sum that would fall below 0");
+}
+
+/* Sums that every call refuses, and states of another length. */
+static void refused_takings(void)
+{
+    static const uint64_t past[] = {4096000000001, UINT64_MAX};
+    static struct owned o, before;
+    size_t i;
+    for (i = 0; i < sizeof past / sizeof past[0]; i++) {
+        keeps_takings(&o, past[i]);
+        expect_takings(&o, WHITHERHAUL_REFUSED_SIZES, 0, "takings past the most");
+        spoil_answers(&o);
+        keep(&before, &o);
+        expect(message(&o, request, 0) == WHITHERHAUL_REFUSED_SIZES, "a message with them");
+        expect(same(&before, &o), "changes nothing");
+        expect(whitherhaul_replica_on_idle(&o.r) == WHITHERHAUL_REFUSED_SIZES, "a tick with them");
+        expect(same(&before, &o), "changes nothing either");
+    }
+    fresh(&o, 0);
+    o.r.state.length++;
+    expect_takings(&o, WHITHERHAUL_REFUSED_SIZES, 0, "takings of a state a byte too long");
+    o.r.state.length -= 2;
+    expect_takings(&o, WHITHERHAUL_REFUSED_SIZES, 0, "takings of a state a byte too short");
 }
 
 /* Numbers of all their bytes, and totals at the ends of their run. */
@@ -711,6 +825,9 @@ int main(int count, char **arguments)
     longest();
     recovery();
     layout();
+    takings();
+    cut_takings();
+    refused_takings();
     readers();
     frames();
     words();
