@@ -27,6 +27,8 @@ pub struct Lends {
     pub tries: [Option<(Area, Area)>; 2],
     /// Try a run of another length first, or a state that refusal 1 catches.
     pub wrong: Option<Wrong>,
+    /// Give the call also to a state that keeps this sum.
+    pub sum: Option<u64>,
     /// Compare also what the Rust shows only in its Debug text.
     pub deep: bool,
 }

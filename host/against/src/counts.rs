@@ -1,6 +1,7 @@
 //! What was met: calls by status and kind, refusals by number, later causes by kind and status.
 
 use crate::offset::{self, PLACES};
+use crate::takings::Cuts;
 use std::collections::BTreeMap;
 use std::fmt::Write;
 use wire::frames::KINDS;
@@ -50,6 +51,15 @@ pub struct Counts {
     pub client: u64,
     /// Calls on memory that no call produced; they are compared with nothing.
     pub garbage: u64,
+    /// Takings that were held against the Rust's totals.
+    pub takings: u64,
+    /// Calls with a sum in the state that no call produced, and how often such a sum was cut.
+    pub sums: u64,
+    pub cuts: Cuts,
+    /// Tries with a sum that refusal 1 catches.
+    pub past: u64,
+    /// States with other bytes, of which the takings were asked for, by whether they were answered.
+    pub states: [u64; 2],
     /// Comparisons of what the Rust shows in its Debug text only.
     pub deep: u64,
     /// The stored messages that were compared so, with the entries of their logs: DoViewChanges, and RecoveryResponses.
@@ -124,6 +134,13 @@ impl Counts {
         self.creations += other.creations;
         self.client += other.client;
         self.garbage += other.garbage;
+        self.takings += other.takings;
+        self.sums += other.sums;
+        self.past += other.past;
+        let pairs = self.cuts.iter_mut().chain(&mut self.states);
+        for (mine, its) in pairs.zip(other.cuts.into_iter().chain(other.states)) {
+            *mine += its;
+        }
         self.deep += other.deep;
         for (mine, its) in self.stored.iter_mut().zip(other.stored) {
             mine.0 += its.0;
@@ -154,12 +171,25 @@ impl Counts {
         }
     }
 
-    /// What a run has to have met and didn't: the own id as sender of a StartViewChange, stored messages with entries, refusal
-    /// numbers, places of offsets, calls of each kind in each status, and later causes.
+    /// What a run has to have met and didn't: the own id as sender of a StartViewChange, sums that are cut or refused, stored
+    /// messages with entries, refusal numbers, places of offsets, calls of each kind in each status, and later causes.
     pub fn missing(&self) -> Vec<String> {
         let mut missing = Vec::new();
         if self.own_ids == 0 {
             missing.push(String::from("a StartViewChange from the own id"));
+        }
+        let [most, nothing] = self.cuts;
+        let [answered, refused] = self.states;
+        for (name, count) in [
+            ("a sum cut at the most", most),
+            ("a sum cut at 0", nothing),
+            ("a sum above the most", self.past),
+            ("takings of a state with other bytes", answered),
+            ("refused takings of such a state", refused),
+        ] {
+            if count == 0 {
+                missing.push(String::from(name));
+            }
         }
         for (name, (_, entries)) in STORED.iter().zip(self.stored) {
             if entries == 0 {
@@ -199,6 +229,7 @@ impl Counts {
     pub fn text(&self) -> String {
         let mut text = String::new();
         self.heads(&mut text);
+        self.sums(&mut text);
         self.numbers(&mut text);
         self.exception(&mut text);
         self.causes(&mut text);
@@ -235,6 +266,17 @@ impl Counts {
             format_args!(
                 "stored messages compared in whole insides: {}",
                 stored.join(", ")
+            ),
+        );
+    }
+
+    fn sums(&self, text: &mut String) {
+        let ([most, nothing], [answered, refused]) = (self.cuts, self.states);
+        line(
+            text,
+            format_args!(
+                "takings held against the Rust's totals {}; calls with a sum of no call {}, cut at the most {most}, at 0 {nothing}; sums above the most {}; states with other bytes {answered} answered, {refused} refused",
+                self.takings, self.sums, self.past
             ),
         );
     }

@@ -5,6 +5,7 @@
 //! log as it was (one comparison of memory each), and all totals. Only what is new is worked out: entries behind the old log, and
 //! entries that were committed since.
 
+use crate::takings;
 use schedules::rust::Setup;
 use std::collections::HashMap;
 use vsr_rs::StateMachine;
@@ -29,6 +30,8 @@ pub struct Facts {
     refunds: Vec<u64>,
     /// The totals run that this makes.
     totals: Vec<u8>,
+    /// All fees taken less all refunds paid.
+    takings: u64,
     view: u32,
     /// The own id's bit in a set of replicas.
     own: u8,
@@ -64,6 +67,7 @@ impl Facts {
             fees: vec![0; setup.members],
             refunds: vec![0; setup.members],
             totals: vec![0; 8 * setup.members],
+            takings: 0,
             view,
             own: 1 << setup.id,
         }
@@ -105,7 +109,7 @@ impl Facts {
         if memory.totals != self.totals {
             return Err("totals aren't fees less refunds".into());
         }
-        Ok(())
+        takings::hold(memory, self.takings)
     }
 
     /// The request numbers of each client rise along the log, so no client and number stand twice in it.
@@ -140,8 +144,14 @@ impl Facts {
         self.results.extend_from_slice(&results[..9]);
         let member = entry.member as usize;
         match outcome.code {
-            1 => self.fees[member] += entry.cents,
-            2 => self.refunds[member] += entry.cents,
+            1 => {
+                self.fees[member] += entry.cents;
+                self.takings += entry.cents;
+            }
+            2 => {
+                self.refunds[member] += entry.cents;
+                self.takings -= entry.cents;
+            }
             _ => return Ok(()),
         }
         let total = self.fees[member] - self.refunds[member];

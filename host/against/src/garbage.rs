@@ -1,5 +1,6 @@
 //! Memory that passes refusal 1 and that no call produced: safety and ending are promised of it, that a refused call changes
-//! nothing, and 2 with its offset exactly for a malformed frame. The Rust has no such state, so nothing is compared with it.
+//! nothing, 2 with its offset exactly for a malformed frame, and takings that move by what is committed. The Rust has no such state,
+//! so nothing is compared with it.
 
 use crate::counts::Counts;
 use crate::damage::damaged;
@@ -7,6 +8,7 @@ use crate::offset;
 use crate::pair::{answered, lent_setup};
 use crate::parse::parse;
 use crate::play::{clients, sizes, Fault, Found};
+use crate::takings;
 use crate::wrongs::runs;
 use schedules::adversary::Adversary;
 use schedules::run::hex;
@@ -36,7 +38,10 @@ pub fn play(random: &mut Random, counts: &mut Counts) -> Result<(), Fault> {
             bytes = bytes.map(|bytes| damaged(random, bytes));
         }
         let before = memory.clone();
-        let given = called(random, &mut memory, &before, bytes.as_deref());
+        let given = past(random, &before, bytes.as_deref(), counts)
+            .and_then(|()| judged(random, &before, counts))
+            .and_then(|()| called(random, &mut memory, &before, bytes.as_deref()))
+            .and_then(|()| sum(&before, &memory, counts));
         given.map_err(|text| Fault {
             text: format!(
                 "{text}: {:?} of {}",
@@ -47,6 +52,50 @@ pub fn play(random: &mut Random, counts: &mut Counts) -> Result<(), Fault> {
         })?;
         counts.garbage += 1;
     }
+    Ok(())
+}
+
+/// The takings are those from before the call, moved by what it committed.
+fn sum(before: &Memory, after: &Memory, counts: &mut Counts) -> Result<(), String> {
+    let kept = takings::u64_at(&before.state, state::TAKINGS);
+    counts.sums += 1;
+    takings::hold(after, takings::moved(kept, before, after, &mut counts.cuts))
+}
+
+/// The same call on a state with a sum above the most, now and then: refused by 1, and nothing is changed.
+fn past(
+    random: &mut Random,
+    before: &Memory,
+    frame: Option<&[u8]>,
+    counts: &mut Counts,
+) -> Result<(), String> {
+    if !random.chance(20) {
+        return Ok(());
+    }
+    let mut due = before.clone();
+    takings::put(&mut due, takings::past(random.number()));
+    let mut memory = due.clone();
+    let mut areas = ([0xa5; 2000], [0xa5; 400]);
+    let given = answered(&mut memory, frame, &mut areas.0, &mut areas.1);
+    let refused = given == (1, raw::Counts::default(), 0) && takings::judge(&memory.state)?;
+    if !refused || memory != due || areas != ([0xa5; 2000], [0xa5; 400]) {
+        return Err(format!("with a sum above the most gives {given:?}"));
+    }
+    counts.past += 1;
+    Ok(())
+}
+
+/// The takings of the state with some bytes changed, or cut, or longer.
+fn judged(random: &mut Random, memory: &Memory, counts: &mut Counts) -> Result<(), String> {
+    let mut run = memory.state.clone();
+    for _ in 0..random.below(3) {
+        let place = random.below(run.len());
+        run[place] = random.pick(&[0, 1, 2, 3, 4, 7, 8, 0x10, 0x80, 0xff]);
+    }
+    if random.chance(5) {
+        run.resize(random.pick(&[0, 1, 146, 153, 155, 300]), 0);
+    }
+    counts.states[usize::from(takings::judge(&run)?)] += 1;
     Ok(())
 }
 
@@ -81,6 +130,10 @@ fn filled(random: &mut Random, setup: Setup) -> Memory {
             };
         }
     }
+    if random.chance(50) {
+        money(random, &mut memory);
+    }
+    takings::put(&mut memory, takings::any(random));
     let state = &mut memory.state;
     state[state::STATUS] = random.below(4) as u8;
     state[state::VIEW + 3] = random.below(4) as u8;
@@ -103,6 +156,21 @@ fn filled(random: &mut Random, setup: Setup) -> Memory {
         }
     }
     memory
+}
+
+/// Totals in their range, and entries that keep the rules in the log, so that fees and refunds take effect.
+fn money(random: &mut Random, memory: &mut Memory) {
+    for total in memory.totals.chunks_exact_mut(8) {
+        let cents: u64 = random.pick(&[0, 500, 50_000, 999_999_000, 1_000_000_000]);
+        total.copy_from_slice(&cents.to_be_bytes());
+    }
+    for entry in memory.log.chunks_exact_mut(32) {
+        let member = random.below(memory.totals.len() / 8 + 1) as u32;
+        let cents: u64 = random.pick(&[1, 500, 5000, 1_000_000]);
+        entry[16..20].copy_from_slice(&[random.pick(&[1, 2]), 0, 0, 0]);
+        entry[20..24].copy_from_slice(&member.to_be_bytes());
+        entry[24..].copy_from_slice(&cents.to_be_bytes());
+    }
 }
 
 /// An op number at most L, and a commit number at most that.

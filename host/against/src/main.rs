@@ -7,8 +7,9 @@
 //!
 //! Plays random schedules for S seconds (60), or K of them, on T threads (1). Schedule k of a run has the seed N + k; N is taken
 //! from the clock where it isn't given. `--seed N --schedules 1` plays one again. Where the two sides differ, the seed is printed
-//! with the shortest calls that lead there. A run by time begins with a sweep over bad input (`sweep`), and fails where a refusal
-//! number, a place of an offset, a kind in a status, a later cause or a StartViewChange from the own id never occurred.
+//! with the shortest calls that lead there. A run by time begins with a sweep over bad input (`sweep`) and over takings at the edges
+//! of their range (`edges`), and fails where a refusal number, a place of an offset, a kind in a status, a later cause, a
+//! StartViewChange from the own id, or takings that are cut or refused never occurred.
 //!
 //! `replay` gives the calls of a recorded trace to the library, and compares its answers. With `--document-01` the trace was written
 //! without the exception (`own_id`): from a run's first call that meets it on the amended Rust stands in for the trace.
@@ -20,6 +21,7 @@ mod cluster;
 mod counts;
 mod damage;
 mod deep;
+mod edges;
 mod facts;
 mod garbage;
 mod lone;
@@ -34,6 +36,7 @@ mod plots;
 mod replay;
 mod shrink;
 mod sweep;
+mod takings;
 mod wrongs;
 
 use counts::Counts;
@@ -128,9 +131,9 @@ fn run(plan: Plan) -> ExitCode {
     let mut counts = Counts::default();
     let mut faults = Vec::new();
     if plan.schedules.is_none() {
-        if let Err(fault) = sweep::play(&mut counts) {
+        if let Err(fault) = sweep::play(&mut counts).and_then(|()| edges::play(&mut counts)) {
             stop.store(true, Ordering::Relaxed);
-            faults.push(format!("bad input: {}", shrink::told(fault)));
+            faults.push(format!("before the schedules: {}", shrink::told(fault)));
         }
     }
     std::thread::scope(|scope| {

@@ -4,6 +4,7 @@
 
 use crate::counts::Counts;
 use crate::play::{Fault, Found};
+use crate::takings;
 use crate::wrongs::{make_wrong, runs, Wrong, RUNS};
 use whitherhaul::raw::{self, Memory};
 use whitherhaul::Setup;
@@ -179,6 +180,7 @@ impl Asked {
         if out != sent || memory != due {
             return Err("memory or area differ".into());
         }
+        takings::judge(&memory.state)?;
         Ok(number)
     }
 
@@ -205,6 +207,7 @@ impl Asked {
         state.extend([0; 2]);
         state.extend(nonce.to_be_bytes());
         state.extend([0; 98]);
+        state.extend(0_u64.to_be_bytes());
         memory.state = state;
         if self.back.is_some() {
             let others = (0..replicas).filter(|id| *id != own);

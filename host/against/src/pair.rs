@@ -6,6 +6,8 @@
 //! compared whole, not only what changed. The Rust's own totals change only where its ledger applies an entry, so those of the
 //! entries that were applied by the call are compared, and the number of applied entries each time.
 //!
+//! After every call, refused or not, the takings that the library keeps and answers are the sum of the Rust's totals.
+//!
 //! After a refused call: number, counts of 0, and every byte of the state, of all runs and of both areas is as before. A malformed
 //! frame comes back with its offset, as `offset` has it, and every other answer with 0.
 
@@ -16,12 +18,14 @@ use crate::facts::{number, Facts};
 use crate::offset;
 use crate::own_id;
 use crate::parse::parse;
+use crate::takings;
 use crate::wrongs::{self, Wrong};
 use schedules::run::hex;
 use schedules::rust::{status_number, Answer, Rust, Setup, Start};
 use whitherhaul::raw::{self, state, Memory};
 use wire::frames::entry_bytes;
 
+mod sums;
 #[cfg(test)]
 mod tests;
 
@@ -215,7 +219,7 @@ impl Pair {
             return Err("more is sent than the longest there is".into());
         }
         let tries = lends.wrong.is_some() || lends.tries.iter().any(Option::is_some);
-        if due.number != 0 || tries {
+        if due.number != 0 || tries || lends.sum.is_some() {
             self.before.clone_from(&self.memory);
         }
         if let Some(wrong) = lends.wrong {
@@ -235,6 +239,7 @@ impl Pair {
             let after = status_number(self.rust.replica.status());
             counts.moves[due.status][after] += 1;
         }
+        self.sums(frame, &due, lends.sum, counts)?;
         if lends.deep {
             let stored = deep::same(self.rust.setup, &self.rust.replica, &self.memory)?;
             counts.inside(status_number(self.rust.replica.status()), stored);
@@ -294,6 +299,7 @@ impl Pair {
         self.before.clone_from(&self.memory);
         self.lent_call(frame, (number, due.offset), areas)?;
         self.same()?;
+        self.takings()?;
         deep::same(self.rust.setup, &self.rust.replica, &self.memory).map(|_| ())
     }
 
@@ -302,11 +308,30 @@ impl Pair {
     fn lent_call(
         &mut self,
         frame: Option<&[u8]>,
+        due: (usize, usize),
+        lengths: (usize, usize),
+    ) -> Result<(), String> {
+        let mut memory = std::mem::take(&mut self.memory);
+        let answered = self.answers(&mut memory, frame, due, lengths);
+        self.memory = memory;
+        answered?;
+        match due.0 {
+            0 => Ok(()),
+            _ if self.memory == self.before => Ok(()),
+            due => Err(format!("lent memory changed though refused by {due}")),
+        }
+    }
+
+    /// The same on any memory, which isn't looked at.
+    fn answers(
+        &mut self,
+        memory: &mut Memory,
+        frame: Option<&[u8]>,
         (due, due_offset): (usize, usize),
         (out, reps): (usize, usize),
     ) -> Result<(), String> {
         let areas = (self.out.lend(out), self.reps.lend(reps));
-        let (number, counts, offset) = answered(&mut self.memory, frame, areas.0, areas.1);
+        let (number, counts, offset) = answered(memory, frame, areas.0, areas.1);
         if usize::from(number) != due {
             return Err(format!("the library gives {number}, {due} is due"));
         }
@@ -316,11 +341,7 @@ impl Pair {
         let messages = self.out.hold(due == 0, counts.messages, out);
         messages.map_err(|fault| format!("messages: {fault}"))?;
         let replies = self.reps.hold(due == 0, counts.replies, reps);
-        replies.map_err(|fault| format!("replies: {fault}"))?;
-        if due != 0 && self.memory != self.before {
-            return Err(format!("lent memory changed though refused by {due}"));
-        }
-        Ok(())
+        replies.map_err(|fault| format!("replies: {fault}"))
     }
 
     /// The call with areas that may be too short; nothing where they aren't.
@@ -355,10 +376,12 @@ impl Pair {
         self.before.clone_from(&self.memory);
         let lengths = (self.out.needed.len(), self.reps.needed.len());
         let result = self.lent_call(frame, (1, 0), lengths);
+        let result = result.and_then(|()| takings::judge(&self.memory.state));
         std::mem::swap(&mut self.before, &mut self.right);
         wrongs::put_right(&mut self.memory, &self.before, wrong);
         result.map_err(|fault| format!("with {wrong:?}: {fault}"))?;
         counts.tried(1);
+        counts.past += u64::from(matches!(wrong, Wrong::Takings(_)));
         Ok(())
     }
 

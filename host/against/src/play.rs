@@ -3,6 +3,7 @@
 use crate::case::{Area, Case, Lends, Step};
 use crate::counts::Counts;
 use crate::pair::Pair;
+use crate::takings;
 use crate::wrongs::{Wrong, RUNS};
 use crate::{big, clients, cluster, garbage, lone, making, patience};
 use schedules::rust::Setup;
@@ -108,6 +109,9 @@ pub fn lends(random: &mut Random, pair: &Pair) -> Lends {
             2 => Wrong::Empty(run),
             _ => pair.wrong_state(random.number()),
         });
+    }
+    if random.chance(often / 2) {
+        lends.sum = Some(takings::any(random));
     }
     lends.deep = random.below(800) == 0;
     lends

@@ -1,5 +1,6 @@
 //! Memory that refusal 1 has to catch: runs of other lengths, and states out of range or with a byte without meaning.
 
+use crate::takings;
 use schedules::rust::Setup;
 use whitherhaul::raw::{state, Memory};
 
@@ -14,6 +15,8 @@ pub enum Wrong {
     Empty(u8),
     /// This byte of the state has this value, which has no meaning there or is out of range: see `state`.
     State(u8, u8),
+    /// The state keeps this sum, which is too great.
+    Takings(u64),
 }
 
 /// How many runs there are.
@@ -42,6 +45,7 @@ pub fn make_wrong(memory: &mut Memory, wrong: Wrong) {
         }
         Wrong::Empty(run) => runs(memory)[usize::from(run)].clear(),
         Wrong::State(at, value) => memory.state[usize::from(at)] = value,
+        Wrong::Takings(sum) => takings::put(memory, sum),
     }
 }
 
@@ -51,7 +55,7 @@ pub fn put_right(memory: &mut Memory, right: &Memory, wrong: Wrong) {
         Wrong::Longer(run) => {
             runs(memory)[usize::from(run)].pop();
         }
-        Wrong::Shorter(0) | Wrong::Empty(0) | Wrong::State(..) => {
+        Wrong::Shorter(0) | Wrong::Empty(0) | Wrong::State(..) | Wrong::Takings(_) => {
             memory.state.clone_from(&right.state);
         }
         Wrong::Shorter(1) | Wrong::Empty(1) => memory.log.clone_from(&right.log),
@@ -65,7 +69,7 @@ pub fn put_right(memory: &mut Memory, right: &Memory, wrong: Wrong) {
 }
 
 /// A change of the state that refusal 1 has to catch, by a random number: a byte without meaning, a setup outside the sizes or of
-/// other lengths, op number above L, commit number above it, of the replica or of a report that is there.
+/// other lengths, op number above L, commit number above it, of the replica or of a report that is there, takings above the most.
 pub fn state(setup: Setup, memory: &Memory, random: u64) -> Wrong {
     let more = 2 + (random >> 32) as u8 % 254;
     let any = (random >> 16) as usize % 24;
@@ -73,7 +77,7 @@ pub fn state(setup: Setup, memory: &Memory, random: u64) -> Wrong {
     let id = (random >> 24) as usize % 7;
     let report = state::REPORTS + state::REPORT * id;
     let there = id < setup.n && memory.state[report] == 1;
-    let (at, value) = match random % 12 {
+    let (at, value) = match random % 14 {
         0 => (state::STATUS, more.max(4)),
         1 => (flags[any % 3], more),
         2 => (report + any % 2, more),
@@ -85,6 +89,8 @@ pub fn state(setup: Setup, memory: &Memory, random: u64) -> Wrong {
         8 => (state::COMMIT_NUMBER, more),
         9 if there => (report + 6, more),
         10 if there => (report + 10, more),
+        11 => (state::TAKINGS + any % 3, more.max(4)),
+        12 => return Wrong::Takings(takings::past(random >> 16)),
         _ => (state::OP_NUMBER + 1, more),
     };
     Wrong::State(at as u8, value)

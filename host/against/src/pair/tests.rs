@@ -1,7 +1,10 @@
 //! What the comparisons have to notice.
 
 use super::*;
-use schedules::directed::{back, commit, do_view_change, fee, response, start_view_change, NEW};
+use crate::takings::MOST;
+use schedules::directed::{
+    back, commit, do_view_change, fee, prepare_ok, response, start_view_change, NEW,
+};
 use vsr_rs::Message;
 use wire::fees::{Entry, FEE};
 use wire::frames::{frame, Fees};
@@ -86,7 +89,8 @@ fn every_changed_byte_is_noticed() {
     assert!(!noticed(|_| {}));
     let marks = (0..7).map(|id| state::REPORTS + state::REPORT * id);
     let places = (state::STATUS..state::STARTS).chain(state::NONCE..state::REPORTS);
-    for place in places.chain(marks) {
+    let takings = state::TAKINGS..state::LENGTH;
+    for place in places.chain(marks).chain(takings) {
         assert!(
             noticed(|m| m.state[place] ^= 1),
             "byte {place} of the state"
@@ -141,6 +145,46 @@ fn every_changed_byte_of_a_report_is_noticed() {
             );
         }
     }
+}
+
+/// The call that commits the second fee, with this sum in the state, in areas that are just long enough.
+fn committed_with(sum: u64, counts: &mut Counts) -> Pair {
+    let mut pair = pair();
+    let lends = Lends {
+        sum: Some(sum),
+        ..Lends::default()
+    };
+    let second = Some(frame(0, &prepare_ok(0, 2, 1)));
+    let step = Step {
+        frame: second,
+        lends,
+    };
+    assert_eq!(pair.step(step, counts), Ok(true));
+    pair
+}
+
+#[test]
+fn a_call_with_another_sum() {
+    let mut counts = Counts::default();
+    for (sum, cuts) in [(0, 0), (MOST - 4500, 0), (MOST - 4499, 1), (MOST, 2)] {
+        committed_with(sum, &mut counts);
+        assert_eq!(counts.cuts, [cuts, 0], "{sum}");
+    }
+    assert_eq!(counts.sums, 4);
+    let mut pair = committed_with(0, &mut counts);
+    let second = frame(0, &prepare_ok(0, 2, 1));
+    let due = Due {
+        number: 0,
+        offset: 0,
+        status: 0,
+        kind: 3,
+        later: false,
+        own_id: false,
+    };
+    let mut given = |pair: &mut Pair| pair.sums(Some(&second), &due, Some(7), &mut counts);
+    assert_eq!(given(&mut pair), Ok(()));
+    pair.memory.acks[3] ^= 1;
+    assert!(given(&mut pair).is_err());
 }
 
 #[test]
