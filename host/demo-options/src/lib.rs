@@ -12,7 +12,7 @@ usage: demo [--seed N] [--loss PERCENT] [--desks N] [--requests N] [--damage PER
 
 Three replicas keep one ledger of club fees, while the network between them and the desks loses, repeats and
 reorders what is sent and machines crash and come back. At the end every charge has to be in all three ledgers
-exactly once; if one isn't, the exit code is 1.
+exactly once, and the takings that each replica says have to be what the list comes to; else the exit code is 1.
 
   --seed N           another day of the network (default 1); the same seed gives the same day
   --loss PERCENT     how much of what is sent is lost, 0 to 99 (default 10)

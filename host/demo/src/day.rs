@@ -73,8 +73,9 @@ pub struct Day<'a, L: Library> {
     pub wrong: Vec<String>,
     /// At how many committed charges machines crash, the next one last.
     pub crashes: Vec<u64>,
-    /// The most that any replica has committed.
+    /// The most that any replica has committed, and its takings then.
     pub committed: u64,
+    pub takings: u64,
     /// The last step at which a majority was there.
     majority: u64,
     pub asked_view: u32,
@@ -137,6 +138,7 @@ impl<'a, L: Library> Day<'a, L> {
             wrong: Vec::new(),
             crashes,
             committed: 0,
+            takings: 0,
             majority: 0,
             asked_view: 0,
             begun_view: 0,
@@ -202,8 +204,9 @@ impl<'a, L: Library> Day<'a, L> {
     }
 
     pub fn progress(&mut self) {
+        let so_far = (self.committed, self.takings);
         self.teller
-            .progress(&self.counts, self.committed, self.options.requests);
+            .progress(&self.counts, so_far, self.options.requests);
     }
 
     /// A desk sends its next charge, or again the one that waits.

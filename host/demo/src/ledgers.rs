@@ -3,14 +3,16 @@
 use crate::clubs::{club_of, List, CLUBS};
 use crate::day::{Evening, REPLICAS};
 use crate::library::Library;
-use crate::words::count;
+use crate::words::{count, money};
 use std::collections::BTreeMap;
-use whitherhaul::Entry;
+use whitherhaul::{Entry, Refusal};
 
 /// What the three ledgers come to.
 pub struct Ledgers {
     /// Takings of each club of `CLUBS`, by the first replica's ledger.
     pub takings: [u64; CLUBS.len()],
+    /// All takings, as the first replica answers them.
+    pub together: u64,
     /// The members' totals, and the applied entries, by the first replica's ledger.
     pub totals: Vec<u64>,
     pub applied: Vec<Entry>,
@@ -35,6 +37,7 @@ pub fn look<L: Library>(list: &List, evening: &Evening<L>) -> Ledgers {
             (*id, L::applied(replica), totals)
         })
         .collect();
+    let together = together(list, evening, &mut wrong);
     for (id, applied, totals) in &ledgers {
         once(list, &evening.lines, *id, applied, &mut wrong);
         added(list, *id, totals, &mut wrong);
@@ -48,6 +51,7 @@ pub fn look<L: Library>(list: &List, evening: &Evening<L>) -> Ledgers {
     let (_, applied, totals) = ledgers.into_iter().next().unwrap_or_default();
     Ledgers {
         takings: takings(&totals),
+        together,
         totals,
         applied,
         wrong,
@@ -91,6 +95,31 @@ fn added(list: &List, id: usize, totals: &[u64], wrong: &mut Vec<String>) {
                 count(*has, "cent", "cents")
             ));
         }
+    }
+}
+
+/// All takings as the first replica answers them, 0 where there is none or it refuses; those of each are looked at.
+fn together<L: Library>(list: &List, evening: &Evening<L>, wrong: &mut Vec<String>) -> u64 {
+    let mut first = None;
+    for (id, replica) in &evening.replicas {
+        let answered = L::takings(replica);
+        taken(list, *id, answered, wrong);
+        first.get_or_insert(answered.unwrap_or(0));
+    }
+    first.unwrap_or(0)
+}
+
+/// The takings that a replica answers are what the list comes to.
+fn taken(list: &List, id: usize, takings: Result<u64, Refusal>, wrong: &mut Vec<String>) {
+    let due = list.totals.iter().sum();
+    match takings {
+        Ok(has) if has == due => {}
+        Ok(has) => wrong.push(format!(
+            "replica {id} says that its takings are {}, the list comes to {}",
+            money(has),
+            money(due)
+        )),
+        Err(why) => wrong.push(format!("replica {id} doesn't say its takings: {why}")),
     }
 }
 
@@ -165,5 +194,24 @@ mod tests {
         totals[0] += 1;
         added(&list, 1, &totals, &mut wrong);
         assert_eq!(wrong.len(), 1);
+    }
+
+    #[test]
+    fn wrong_takings_are_noticed() {
+        let (list, ..) = sent();
+        let due = list.totals.iter().sum();
+        let wrong_at = |takings| {
+            let mut wrong = Vec::new();
+            taken(&list, 2, takings, &mut wrong);
+            wrong
+        };
+        assert_eq!(wrong_at(Ok(due)), [""; 0]);
+        let less = format!(
+            "replica 2 says that its takings are {}, the list comes to {}",
+            money(due - 1),
+            money(due)
+        );
+        assert_eq!(wrong_at(Ok(due - 1)), [less]);
+        assert_eq!(wrong_at(Err(Refusal::OutsideSizes)).len(), 1);
     }
 }

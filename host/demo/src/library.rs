@@ -2,7 +2,7 @@
 
 use crate::clubs::Charge;
 use crate::damage::Taken;
-use whitherhaul::{Entry, Reply, Setup, Status};
+use whitherhaul::{Entry, Refusal, Reply, Setup, Status};
 
 /// What a call wants sent, each message with its addressee; or why it was refused.
 pub struct Answer<M> {
@@ -53,6 +53,8 @@ pub trait Library {
     /// The entries that were applied, in order.
     fn applied(replica: &Self::Replica) -> Vec<Entry>;
     fn total(replica: &Self::Replica, member: u32) -> u64;
+    /// All members' totals together.
+    fn takings(replica: &Self::Replica) -> Result<u64, Refusal>;
     /// The journal's frames of what was applied behind this op. Of a library without a journal there are none.
     fn journal_since(_: &Self::Replica, _op: u32) -> Vec<u8> {
         Vec::new()

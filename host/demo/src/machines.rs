@@ -6,7 +6,7 @@ use crate::day::{Day, Parcel, REPLICAS};
 use crate::journals::{self, Journals};
 use crate::library::{Answer, Library, Standing};
 use crate::stops;
-use crate::words::charges;
+use crate::words::{charges, money};
 use std::path::PathBuf;
 use whitherhaul::Setup;
 
@@ -146,8 +146,31 @@ impl<L: Library> Day<'_, L> {
             let tenth = |count| count * 10 / self.options.requests;
             let shown = tenth(after.commit_number) > tenth(self.committed);
             self.committed = after.commit_number;
+            self.ask_takings(id);
             if shown {
                 self.progress();
+            }
+        }
+    }
+
+    /// Asks the replica that has committed most for its takings. They have to be its totals, added up.
+    fn ask_takings(&mut self, id: u8) {
+        let machine = &self.machines[usize::from(id)];
+        let Ok(replica) = &machine.runs else {
+            return;
+        };
+        let members = 0..machine.setup.members;
+        let added = members.map(|member| L::total(replica, member)).sum();
+        match L::takings(replica) {
+            Ok(takings) if takings == added => self.takings = takings,
+            Ok(takings) => self.wrong.push(format!(
+                "replica {id} says that its takings are {}, its totals come to {}",
+                money(takings),
+                money(added)
+            )),
+            Err(why) => {
+                let line = format!("replica {id} doesn't say its takings: {why}");
+                self.wrong.push(line);
             }
         }
     }

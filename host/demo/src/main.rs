@@ -169,7 +169,7 @@ fn opening(options: &Options, list: &List) {
     println!();
 }
 
-/// Each club's takings: by the list, by our ledgers and by those of vsr-rs.
+/// Each club's takings: by the list, by our ledgers and by those of vsr-rs; and those of all, as the libraries say them.
 fn table(list: &List, ours: &Ledgers, theirs: Option<&Ledgers>) {
     let row = |name: &str, list: &str, ours: &str, theirs: Option<String>| {
         let theirs = theirs.map_or(String::new(), |theirs| format!("{theirs:>14}"));
@@ -190,12 +190,11 @@ fn table(list: &List, ours: &Ledgers, theirs: Option<&Ledgers>) {
             theirs.map(|theirs| money(theirs.takings[place])),
         );
     }
-    let sum = |takings: &[u64]| money(takings.iter().sum());
     row(
         "together",
-        &sum(&of_list),
-        &sum(&ours.takings),
-        theirs.map(|theirs| sum(&theirs.takings)),
+        &money(of_list.iter().sum()),
+        &money(ours.together),
+        theirs.map(|theirs| money(theirs.together)),
     );
 }
 
@@ -234,7 +233,7 @@ fn verdict(options: &Options, played: &Played) -> bool {
             _ => "each applied exactly once on all three ledgers, in one order",
         };
         let charges = charges(options.requests);
-        println!("{name}: {charges}, {applied}; totals as the list adds up.");
+        println!("{name}: {charges}, {applied}; totals and takings as the list adds up.");
         return true;
     }
     println!("{name}: NOT as it has to be:");

@@ -84,6 +84,10 @@ impl Library for Whitherhaul {
         replica.total(member)
     }
 
+    fn takings(replica: &Replica) -> Result<u64, Refusal> {
+        replica.takings()
+    }
+
     fn journal_since(replica: &Replica, op: u32) -> Vec<u8> {
         let frames = replica.journal_since(op);
         frames.expect("an op that isn't above the commit number")

@@ -72,11 +72,12 @@ impl Teller {
         self.print(counts, line);
     }
 
-    /// How far the day is.
-    pub fn progress(&mut self, counts: &Counts, committed: u64, requests: u64) {
+    /// How far the day is: what is committed, and the takings.
+    pub fn progress(&mut self, counts: &Counts, (committed, takings): (u64, u64), requests: u64) {
         let line = format!(
-            "{committed} of {} committed; {} sent again so far",
+            "{committed} of {} committed, takings {}; {} sent again so far",
             charges(requests),
+            money(takings),
             counts.resent
         );
         self.line(counts, &line);

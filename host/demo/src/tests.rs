@@ -25,6 +25,20 @@ fn evening<L: Library>(seed: u64, damage: u64) -> (Evening<L>, Vec<String>) {
 }
 
 #[test]
+fn every_machine_says_the_takings_of_the_list() {
+    for seed in 1..=5 {
+        let (evening, _) = evening::<Whitherhaul>(seed, 0);
+        let list = List::new(60, &mut Random::new(seed));
+        let due = list.totals.iter().sum();
+        let said = evening
+            .replicas
+            .iter()
+            .map(|(_, replica)| replica.takings());
+        assert_eq!(said.collect::<Vec<_>>(), [Ok(due); 3]);
+    }
+}
+
+#[test]
 fn damage_changes_nothing_of_the_day() {
     for seed in 1..=5 {
         let (without, _) = evening::<Whitherhaul>(seed, 0);

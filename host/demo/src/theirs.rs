@@ -4,7 +4,7 @@ use crate::clubs::Charge;
 use crate::damage::Taken;
 use crate::library::{Answer, Library, Standing};
 use vsr_rs::{Client, Config, Replica};
-use whitherhaul::{Entry, Operation, Outcome, Reply, Setup, Status};
+use whitherhaul::{Entry, Operation, Outcome, Refusal, Reply, Setup, Status};
 use wire::fees::{self, Ledger};
 use wire::frames::{self, Fees};
 
@@ -110,6 +110,11 @@ impl Library for VsrRs {
 
     fn total(replica: &Replica<Ledger>, member: u32) -> u64 {
         replica.state_machine().totals[member as usize]
+    }
+
+    /// vsr-rs keeps no sum, so its owner adds up.
+    fn takings(replica: &Replica<Ledger>) -> Result<u64, Refusal> {
+        Ok(replica.state_machine().totals.iter().sum())
     }
 
     fn desk(replicas: u32, id: u64) -> Desk {
