@@ -45,11 +45,12 @@ pub const SHOW_HELP: &str = "\
 usage: ledger show FILE [--members M]
 
 Prints a journal as a table, a line for each op: who sent it (the desk is the client, and numbers
-its requests), what it asked for, for which member, the amount in euros, what came of it, and the
-member's total behind it in euros. It ends at the first frame that can't be read.
+its requests), what it asked for, for which member, the amount in euros, what came of it, the
+member's total behind it in euros, and the takings so far: all that was taken, less what was paid
+back. It ends at the first frame that can't be read.
 
-The table shows what stands there. With --members it is followed by what check says: whether it is
-what the fee rules give. Without, outcomes and totals aren't checked.
+The table shows what stands there, and the takings go by that. With --members it is followed by what
+check says: whether it is what the fee rules give. Without, outcomes and totals aren't checked.
 
   --members M   how many members the ledger has, 1 to 4096
   --help        this text

@@ -4,12 +4,12 @@ use crate::words::{bad_frame, money};
 use whitherhaul::journal::{frames, JournalFrame};
 use whitherhaul::{Operation, Outcome};
 
-const COLUMNS: usize = 8;
+const COLUMNS: usize = 9;
 const HEADER: [&str; COLUMNS] = [
-    "op", "client", "request", "kind", "member", "euros", "outcome", "total",
+    "op", "client", "request", "kind", "member", "euros", "outcome", "total", "takings",
 ];
 /// Words stand at the left of their column, numbers at the right.
-const WORDS: [bool; COLUMNS] = [false, false, false, true, false, false, true, false];
+const WORDS: [bool; COLUMNS] = [false, false, false, true, false, false, true, false, false];
 
 /// The lines of a table, and whether every frame could be read.
 #[derive(Clone, Debug, PartialEq, Eq)]
@@ -25,11 +25,15 @@ pub struct Table {
 /// The table of a journal, to its end or its first frame that can't be read.
 pub fn table(file: &[u8]) -> Table {
     let mut rows = vec![HEADER.map(String::from)];
+    let mut takings = 0;
     let mut bad = None;
     let mut read = frames(file);
     while let Some(frame) = read.next() {
         match frame {
-            Ok(frame) => rows.push(row(&frame)),
+            Ok(frame) => {
+                takings = takings_after(takings, &frame);
+                rows.push(row(&frame, takings));
+            }
             Err(fault) => bad = Some(bad_frame(read.offset(), fault)),
         }
     }
@@ -42,7 +46,18 @@ pub fn table(file: &[u8]) -> Table {
     table
 }
 
-fn row(frame: &JournalFrame) -> [String; COLUMNS] {
+/// The takings after a frame, by the outcome that stands there. They stop at 0 where a journal that
+/// isn't good pays back more; 4,096 fees don't come near the most that a replica keeps.
+fn takings_after(takings: u64, frame: &JournalFrame) -> u64 {
+    let cents = frame.entry.cents;
+    match frame.known_outcome() {
+        Some(Outcome::Fee) => takings.saturating_add(cents),
+        Some(Outcome::Refund) => takings.saturating_sub(cents),
+        _ => takings,
+    }
+}
+
+fn row(frame: &JournalFrame, takings: u64) -> [String; COLUMNS] {
     let entry = &frame.entry;
     [
         frame.op.to_string(),
@@ -53,6 +68,7 @@ fn row(frame: &JournalFrame) -> [String; COLUMNS] {
         money(entry.cents),
         outcome(frame),
         money(frame.total),
+        money(takings),
     ]
 }
 

@@ -24,12 +24,12 @@ fn shown(words: &[&str], journal: &[u8]) -> (Option<i32>, String) {
 }
 
 const TABLE: &str = "\
-op  client  request  kind    member      euros  outcome             total
- 1       7        0  fee          3      45.00  taken               45.00
- 2       7        1  refund       3      10.00  paid back           35.00
- 3      12        0  ask          3       0.00  total told          35.00
- 4      12        1  fee          5  10,000.00  taken           10,000.00
- 5      12        2  fee          8      20.00  no such member       0.00
+op  client  request  kind    member      euros  outcome             total    takings
+ 1       7        0  fee          3      45.00  taken               45.00      45.00
+ 2       7        1  refund       3      10.00  paid back           35.00      35.00
+ 3      12        0  ask          3       0.00  total told          35.00      35.00
+ 4      12        1  fee          5  10,000.00  taken           10,000.00  10,035.00
+ 5      12        2  fee          8      20.00  no such member       0.00  10,035.00
 ";
 
 #[test]
@@ -49,7 +49,7 @@ fn a_journal_is_a_table() {
 
 #[test]
 fn an_empty_journal_has_a_header() {
-    let header = "op  client  request  kind  member  euros  outcome  total\n";
+    let header = "op  client  request  kind  member  euros  outcome  total  takings\n";
     let end = "0 entries; outcomes and totals not checked (--members M checks them)";
     assert_eq!(shown(&[], b""), (Some(0), format!("{header}\n{end}\n")));
 }
@@ -58,8 +58,8 @@ fn an_empty_journal_has_a_header() {
 #[test]
 fn a_frame_that_cant_be_read_is_named() {
     let table = "\
-op  client  request  kind  member  euros  outcome  total
- 1       7        0  fee        3  45.00  taken    45.00
+op  client  request  kind  member  euros  outcome  total  takings
+ 1       7        0  fee        3  45.00  taken    45.00    45.00
 bad frame at byte 50 (op 2): its version isn't 1
 ";
     let end = "1 entry; outcomes and totals not checked (--members M checks them)";
@@ -80,7 +80,7 @@ fn the_fee_rules_are_asked_with_members_alone() {
     let (status, text) = shown(&[], &bad);
     assert_eq!((status, text.lines().count()), (Some(0), 8));
     assert!(
-        text.contains("10.00  paid back           35.01\n"),
+        text.contains("10.00  paid back           35.01      35.00\n"),
         "{text}"
     );
     let (status, text) = shown(&["--members", "8"], &bad);
@@ -110,7 +110,54 @@ fn every_outcome_has_words() {
         "255, which is no outcome",
     ]) {
         assert!(line.contains(outcome), "{line}");
-        assert!(line.ends_with("  184,467,440,737,095,516.15"), "{line}");
+        let end = "  184,467,440,737,095,516.15     0.00";
+        assert!(line.ends_with(end), "{line}");
         assert_eq!(line.len(), lines[0].len());
+    }
+}
+
+/// The takings go by the outcomes that stand there, not by what was asked for, and stop at 0.
+#[test]
+fn takings_of_a_journal_that_isnt_good() {
+    let frames = [
+        ((1, 0, 500), 1, "5.00"),
+        ((2, 0, 200), 2, "3.00"),
+        ((2, 0, 301), 2, "0.00"),
+        ((2, 1, 1_000_000), 2, "0.00"),
+        ((2, 1, 70), 1, "0.70"),
+        ((1, 0, 20), 2, "0.50"),
+        ((1, 0, 900), 3, "0.50"),
+        ((1, 9, 900), 4, "0.50"),
+        ((1, 0, 900), 5, "0.50"),
+        ((2, 0, 900), 6, "0.50"),
+        ((1, 0, 900), 0, "0.50"),
+        ((3, 0, 0), 1, "0.50"),
+    ];
+    let ops = (1..).zip(frames);
+    let journal: Vec<Vec<u8>> = ops
+        .map(|(op, (entry, outcome, _))| frame(op, [7, op.into()], entry, (outcome, u64::MAX)))
+        .collect();
+    let (status, text) = shown(&[], &journal.concat());
+    assert_eq!(status, Some(0));
+    let takings = text.lines().skip(1).map(|line| line.split(' ').next_back());
+    let due = frames.map(|(_, _, takings)| Some(takings));
+    assert_eq!(takings.take(due.len()).collect::<Vec<_>>(), due);
+}
+
+/// The most that a journal can come to, and as much taken away again.
+#[test]
+fn takings_of_the_longest_journals() {
+    for (outcome, first, last) in [(1, "10,000.00", "40,960,000.00"), (2, "0.00", "0.00")] {
+        let journal: Vec<Vec<u8>> = (1..=4096)
+            .map(|op| frame(op, [7, op.into()], (1, 0, 1_000_000), (outcome, 0)))
+            .collect();
+        let (_, text) = shown(&[], &journal.concat());
+        let lines: Vec<&str> = text.lines().collect();
+        assert!(lines[1].ends_with(&format!("  {first}")), "{}", lines[1]);
+        assert!(
+            lines[4096].ends_with(&format!("  {last}")),
+            "{}",
+            lines[4096]
+        );
     }
 }

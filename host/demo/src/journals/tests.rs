@@ -4,6 +4,7 @@ use crate::day::{play, Evening};
 use crate::library::Library;
 use crate::ours::Whitherhaul;
 use crate::teller::Teller;
+use crate::words::money;
 use demo_options::{Asked, Options};
 use ledger::check::judge;
 use ledger::table::table;
@@ -67,6 +68,13 @@ fn a_journal_has_what_its_machine_applied() {
             assert_eq!(journal.entries().len(), 60);
             assert_eq!(journal.entries(), Whitherhaul::applied(replica));
             assert_eq!(journal.totals(), list.totals);
+            let takings = replica.takings().map(money).expect("a state of calls");
+            let lines = table(&file).lines;
+            assert!(
+                lines[60].ends_with(&format!("  {takings}")),
+                "{}",
+                lines[60]
+            );
         }
         assert!(journals.checked(list.members));
     }
