@@ -14,7 +14,7 @@ pub struct Row {
     pub reply: Option<Outcome>,
 }
 
-/// What a replica's two lines of a trace say and no getter does; sets are one bit for each replica id. Where DoViewChanges are
+/// What a replica's lines of a trace say and no getter does; sets are one bit for each replica id. Where DoViewChanges are
 /// stored there are no responses, and the other way round.
 pub struct Inside {
     pub last_normal: u64,

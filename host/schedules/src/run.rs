@@ -1,7 +1,7 @@
-//! One replica of the Rust with all calls that it was given, and what it answered to each, as lines of FORMAT.md, with one more
-//! line behind the state (`+`, host/README.md). How a refusal is told: see `rust`. 9 and 10 are told by what the Rust sent, where
-//! a call lends areas of its own lengths (`call_in`); else they are as long as what it sent. 2 is told by hand (`malformed`), 1
-//! doesn't occur.
+//! One replica of the Rust with all calls that it was given, and what it answered to each, as lines of FORMAT.md, with two more
+//! lines behind the state (`+` and `$`, host/README.md). How a refusal is told: see `rust`. 9 and 10 are told by what the Rust sent,
+//! where a call lends areas of its own lengths (`call_in`); else they are as long as what it sent. 2 is told by hand (`malformed`),
+//! 1 doesn't occur.
 
 use crate::inside::{inside, senders, Inside, Row};
 use crate::rust::{status_number, Rust};
@@ -117,7 +117,7 @@ impl Run {
         self.calls.push(Recorded { lines, mark });
     }
 
-    /// The two lines of the state after the last call.
+    /// The three lines of the state after the last call.
     pub fn state(&self) -> &str {
         let last = self.calls.last();
         let lines = last.map_or(&self.creation, |call| &call.lines);
@@ -143,12 +143,14 @@ fn answer_line(answer: &Answer, code: usize) -> String {
     format!("= {code} {messages} {}\n", hex(&answer.reply_bytes()))
 }
 
-/// FORMAT.md's state line, and behind it the nonce with a digest of the stored messages.
+/// FORMAT.md's state line; behind it the nonce with a digest of the stored messages, and the takings, of which the Rust keeps no sum:
+/// all totals are added up.
 fn state_lines(setup: Setup, replica: &Replica<Ledger>) -> String {
     let i = inside(replica);
     let stored = fnv(&i.stored());
+    let takings: u64 = replica.state_machine().totals.iter().sum();
     format!(
-        "{}+ {} {stored:016x}\n",
+        "{}+ {} {stored:016x}\n$ {takings}\n",
         state_line(setup, replica, &i),
         i.nonce
     )

@@ -9,7 +9,7 @@ use vsr_rs::Reply;
 use wire::fees::{Entry, Outcome};
 use wire::frames::{frame, reply_frame, Fees};
 
-/// Places of numbers in a state's two lines, FORMAT.md's state line and the one behind it.
+/// Places of numbers in a state's three lines, FORMAT.md's state line and the two behind it.
 pub const LAST_NORMAL: usize = 2;
 pub const HEARD: usize = 5;
 pub const WAITING: usize = 6;
