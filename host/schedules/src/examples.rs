@@ -12,6 +12,7 @@ mod quorum;
 mod recovery;
 mod refusals;
 mod statuses;
+mod takings;
 mod views;
 
 use crate::directed::{
@@ -86,6 +87,7 @@ fn made(n: usize, id: usize, timeout: usize, room: usize, start: Start, title: &
         Start::New => expect::normal(0, 0, 0),
         Start::Back { view, nonce } => recovering(view).sends(&others, recovery(id, nonce, view)),
     };
+    let wanted = wanted.has(TAKINGS, 0);
     let at = format!("{title}: creation");
     let faults = wanted.faults(&at, &run, run.state(), &answer);
     Example {
@@ -219,6 +221,7 @@ pub fn trace() -> Result<String, String> {
         quorum::all(),
         installs::all(),
         recovery::all(),
+        takings::all(),
     ];
     let all: Vec<Example> = parts.into_iter().flatten().collect();
     let faults: Vec<&str> = all.iter().flat_map(|e| &e.faults).map(|f| &**f).collect();

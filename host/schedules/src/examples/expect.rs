@@ -21,6 +21,7 @@ pub const CATCHING_UP: usize = 11;
 pub const REPORTS: usize = 12;
 pub const RESPONSES: usize = 13;
 pub const NONCE: usize = 20;
+pub const TAKINGS: usize = 23;
 
 /// What a call has to give.
 pub struct Expect {
