@@ -1,6 +1,7 @@
 //! A recorded trace (`../shared/vectors/FORMAT.md`; host/README.md for the lines `+`, `@` and `$`), given to the library through the
 //! C calls: numbers, message and reply bytes, the lines of the state, and after a refusal every lent byte. The offsets of malformed
-//! frames are judged as `offset` has them, and compared where the trace has them too.
+//! frames are judged as `offset` has them, and compared where the trace has them too. Where it has the takings, they are compared
+//! with the answer of their call, with what the state keeps, and with all totals added up.
 
 mod instead;
 mod replica;
@@ -81,7 +82,7 @@ struct Replay {
     states: usize,
     stored: usize,
     offsets: usize,
-    sums: usize,
+    takings: usize,
     refused: BTreeMap<u8, usize>,
     /// Runs and answers that were compared with the amended Rust in place of the trace.
     instead: (usize, usize),
@@ -135,7 +136,7 @@ impl Replay {
             (":", 20) => self.state(&words[1..]),
             ("+", 3) => self.stored(&words[1..]),
             ("@", 2) => self.offset(words[1]),
-            ("$", 2) => self.sum(words[1]),
+            ("$", 2) => self.takings(words[1]),
             (";", 4) => self.record(&words[1..]),
             _ => Err(String::from(
                 "a line that neither FORMAT.md nor host/README.md has",
@@ -340,16 +341,17 @@ impl Replay {
         Ok(())
     }
 
-    /// The line with the totals of all members, added up.
-    fn sum(&mut self, due: &str) -> Result<(), String> {
+    /// The line with the takings.
+    fn takings(&mut self, due: &str) -> Result<(), String> {
         let Running::Replica(replica) = &self.running else {
-            return Err(String::from("the totals of no replica"));
+            return Err(String::from("the takings of no replica"));
         };
-        let sum = replica.sum();
-        if sum.to_string() != due {
-            return Err(format!("the totals add up to {sum}, due is {due}"));
+        for (whose, cents) in replica.takings()? {
+            if cents.to_string() != due {
+                return Err(format!("takings: {whose} {cents}, due is {due}"));
+            }
         }
-        self.sums += 1;
+        self.takings += 1;
         Ok(())
     }
 
@@ -381,9 +383,9 @@ impl Replay {
         let refused = refused.map(|(number, count)| format!("{number}: {count}"));
         let refused = refused.collect::<Vec<_>>().join(", ");
         let mut told = format!(
-            "{file}: {calls} answers compared ({words}), {} states, {} of them with nonce and stored reports; {} recorded offsets, {} sums \
-            of totals\nrefused by number: {refused}\n",
-            self.states, self.stored, self.offsets, self.sums
+            "{file}: {calls} answers compared ({words}), {} states, {} of them with nonce and stored reports; {} recorded offsets, {} \
+            takings\nrefused by number: {refused}\n",
+            self.states, self.stored, self.offsets, self.takings
         );
         if self.document_01 {
             let (runs, answers) = self.instead;

@@ -6,7 +6,7 @@ use crate::facts::{number, Facts};
 use crate::offset;
 use crate::pair::answered;
 use schedules::rust::{Setup, Start};
-use whitherhaul::raw::{state, Memory};
+use whitherhaul::raw::{self, state, Memory};
 
 /// Areas are lent at most so much longer than the longest that a call can need.
 pub const SLACK: usize = 64;
@@ -86,11 +86,21 @@ impl Replica {
         self.so_far.meets(frame, status, view)
     }
 
-    /// The totals of all members, added up.
-    pub fn sum(&self) -> u128 {
-        let totals = self.memory.totals.chunks_exact(8);
-        let total = |bytes: &[u8]| u64::from_be_bytes(bytes.try_into().expect("eight bytes"));
-        totals.map(|bytes| u128::from(total(bytes))).sum()
+    /// The takings: as the call answers, as the state keeps them, and all totals added up, each behind the words that say which.
+    pub fn takings(&self) -> Result<[(&'static str, u128); 3], String> {
+        let memory = &self.memory;
+        let (code, answered) = raw::takings(&memory.state);
+        if code != 0 {
+            return Err(format!("the takings are refused by {code}"));
+        }
+        let eight = |bytes: &[u8]| u64::from_be_bytes(bytes.try_into().expect("eight bytes"));
+        let kept = eight(&memory.state[state::TAKINGS..state::TAKINGS + 8]);
+        let totals = memory.totals.chunks_exact(8).map(eight);
+        Ok([
+            ("the call answers", answered.into()),
+            ("the state keeps", kept.into()),
+            ("the totals add up to", totals.map(u128::from).sum()),
+        ])
     }
 
     /// The words of the state line.

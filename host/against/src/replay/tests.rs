@@ -53,10 +53,10 @@ fn with(text: &str, number: usize, line: &str) -> String {
 }
 
 #[test]
-fn another_offset_or_sum_is_noticed() {
+fn another_offset_or_other_takings_are_noticed() {
     let replay = played(COMMITTED, false).map_err(|fault| panic!("{fault:?}"));
     let replay = replay.expect("a trace that holds");
-    assert_eq!((replay.offsets, replay.sums), (2, 4));
+    assert_eq!((replay.offsets, replay.takings), (2, 4));
     for (number, line) in [
         (3, "$ 1"),
         (9, "@ 14"),
@@ -75,6 +75,30 @@ fn another_offset_or_sum_is_noticed() {
             "no malformed frame"
         );
     }
+}
+
+/// What is wrong with this line behind the committed fee, in memory that was spoilt.
+fn fault_in(spoil: fn(&mut Memory), line: &str) -> Option<String> {
+    let mut replay = played(COMMITTED, false).expect("a trace that holds");
+    let Running::Replica(replica) = &mut replay.running else {
+        panic!("the run of a replica");
+    };
+    spoil(&mut replica.memory);
+    let words: Vec<&str> = line.split(' ').collect();
+    replay.line(&words).err()
+}
+
+#[test]
+fn the_call_and_the_addition_are_both_compared() {
+    const TAKINGS: usize = raw::state::TAKINGS;
+    let fault = |words: &str| Some(format!("takings: {words}"));
+    assert_eq!(fault_in(|_| (), "$ 9"), None);
+    let answered = fault_in(|memory| memory.state[TAKINGS + 7] = 8, "$ 9");
+    assert_eq!(answered, fault("the call answers 8, due is 9"));
+    let added = fault_in(|memory| memory.totals[7] = 8, "$ 9");
+    assert_eq!(added, fault("the totals add up to 8, due is 9"));
+    let refused = fault_in(|memory| memory.state[TAKINGS] = 1, "$ 0");
+    assert_eq!(refused.as_deref(), Some("the takings are refused by 1"));
 }
 
 #[test]
