@@ -1,8 +1,8 @@
 """Recorded calls in the format of ../shared/vectors/FORMAT.md: the runs of a trace, and a choice of them.
 
 A run is a list of lines, each split into words: its creation with the answer and the state, then call, answer and state of each call.
-Lines that not every trace has are the end of the line before them here: `+` behind a state (host/README.md), `@` with the offset behind
-an answer and `$` with the sum behind a state (../shared/vectors/orders/FORMAT.md)."""
+Lines that not every trace has are the end of the line before them here: `+`, and `$` with the takings, behind a state (host/README.md),
+and `@` with the offset behind an answer (../shared/vectors/orders/FORMAT.md)."""
 KINDS = range(1, 12)
 START_VIEW_CHANGE = 7
 SMALL_ROOM = 8                             # the greatest L of the Rust's own record

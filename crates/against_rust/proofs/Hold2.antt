@@ -2,7 +2,19 @@
 use mathlib.Core.Path.{refl}
 use Rattle.against_rust.specs.Shape.{RunHolds}
 use Rattle.against_rust.proofs.OpenRuns.{open-runs}
-use Rattle.against_rust.specs.Runs2.{run89, run90, run91, run92, run93, run94, run95, run96, run97, run98, run99, run100, run101, run102, run103, run104, run105, run106}
+use Rattle.against_rust.specs.Runs2.{run86, run87, run88, run89, run90, run91, run92, run93, run94, run95, run96, run97, run98, run99, run100, run101, run102, run103, run104, run105, run106}
+
+pub hold86 : RunHolds run86
+unfolding open-runs run86
+hold86 = refl
+
+pub hold87 : RunHolds run87
+unfolding open-runs run87
+hold87 = refl
+
+pub hold88 : RunHolds run88
+unfolding open-runs run88
+hold88 = refl
 
 pub hold89 : RunHolds run89
 unfolding open-runs run89

@@ -1,5 +1,5 @@
 -- What a recorded run is: a setup, a creation and calls, each with what was answered; and what it says of the model: that it answers just so.
--- The fields are those of ../shared/vectors/FORMAT.md, in its order, and of the line `+` of host/README.md. Assumes nothing.
+-- The fields are those of ../shared/vectors/FORMAT.md, in its order, and of the lines `+` and `$` of host/README.md. Assumes nothing.
 use Prim.Native.Nat.{ℕ, _+_, _-_, _*_, _%_}
 use mathlib.Core.Path.{_≡_}
 use mathlib.Core.Bool.{Bool, true, false}
@@ -22,8 +22,8 @@ use Rattle.model.specs.Steps.{onFrame, onTick, create, recover}
 unfoldable pub hex : ℕ → ℕ → List ℕ
 hex k x = big k x
 
--- what is seen of a call: its number, the bytes of its messages and of its replies, 14 numbers of the state, 5 digests of it, and the nonce with
--- a digest of the stored messages. Each of the last three is [] where it wasn't recorded.
+-- what is seen of a call: its number, the bytes of its messages and of its replies, 14 numbers of the state, 5 digests of it, the nonce with a digest
+-- of the stored messages, and the takings. Each of the last four is [] where it wasn't recorded.
 pub record Seen : Type 0 where
   pub number : ℕ
   pub messages : List ℕ
@@ -31,13 +31,18 @@ pub record Seen : Type 0 where
   pub numbers : List ℕ
   pub digests : List ℕ
   pub kept : List ℕ
+  pub takings : List ℕ
 
-unfoldable pub sawAll : ℕ → (messages replies numbers digests kept : List ℕ) → Seen
-sawAll k out rs ns ds ks = record { number = k; messages = out; replies = rs; numbers = ns; digests = ds; kept = ks }
+unfoldable pub sawAll : ℕ → (messages replies numbers digests kept takings : List ℕ) → Seen
+sawAll k out rs ns ds ks ts = record { number = k; messages = out; replies = rs; numbers = ns; digests = ds; kept = ks; takings = ts }
 
 -- nothing of the nonce and the stored messages was recorded
+unfoldable pub sawSum : ℕ → (messages replies numbers digests takings : List ℕ) → Seen
+sawSum k out rs ns ds ts = sawAll k out rs ns ds [] ts
+
+-- nor the takings
 unfoldable pub saw : ℕ → (messages replies numbers digests : List ℕ) → Seen
-saw k out rs ns ds = sawAll k out rs ns ds []
+saw k out rs ns ds = sawAll k out rs ns ds [] []
 
 -- a creation: the first, or after a crash, with a view, a nonce and the size of the area for messages
 pub data Start : Type 0 where
@@ -141,11 +146,18 @@ unfoldable pub digestsLike : List ℕ → State → List ℕ
 digestsLike [] m = []
 digestsLike (d ∷ ds) m = digestsOf m
 
+-- the takings, where they were recorded
+unfoldable pub takingsLike : List ℕ → State → List ℕ
+takingsLike [] m = []
+takingsLike (t ∷ ts) m = m .book .takings ∷ []
+
 -- what is seen of the model's answer, of what was recorded; a refusal leaves the state as it was
 unfoldable pub shown : Seen → State → Answer → Seen
-shown w m (refused k) = sawAll k [] [] (numbersLike (w .numbers) m) (digestsLike (w .digests) m) (keptLike (w .kept) m)
+shown w m (refused k) =
+    sawAll k [] [] (numbersLike (w .numbers) m) (digestsLike (w .digests) m) (keptLike (w .kept) m) (takingsLike (w .takings) m)
 shown w m (done m′ out rs) =
     sawAll 0 (messagesOut out) (repliesOut rs) (numbersLike (w .numbers) m′) (digestsLike (w .digests) m′) (keptLike (w .kept) m′)
+    (takingsLike (w .takings) m′)
 
 -- what was recorded of a call
 unfoldable pub wanted : Line → Seen
