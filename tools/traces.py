@@ -58,6 +58,11 @@ def size(digits):
     return 0 if digits == "-" else len(digits) // 2
 
 
+def frame_of(call):
+    """The byte run of the frame that a replica's call is given; none of a tick."""
+    return call[3] if call[0] == "M" else "-"
+
+
 def frames_of(digits):
     """The frames that a written byte run is made of, by their length fields; none of `-`."""
     frames = []
