@@ -14,7 +14,7 @@ use Rattle.comparing.specs.Text.{numberAt, wordAt, runText, sameBytes}
 use Rattle.comparing.specs.Digests.{digestOf}
 use Rattle.comparing.specs.Areas.{leftAlone}
 use Rattle.comparing.specs.Fields.{reportsDigest}
-use Rattle.comparing.specs.Answers.{sameFront, answerDiffers, touchedBehind, cleanRefusal, furtherDiffers}
+use Rattle.comparing.specs.Answers.{sameFront, answerDiffers, touchedBehind, cleanRefusal, furtherDiffers, takingsDiffer}
 
 module _ (line : List ℕ) (k n : ℕ) (area : List ℕ) where
   pub front-short : length area < n → false ≡ sameFront line k n area
@@ -80,3 +80,17 @@ module _ (s : Replica) (line mem : List ℕ) (x y z : ℕ) (p : x ≡ numberAt f
     pub further-same : y ≡ z → 0 ≡ furtherDiffers s line mem
     unfolding furtherDiffers if_then_else_
     further-same f = rw (← p, eq-eqb x (s .nonce) e, ← q, ← r, eq-eqb y z f)
+
+module _ (code cents : ℕ) (line : List ℕ) where
+  pub takings-refused : (code ≡ 0 → ⊥) → 1 ≡ takingsDiffer code cents line
+  unfolding takingsDiffer if_then_else_
+  takings-refused n = rw (ne-eqb code 0 n)
+
+  module _ (x : ℕ) (e : code ≡ 0) (p : x ≡ numberAt false 1 line) where
+    pub sum-differs : (x ≡ cents → ⊥) → 2 ≡ takingsDiffer code cents line
+    unfolding takingsDiffer if_then_else_
+    sum-differs n = rw (eq-eqb code 0 e, ← p, ne-eqb x cents n)
+
+    pub takings-same : x ≡ cents → 0 ≡ takingsDiffer code cents line
+    unfolding takingsDiffer if_then_else_
+    takings-same f = rw (eq-eqb code 0 e, ← p, eq-eqb x cents f)

@@ -45,3 +45,11 @@ furtherDiffers s line mem =
     if eqb (numberAt true 2 line) (reportsDigest s mem) then 0 else
     2 else
     1
+
+-- `$ sum`, against what the call of the takings answered: 1 its code isn't 0, 2 the sum differs
+unfoldable pub takingsDiffer : (code cents : ℕ) (line : List ℕ) → ℕ
+takingsDiffer code cents line =
+    if eqb code 0 then
+    if eqb (numberAt false 1 line) cents then 0 else
+    2 else
+    1

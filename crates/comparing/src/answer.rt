@@ -1,7 +1,7 @@
-// The answer line, and what a call has to leave alone: 0 where all is as it must be, else what isn't.
+// The answer line, what a call has to leave alone, and the lines behind the state line: 0 where all is as it must be, else what isn't.
 ghost use mathlib.Core.Path.{_≡_};
 ghost use Rattle.numbers.specs.Lending.{was};
-ghost use Rattle.comparing.specs.Answers.{sameFront, answerDiffers, touchedBehind, cleanRefusal, furtherDiffers};
+ghost use Rattle.comparing.specs.Answers.{sameFront, answerDiffers, touchedBehind, cleanRefusal, furtherDiffers, takingsDiffer};
 use crate::digest;
 use crate::fields;
 use crate::memory;
@@ -66,6 +66,19 @@ pub fn further(s: Replica, line: &[u8], mem: &[u8]) -> u8
         return 1;
     }
     if words::hexadecimal(line, 2) != fields::reports(s, mem) {
+        return 2;
+    }
+    0
+}
+
+// `$ sum`, against what the call of the takings answered: 1 it is refused, 2 the sum differs.
+pub fn takings(code: u8, cents: u64, line: &[u8]) -> u8
+    ensures { λ r. ⌜ r ≡ takingsDiffer code cents (was line) ⌝ }
+{
+    if code != 0 {
+        return 1;
+    }
+    if words::decimal(line, 1) != cents {
         return 2;
     }
     0

@@ -8,7 +8,7 @@ use Rattle.comparing.specs.Text.{numberAt, lesserOf}
 use Rattle.playing.specs.declared.ReplicaCall.{ReplicaCall}
 use Rattle.playing.specs.declared.ReplicaCall.the-variants.{Create, Recover, Message, Idle}
 use Rattle.playing.specs.declared.Asked.{Asked}
-use Rattle.playing.specs.declared.Asked.the-variants.{Nothing, Missing, Unknown, Larger, Client, Begin, Go, Answer, State, Further}
+use Rattle.playing.specs.declared.Asked.the-variants.{Nothing, Missing, Unknown, Larger, Client, Begin, Go, Answer, State, Further, Takings}
 use Rattle.playing.specs.declared.RunState.{RunState}
 
 -- an L or M that a setup may have, or more than 4097, and that the memory has no room for
@@ -43,7 +43,7 @@ recoveryIn line =
 unfoldable pub goingIn : ReplicaCall → List ℕ → Asked
 goingIn c line = Go c (lesserOf (numberAt false 1 line) 8192) (lesserOf (numberAt false 2 line) 512)
 
--- a line of a run that is played: M, T, =, : and +
+-- a line of a run that is played: M, T, =, :, + and $
 unfoldable pub withinRun : (c : ℕ) → List ℕ → Asked
 withinRun c line =
     if eqb c 77 then goingIn Message line else
@@ -51,6 +51,7 @@ withinRun c line =
     if eqb c 61 then Answer else
     if eqb c 58 then State else
     if eqb c 43 then Further else
+    if eqb c 36 then Takings else
     Unknown
 
 -- a line of a run, c its first byte: what is due has to come first

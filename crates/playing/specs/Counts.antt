@@ -16,7 +16,7 @@ nextOf x = (x + 1) % 2 ^ 64
 -- before the first line
 abbrev pub noPlay : Play
 noPlay =
-    record { line = 0; run = record { live = false; titled = false; due = 0; created = false; before = 0; messages = 0; replies = 0; here = 0 }; answer = refusal 0 (newIn (record { n = 0; id = 0; timeout = 0; room = 0; members = 0 }) Normal (record { 0 = 0 }) 0); tally = record { runs = 0; calls = 0; further = 0; differ = 0; clients = 0; larger = 0 } }
+    record { line = 0; run = record { live = false; titled = false; due = 0; created = false; before = 0; messages = 0; replies = 0; here = 0 }; answer = refusal 0 (newIn (record { n = 0; id = 0; timeout = 0; room = 0; members = 0 }) Normal (record { 0 = 0 }) 0); tally = record { runs = 0; calls = 0; further = 0; takings = 0; differ = 0; clients = 0; larger = 0 } }
 
 -- at the next line
 abbrev pub nextLine : Play → Play
@@ -26,7 +26,7 @@ nextLine p =
 -- the run differs: it is counted, and the rest of it is passed over
 abbrev pub ended : Play → Play
 ended p =
-    record { line = p .line; run = record { live = false; titled = false; due = p .run .due; created = p .run .created; before = p .run .before; messages = p .run .messages; replies = p .run .replies; here = p .run .here }; answer = p .answer; tally = record { runs = p .tally .runs; calls = p .tally .calls; further = p .tally .further; differ = nextOf (p .tally .differ); clients = p .tally .clients; larger = p .tally .larger } }
+    record { line = p .line; run = record { live = false; titled = false; due = p .run .due; created = p .run .created; before = p .run .before; messages = p .run .messages; replies = p .run .replies; here = p .run .here }; answer = p .answer; tally = record { runs = p .tally .runs; calls = p .tally .calls; further = p .tally .further; takings = p .tally .takings; differ = nextOf (p .tally .differ); clients = p .tally .clients; larger = p .tally .larger } }
 
 -- a run that is played still waits for a line
 unfoldable pub unfinished : Play → Bool
@@ -46,7 +46,7 @@ titledNow p =
 -- a run begins: an answer is due
 abbrev pub runBegun : Play → ℕ → Play
 runBegun p messages =
-    record { line = p .line; run = record { live = true; titled = p .run .titled; due = 61; created = true; before = p .run .before; messages = messages; replies = 0; here = p .run .here }; answer = p .answer; tally = record { runs = nextOf (p .tally .runs); calls = p .tally .calls; further = p .tally .further; differ = p .tally .differ; clients = p .tally .clients; larger = p .tally .larger } }
+    record { line = p .line; run = record { live = true; titled = p .run .titled; due = 61; created = true; before = p .run .before; messages = messages; replies = 0; here = p .run .here }; answer = p .answer; tally = record { runs = nextOf (p .tally .runs); calls = p .tally .calls; further = p .tally .further; takings = p .tally .takings; differ = p .tally .differ; clients = p .tally .clients; larger = p .tally .larger } }
 
 -- a call of the run's replica: an answer is due
 abbrev pub goingOn : Play → (messages replies : ℕ) → Play
@@ -56,12 +56,12 @@ goingOn p messages replies =
 -- a run that there is no room for
 abbrev pub tooLarge : Play → Play
 tooLarge p =
-    record { line = p .line; run = record { live = p .run .live; titled = false; due = p .run .due; created = p .run .created; before = p .run .before; messages = p .run .messages; replies = p .run .replies; here = p .run .here }; answer = p .answer; tally = record { runs = p .tally .runs; calls = p .tally .calls; further = p .tally .further; differ = p .tally .differ; clients = p .tally .clients; larger = nextOf (p .tally .larger) } }
+    record { line = p .line; run = record { live = p .run .live; titled = false; due = p .run .due; created = p .run .created; before = p .run .before; messages = p .run .messages; replies = p .run .replies; here = p .run .here }; answer = p .answer; tally = record { runs = p .tally .runs; calls = p .tally .calls; further = p .tally .further; takings = p .tally .takings; differ = p .tally .differ; clients = p .tally .clients; larger = nextOf (p .tally .larger) } }
 
 -- a client's run
 abbrev pub aClient : Play → Play
 aClient p =
-    record { line = p .line; run = p .run; answer = p .answer; tally = record { runs = p .tally .runs; calls = p .tally .calls; further = p .tally .further; differ = p .tally .differ; clients = nextOf (p .tally .clients); larger = p .tally .larger } }
+    record { line = p .line; run = p .run; answer = p .answer; tally = record { runs = p .tally .runs; calls = p .tally .calls; further = p .tally .further; takings = p .tally .takings; differ = p .tally .differ; clients = nextOf (p .tally .clients); larger = p .tally .larger } }
 
 -- a call was made
 abbrev pub calledNow : Play → (before : ℕ) → Returned → Play
@@ -83,7 +83,7 @@ withDue p due =
 -- and the call is counted
 abbrev pub callCounted : Play → (due : ℕ) → Play
 callCounted p due =
-    record { line = p .line; run = record { live = p .run .live; titled = p .run .titled; due = due; created = p .run .created; before = p .run .before; messages = p .run .messages; replies = p .run .replies; here = nextOf (p .run .here) }; answer = p .answer; tally = record { runs = p .tally .runs; calls = nextOf (p .tally .calls); further = p .tally .further; differ = p .tally .differ; clients = p .tally .clients; larger = p .tally .larger } }
+    record { line = p .line; run = record { live = p .run .live; titled = p .run .titled; due = due; created = p .run .created; before = p .run .before; messages = p .run .messages; replies = p .run .replies; here = nextOf (p .run .here) }; answer = p .answer; tally = record { runs = p .tally .runs; calls = nextOf (p .tally .calls); further = p .tally .further; takings = p .tally .takings; differ = p .tally .differ; clients = p .tally .clients; larger = p .tally .larger } }
 
 -- an answer is right; one to a creation isn't counted
 unfoldable pub right : Play → Play
@@ -94,7 +94,12 @@ abbrev pub stateRight : Play → Play
 stateRight p =
     record { line = p .line; run = record { live = p .run .live; titled = p .run .titled; due = 0; created = p .run .created; before = p .run .before; messages = p .run .messages; replies = p .run .replies; here = p .run .here }; answer = p .answer; tally = p .tally }
 
--- a line behind a state is right
+-- nonce and reports behind a state are right
 abbrev pub furtherRight : Play → Play
 furtherRight p =
-    record { line = p .line; run = p .run; answer = p .answer; tally = record { runs = p .tally .runs; calls = p .tally .calls; further = nextOf (p .tally .further); differ = p .tally .differ; clients = p .tally .clients; larger = p .tally .larger } }
+    record { line = p .line; run = p .run; answer = p .answer; tally = record { runs = p .tally .runs; calls = p .tally .calls; further = nextOf (p .tally .further); takings = p .tally .takings; differ = p .tally .differ; clients = p .tally .clients; larger = p .tally .larger } }
+
+-- the takings behind a state are right
+abbrev pub takingsRight : Play → Play
+takingsRight p =
+    record { line = p .line; run = p .run; answer = p .answer; tally = record { runs = p .tally .runs; calls = p .tally .calls; further = p .tally .further; takings = nextOf (p .tally .takings); differ = p .tally .differ; clients = p .tally .clients; larger = p .tally .larger } }

@@ -138,6 +138,9 @@ fn within(c: u8, line: &[u8]) -> Asked
     if c == b'+' {
         return Asked::Further;
     }
+    if c == b'$' {
+        return Asked::Takings;
+    }
     Asked::Unknown
 }
 

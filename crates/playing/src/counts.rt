@@ -1,6 +1,6 @@
 // What is known of the trace so far. At its first difference a run ends.
 ghost use mathlib.Core.Path.{_≡_};
-ghost use Rattle.playing.specs.Counts.{nextOf, noPlay, nextLine, ended, unfinished, closed, titledNow, runBegun, goingOn, tooLarge, aClient, calledNow, stateDue, right, stateRight, furtherRight};
+ghost use Rattle.playing.specs.Counts.{nextOf, noPlay, nextLine, ended, unfinished, closed, titledNow, runBegun, goingOn, tooLarge, aClient, calledNow, stateDue, right, stateRight, furtherRight, takingsRight};
 use crate::Play;
 use crate::RunState;
 use crate::Tally;
@@ -42,6 +42,7 @@ pub fn nothing() -> Play
         runs: 0,
         calls: 0,
         further: 0,
+        takings: 0,
         differ: 0,
         clients: 0,
         larger: 0,
@@ -223,12 +224,23 @@ pub fn state_right(p: Play) -> Play
     q
 }
 
-// A line behind a state that is right.
+// Nonce and reports that are right.
 pub fn further_right(p: Play) -> Play
     ensures { λ r. ⌜ r ≡ furtherRight p ⌝ }
 {
     let mut t = p.tally;
     t.further = next(t.further);
+    let mut q = p;
+    q.tally = t;
+    q
+}
+
+// Takings that are right.
+pub fn takings_right(p: Play) -> Play
+    ensures { λ r. ⌜ r ≡ takingsRight p ⌝ }
+{
+    let mut t = p.tally;
+    t.takings = next(t.takings);
     let mut q = p;
     q.tally = t;
     q

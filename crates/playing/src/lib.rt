@@ -16,7 +16,8 @@ pub enum ReplicaCall {
 }
 
 // What a line asks for: nothing; another line is missing before it; it is no line of a trace; a run of sizes that there is no room for; a client's run; a creation; a call
-// of the run's replica; or a comparison with its answer, its state, or what is told behind the state. Areas for messages and replies have so many bytes.
+// of the run's replica; or a comparison with its answer, its state, and behind the state with nonce and reports or the takings. Areas for messages and
+// replies have so many bytes.
 pub enum Asked {
     Nothing,
     Missing,
@@ -36,6 +37,7 @@ pub enum Asked {
     Answer,
     State,
     Further,
+    Takings,
 }
 
 // `live`: a run is played; else its lines are passed over. `titled`: its title stands there, and waits for the verdict. `due`: what the next line of the run has to begin
@@ -52,11 +54,12 @@ pub struct RunState {
     pub here: u64,
 }
 
-// Runs, calls whose answers were as recorded, lines behind a state that were, runs that differ, and what is passed over.
+// Runs, calls whose answers were as recorded, lines of nonce and reports that were, lines of takings that were, runs that differ, and what is passed over.
 pub struct Tally {
     pub runs: u64,
     pub calls: u64,
     pub further: u64,
+    pub takings: u64,
     pub differ: u64,
     pub clients: u64,
     pub larger: u64,

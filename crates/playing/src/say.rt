@@ -91,6 +91,18 @@ pub fn further(p: Play, k: u8, nonce: u64, reports: u64) {
     text::say(b"\n");
 }
 
+// What `comparing::answer::takings` found, in what the call of the takings answered.
+pub fn takings(p: Play, k: u8, code: u8, cents: u64) {
+    line(p.line);
+    if k == 1 {
+        text::labelled(b"takings is refused by ", code as u64);
+        text::say(b"\n");
+        return;
+    }
+    text::labelled(b"takings is ", cents);
+    text::say(b"\n");
+}
+
 // The line that is due isn't there.
 pub fn missing(p: Play) {
     line(p.line);
@@ -143,6 +155,8 @@ pub fn end(p: Play) {
     text::labelled(b" runs of clients, ", p.tally.larger);
     text::say(b" runs of larger sizes\n");
     text::labelled(b"nonce and reports: ", p.tally.further);
+    text::say(b" lines\n");
+    text::labelled(b"takings: ", p.tally.takings);
     text::say(b" lines\n");
     text::decimal(p.tally.runs);
     text::labelled(b" runs, ", p.tally.calls);

@@ -1,5 +1,6 @@
-// Replays recorded calls through the four calls of the replica whose client table is a slice of row structs, and compares number, messages, replies, memory and state after
-// each, as `replay` does. The format of the input is ../shared/vectors/FORMAT.md. Each index is tested before it is used, so that no line, however wrong, asks for a `requires`.
+// Replays recorded calls through the four calls of the replica whose client table is a slice of row structs, and compares number, messages, replies, memory and state
+// after each, and the takings by the call that says them, as `replay` does. The format of the input is ../shared/vectors/FORMAT.md, with the lines `+` and `$` of
+// host/README.md. Each index is tested before it is used, so that no line, however wrong, asks for a `requires`.
 // Here are the input, and one call with runs of the setup's lengths, which `trace` makes.
 ghost use mathlib.Core.Path.{_≡_};
 ghost use Prim.Native.Nat.{_≤_};

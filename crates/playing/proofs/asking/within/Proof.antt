@@ -28,7 +28,11 @@ returns-5 c = rw (ne-eqb (c .before .before .before .before .before .before .arg
 
 returns-6 : tie.Need-returns-6
 unfolding withinRun if_then_else_
-returns-6 c = rw (ne-eqb (c .before .before .before .before .before .before .args .c) 77 (c .before .before .before .before .if1 .left), ne-eqb (c .before .before .before .before .before .before .args .c) 84 (c .before .before .before .if2 .left), ne-eqb (c .before .before .before .before .before .before .args .c) 61 (c .before .before .if3 .left), ne-eqb (c .before .before .before .before .before .before .args .c) 58 (c .before .if4 .left), ne-eqb (c .before .before .before .before .before .before .args .c) 43 (c .if5 .left))
+returns-6 c = rw (ne-eqb (c .before .before .before .before .before .before .before .args .c) 77 (c .before .before .before .before .before .if1 .left), ne-eqb (c .before .before .before .before .before .before .before .args .c) 84 (c .before .before .before .before .if2 .left), ne-eqb (c .before .before .before .before .before .before .before .args .c) 61 (c .before .before .before .if3 .left), ne-eqb (c .before .before .before .before .before .before .before .args .c) 58 (c .before .before .if4 .left), ne-eqb (c .before .before .before .before .before .before .before .args .c) 43 (c .before .if5 .left), eq-eqb (c .before .before .before .before .before .before .before .args .c) 36 (c .if6 .taken))
+
+returns-7 : tie.Need-returns-7
+unfolding withinRun if_then_else_
+returns-7 c = rw (ne-eqb (c .before .before .before .before .before .before .before .args .c) 77 (c .before .before .before .before .before .if1 .left), ne-eqb (c .before .before .before .before .before .before .before .args .c) 84 (c .before .before .before .before .if2 .left), ne-eqb (c .before .before .before .before .before .before .before .args .c) 61 (c .before .before .before .if3 .left), ne-eqb (c .before .before .before .before .before .before .before .args .c) 58 (c .before .before .if4 .left), ne-eqb (c .before .before .before .before .before .before .before .args .c) 43 (c .before .if5 .left), ne-eqb (c .before .before .before .before .before .before .before .args .c) 36 (c .if6 .left))
 
 pub within-spec : {M : Type 1} → statement M
 within-spec =
@@ -41,4 +45,5 @@ within-spec =
     returns-3
     returns-4
     returns-5
-    returns-6)
+    returns-6
+    returns-7)
