@@ -5,8 +5,9 @@ use mathlib.Core.List.{List}
 use Prim.Native.Nat.{ℕ}
 use Rattle.numbers.specs.declared.View.{View}
 use Rattle.config.specs.declared.Setup.{Setup}
+use Rattle.outside.specs.declared.takings.Taken.{Taken}
 use Rattle.replica.specs.Lent.{Lent}
-use Rattle.whitherhaul.specs.Replicas.{Ran, MessageRan, IdleRan, CreateRan, RecoverRan}
+use Rattle.whitherhaul.specs.Replicas.{Ran, MessageRan, IdleRan, CreateRan, RecoverRan, TakingsRan}
 use Rattle.whitherhaul.specs.Clients.{ClientCreated, Requested, Replied, Idled, Read′, ClientCreateRan, RequestRan, ReplyRan, clientIdleRun, readRun}
 
 -- whitherhaul_create
@@ -25,6 +26,10 @@ on-message-one state frame x d e p q = p .exact ∙ sym (q .exact)
 -- whitherhaul_on_idle
 pub on-idle-one : (state : List ℕ) (x : Lent) (d e : Ran) → IdleRan state x d → IdleRan state x e → d ≡ e
 on-idle-one state x d e p q = p .exact ∙ sym (q .exact)
+
+-- whitherhaul_takings
+pub takings-one : (state : List ℕ) (d e : Taken) → TakingsRan state d → TakingsRan state e → d ≡ e
+takings-one state d e p q = p .exact ∙ sym (q .exact)
 
 -- whitherhaul_client_create
 pub client-create-one : (n id : ℕ) (run : List ℕ) (d e : ClientCreated) → ClientCreateRan n id run d → ClientCreateRan n id run e → d ≡ e
