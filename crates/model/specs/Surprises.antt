@@ -290,9 +290,9 @@ onTheFrame =
 unfoldable pub charge : (client operation member cents : ℕ) → Entry
 charge c o m x = record { client = c; request = 0; operation = o; member = m; cents = x }
 
--- a fee that is taken, a refund that is paid, one above the total, an Ask, a member that isn't there
+-- a fee that is taken, a refund of most of it that is paid, one above the total, an Ask, a member that isn't there
 unfoldable pub fiveSorts : List Entry
-fiveSorts = charge 1 1 3 10 ∷ charge 2 2 3 4 ∷ charge 3 2 3 100 ∷ charge 4 3 3 0 ∷ charge 5 1 8 50 ∷ []
+fiveSorts = charge 1 1 3 10 ∷ charge 2 2 3 7 ∷ charge 3 2 3 100 ∷ charge 4 3 3 0 ∷ charge 5 1 8 50 ∷ []
 
 -- Takings rise by a fee that is taken and fall by a refund that is paid; an install leaves them, and so does a refused call.
 unfoldable pub atAGlance : Directed
@@ -307,10 +307,10 @@ atAGlance =
           ∷ [];
       last =
           state (place Normal 6 6 false)
-          (book (fiveSorts ++ charge 6 1 3 70 ∷ []) 5 (gives 1 10 ∷ gives 2 6 ∷ gives 6 6 ∷ gives 3 6 ∷ gives 4 0 ∷ [])
-          (tableRow 1 0 (some (gives 1 10)) ∷ tableRow 2 0 (some (gives 2 6)) ∷ tableRow 3 0 (some (gives 6 6)) ∷ tableRow 4 0 (some (gives 3 6))
+          (book (fiveSorts ++ charge 6 1 3 70 ∷ []) 5 (gives 1 10 ∷ gives 2 3 ∷ gives 6 3 ∷ gives 3 3 ∷ gives 4 0 ∷ [])
+          (tableRow 1 0 (some (gives 1 10)) ∷ tableRow 2 0 (some (gives 2 3)) ∷ tableRow 3 0 (some (gives 6 3)) ∷ tableRow 4 0 (some (gives 3 3))
           ∷ tableRow 5 0 (some (gives 4 0)) ∷ tableRow 6 0 none ∷ [])
-          (totals3 6) 6 fiveSorts)
+          (totals3 3) 3 fiveSorts)
           (votes (acks2 0 0) 0 false) (noneStored 3 0) (clock true 0 0 0);
     }
 
