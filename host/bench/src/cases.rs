@@ -22,10 +22,12 @@ pub enum Case {
     Quorum { entries: usize },
     /// A recovery: both others answer, one with a log of so many entries, which is installed.
     Recovery { entries: usize },
+    /// The takings asked for; vsr-rs keeps no sum, so its owner adds up.
+    Takings,
 }
 
 /// All cases, each with its name.
-pub const CASES: [(&str, Case); 20] = [
+pub const CASES: [(&str, Case); 21] = [
     ("request, 1 client", requests(1, false)),
     ("request, 16 clients", requests(16, false)),
     ("request, 256 clients", requests(256, false)),
@@ -73,6 +75,7 @@ pub const CASES: [(&str, Case); 20] = [
     ),
     ("recovery, 64 entries", Case::Recovery { entries: 64 }),
     ("recovery, 4,096 entries", Case::Recovery { entries: 4_096 }),
+    ("takings, 4,096 members", Case::Takings),
 ];
 
 const fn requests(clients: usize, later: bool) -> Case {

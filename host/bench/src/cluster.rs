@@ -3,6 +3,7 @@
 use crate::cases::{broken_log, log, malformed_log, Case};
 use crate::sides::{setup, Side, Standing};
 use crate::stopwatch::took;
+use std::hint::black_box;
 use std::time::Duration;
 use vsr_rs::{LogEntry, Message};
 use whitherhaul::Refusal;
@@ -46,6 +47,7 @@ impl<S: Side> Cluster<S> {
             Case::Malformed { entries } => (1, self.malformed(entries)?),
             Case::Quorum { entries } => (1, self.quorums(entries)),
             Case::Recovery { entries } => (1, self.recoveries(entries)),
+            Case::Takings => (100, self.takings()),
         };
         let standings = self.replicas.iter().map(S::standing).collect();
         Some(Round {
@@ -227,6 +229,20 @@ impl<S: Side> Cluster<S> {
             })
         };
         (1..=times as u64).map(recover).collect()
+    }
+
+    /// The takings of a primary with 16 committed entries.
+    fn takings(&mut self) -> Vec<Duration> {
+        self.renew();
+        self.commit(&log(16, 16));
+        let mut sum = 0;
+        let pieces = timed(20, || {
+            for _ in 0..100 {
+                sum = S::takings(black_box(&self.replicas[0]));
+            }
+        });
+        assert_eq!(sum, 16 * 4_500);
+        pieces
     }
 }
 

@@ -43,6 +43,8 @@ pub trait Side {
     fn refused(replicas: &mut [Self::Replica], frame: &[u8]) -> Option<Refusal>;
     /// A tick of a replica; what it sends is on `next`, which is cleared first.
     fn tick(replica: &mut Self::Replica, next: &mut Self::Wire);
+    /// All members' totals together.
+    fn takings(replica: &Self::Replica) -> u64;
     /// How many messages and replies are on the wire.
     fn count(wire: &Self::Wire) -> (usize, usize);
     fn standing(replica: &Self::Replica) -> Standing;
@@ -105,6 +107,10 @@ impl Side for Ours {
         let sent = replica.on_idle().expect("a tick that isn't refused");
         next.messages.extend_from_slice(sent.message_bytes());
         next.replies.extend_from_slice(sent.reply_bytes());
+    }
+
+    fn takings(replica: &Self::Replica) -> u64 {
+        replica.takings().expect("a state that calls produced")
     }
 
     fn count(wire: &Bytes) -> (usize, usize) {
@@ -184,6 +190,10 @@ impl<P: Parcels> Side for Theirs<P> {
         next.clear();
         replica.on_idle();
         next.drain(replica);
+    }
+
+    fn takings(replica: &Vsr) -> u64 {
+        replica.state_machine().0.iter().sum()
     }
 
     fn count(wire: &P) -> (usize, usize) {
