@@ -2,16 +2,15 @@
 --     takings-promised     from `exact` to `meaning`
 --     full-addition        fees taken less refunds paid
 -- Assumes nothing.
-use mathlib.Core.Path.{_≡_, ap, sym, _∙_}
+use mathlib.Core.Path.{_≡_, ap, _∙_}
 use mathlib.Core.List.{List}
-use Prim.Native.Nat.{ℕ, _+_}
+use Prim.Native.Nat.{_+_}
 use lib.ListN.{length}
 use Rattle.numbers.proofs.WordLaws.{if-true}
 use Rattle.entries.specs.declared.Entry.{Entry}
 use Rattle.state.specs.declared.Replica.{Replica}
-use Rattle.model.specs.State.{State}
 use Rattle.layout.specs.Layout.{bookOf, modelOf}
-use Rattle.safety.specs.Money.{sum, allFees, allRefunds}
+use Rattle.safety.specs.Money.{sum, allRefunds}
 use Rattle.safety.specs.Demand.{Safe, zeros}
 use Rattle.outside.specs.Takings.{taken, takingsCall}
 use Rattle.outside.specs.declared.takings.Taken.{Taken}

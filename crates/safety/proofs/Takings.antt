@@ -3,18 +3,17 @@
 --     takings-one     one entry: what it gave changes the sum as it changes its member's total
 --     takings-sum     any entries, from totals whose sum is kept
 -- Assumes nothing.
-use Prim.Native.Nat.{ℕ, _+_, _-_, _*_, min, _≤_}
+use Prim.Native.Nat.{ℕ, _*_, _≤_}
 use native.Mathlib.Omega.{arith}
-use mathlib.Core.Path.{_≡_, refl, ap, sym, _∙_}
+use mathlib.Core.Path.{_≡_, refl, ap, _∙_}
 use mathlib.Core.Logic.{⊎-elim}
 use mathlib.Core.List.{List, [], _∷_}
-use lib.Dec.{eqb}
 use lib.ListN.{length}
 use borrow.Author.Tests.{eq-eqb, ne-eqb}
 use Rattle.numbers.proofs.NumberLaws.{eq-or-not}
 use Rattle.numbers.proofs.WordLaws.{if-true, if-false}
 use Rattle.entries.specs.declared.Entry.{Entry}
-use Rattle.fees.specs.Takings.{mostTakings, takingsAfter}
+use Rattle.fees.specs.Takings.{takingsAfter}
 use Rattle.fees.proofs.TakingsLaws.{fee-adds, refund-takes, else-stays}
 use Rattle.model.specs.Book.{outcome, totalsAfter, through, takingsThrough}
 use Rattle.model.proofs.BookLaws.{after-length}

@@ -16,7 +16,7 @@ use Rattle.replica.specs.Lent.{Lent, Called, lentBefore, lentAfter}
 use Rattle.outside.specs.Takings.{taken, takingsCall}
 use Rattle.outside.specs.declared.takings.Taken.{Taken}
 use Rattle.replica.specs.Promise.{MessagePromise, IdlePromise, CreatePromise, RecoverPromise, TakingsPromise}
-use Rattle.state_bytes.specs.Layout.{stateOf, encodeState, stateOk, isQuiet, HoldsState}
+use Rattle.state_bytes.specs.Layout.{stateOf, encodeState, stateOk, HoldsState}
 use Rattle.numbers.specs.Lending.{last}
 use Rattle.book.specs.Memory.{Run}
 
