@@ -1,22 +1,21 @@
 -- The entry rules along a log.
 --     ok-taken                     the rules see no byte past the entries
---     ok-front, ok-back, ok-entry  the first entries keep them, those after the first i, and one
+--     ok-front, ok-back            the first entries keep them, and those after the first i
 --     written-ok                   entries written after the first n
 --     append-ok, part-ok           one, and a part that is carried
---     num-fits, entry-fits         what bytes say fits
 -- Assumes nothing.
-use Prim.Native.Nat.{ℕ, zero, suc, _+_, _-_, _*_, _^_, _≤_, _<_}
-use native.Mathlib.Nat.{suc-add, zero-add, zero-sub, suc-sub-suc, sub-zero, lt-of-lt-of-le}
+use Prim.Native.Nat.{ℕ, zero, suc, _+_, _-_, _*_, _≤_}
+use native.Mathlib.Nat.{suc-add, zero-add, zero-sub, suc-sub-suc, sub-zero}
 use native.Mathlib.Omega.{arith}
 use mathlib.Core.Path.{_≡_, refl, ap, sym, _∙_}
 use mathlib.Core.Bool.{true}
 use mathlib.Core.List.{List, [], _∷_, _++_, append-nil}
-use lib.ListN.{length, take, drop, length-take, length-drop, take-append-drop}
+use lib.ListN.{length, take, drop, length-drop, take-append-drop}
 use lib.Seq.{drop-drop, drop-append-le, length-take-le}
-use Rattle.numbers.specs.Numbers.{num, over, putAt, Bytes}
+use Rattle.numbers.specs.Numbers.{over, putAt}
 use Rattle.numbers.proofs.WordLaws.{and-left, and-right, and-true}
-use Rattle.numbers.proofs.NumberLaws.{be-lt, pow-le256, num-front, drop-bytes, take-bytes}
-use Rattle.entries.specs.Entries.{operationOk, entryOf, entryOk, encodeEntry, entriesOk, EntryFits}
+use Rattle.numbers.proofs.NumberLaws.{num-front}
+use Rattle.entries.specs.Entries.{operationOk, entryOk, encodeEntry, entriesOk, EntryFits}
 use Rattle.entries.specs.Places.{entryPlace}
 use Rattle.entries.specs.declared.Entry.{Entry}
 use Rattle.entries.proofs.EntryLaws.{entryOk-encode}
@@ -65,10 +64,6 @@ ok-back (suc k) (suc i) s p =
     let m : 32 * suc i ≡ 32 + 32 * i = omega arith in
     rw (suc-sub-suc k i, m, ← drop-drop) (ok-back k i (drop 32 s) (and-right _ _ p))
 
-pub ok-entry : (s : List ℕ) → entryOk s ≡ true → operationOk (entryOf s .operation) (entryOf s .cents) ≡ true
-unfolding entryOk entryOf
-ok-entry s p = and-right _ _ p
-
 -- entries written after the first n of a log
 pub written-ok : (n k : ℕ) (log w : List ℕ) → entriesOk n log ≡ true → entryPlace n ≤ length log → ((t : List ℕ) → entriesOk k (w ++ t) ≡ true)
     → entriesOk (n + k) (withEntries n w log) ≡ true
@@ -89,23 +84,3 @@ pub part-ok : (op n k : ℕ) (log part : List ℕ) → n ≤ op → entryPlace (
     → entriesOk op log ≡ true → entriesOk k part ≡ true → entriesOk (n + k) (withEntries n (take (32 * k) part) log) ≡ true
 part-ok op n k log part g h l p q =
     written-ok n k log (take (32 * k) part) (ok-front op n log g p) (omega (arith, place-add n k)) (λ t. ok-taken k part t l ∙ q)
-
--- ---- what bytes say fits
-
--- the number of k places, some of which may lie past the end
-pub num-fits : (k a : ℕ) (s : List ℕ) → Bytes s → num k a s < 256 ^ k
-unfolding num
-num-fits k a s b =
-    let e : length (take k (drop a s)) ≤ k = simp length-take (omega arith) in
-    lt-of-lt-of-le (be-lt (take k (drop a s)) (take-bytes k (drop a s) (drop-bytes a s b))) (pow-le256 e)
-
-pub entry-fits : (s : List ℕ) → Bytes s → EntryFits (entryOf s)
-unfolding entryOf
-entry-fits s b =
-    record {
-      client = num-fits 8 0 s b;
-      request = num-fits 8 8 s b;
-      operation = num-fits 1 16 s b;
-      member = num-fits 4 20 s b;
-      cents = num-fits 8 24 s b;
-    }

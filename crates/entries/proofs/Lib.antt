@@ -3,3 +3,4 @@ pub mod RisingLaws
 pub mod ChainLaws
 pub mod PairLaws
 pub mod PlaceLaws
+pub mod SendableLaws

@@ -3,7 +3,7 @@ ghost use mathlib.Core.Path.{_≡_};
 ghost use Prim.Native.Nat.{_+_, _*_, _^_, _≤_, _<_};
 ghost use lib.ListN.{length, drop};
 ghost use Rattle.numbers.specs.Numbers.{over};
-ghost use Rattle.entries.specs.Entries.{operationNumber, operationOf, operationOk, entryOf, entryOk, encodeEntry, entries, entriesOk};
+ghost use Rattle.entries.specs.Entries.{operationNumber, operationOf, operationOk, entryOf, entryOk, encodeEntry, entries, entriesOk, runOk};
 ghost use Rattle.entries.specs.Places.{cellOf, entryPlace, resultPlace, ackPlace, entryIn};
 ghost use Rattle.entries.specs.Rising.{breaksAt, rising};
 ghost use Rattle.numbers.specs.Lending.{was, last};
@@ -146,6 +146,16 @@ pub fn entries_ok(s: &[u8], at: usize, k: usize) -> bool
         i += 1;
     }
     true
+}
+
+// Whether a run is entries that keep the rules, and nothing else.
+pub fn run_ok(run: &[u8]) -> bool
+    ensures { λ r. ⌜ r ≡ runOk (was run) ⌝ }
+{
+    if run.len() % 32 != 0 {
+        return false;
+    }
+    entries_ok(run, 0, run.len() / 32)
 }
 
 // Whether the entry at `at`, which stands after e, is of the same client and its request number does not rise. Of another client's entry nothing else is read.

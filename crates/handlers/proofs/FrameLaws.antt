@@ -21,6 +21,7 @@ use Rattle.numbers.proofs.WordLaws.{split, and-left}
 use Rattle.numbers.proofs.NumberLaws.{drop-bytes}
 use Rattle.entries.specs.Entries.{operationOk, entryOf, entriesOk, EntryFits}
 use Rattle.entries.specs.declared.Entry.{Entry}
+use Rattle.entries.proofs.SendableLaws.{ok-entry, entry-fits}
 use Rattle.config.specs.declared.Setup.{Setup}
 use Rattle.frames.specs.Kinds.{roomOf, fieldsOk, countOf}
 use Rattle.frames.specs.Messages.{responseState, messageOf, stateRow, carriedOf, carriedBytes}
@@ -31,7 +32,6 @@ use Rattle.frames.specs.declared.RecoveryState.{RecoveryState}
 use Rattle.frames.specs.declared.RecoveryState.the-variants.{Absent, Present}
 use Rattle.frames.specs.declared.Checked.the-variants.{Passed}
 use Rattle.frames.proofs.RefusalLaws.{passed}
-use Rattle.book.proofs.EntryRules.{ok-entry, entry-fits}
 use Rattle.recovery.specs.Recovery.{responseOf}
 
 -- what a frame that passes says, k being its kind

@@ -15,7 +15,7 @@ use Rattle.numbers.specs.Numbers.{big, within, over}
 use Rattle.numbers.specs.Cells.{packed}
 use Rattle.numbers.proofs.WordLaws.{if-true, if-false, and-both}
 use Rattle.numbers.proofs.CellLaws.{cells-length}
-use Rattle.entries.specs.Entries.{encodeEntry, entryOf, entries}
+use Rattle.entries.specs.Entries.{encodeEntry, entryOf, entries, runCount, runOk}
 use Rattle.entries.specs.Places.{entryPlace, resultPlace}
 use Rattle.entries.specs.declared.Entry.{Entry}
 use Rattle.fees.specs.Results.{resultOf, outcomes}
@@ -23,7 +23,7 @@ use Rattle.model.specs.Book.{resultsOf, through}
 use Rattle.model.proofs.BookLaws.{answers-length}
 use Rattle.journal.specs.Journal.{framesAfter, noTotals, journal, framedEntry, filed}
 use Rattle.journal.specs.Examining.{examined}
-use Rattle.journal.specs.Calls.{LeftWritten, notWritten, writing, runCount, runOk, writeCall, framesIn, opsThere, appendCall}
+use Rattle.journal.specs.Calls.{LeftWritten, notWritten, writing, writeCall, framesIn, opsThere, appendCall}
 use Rattle.journal.specs.Calls.{LeftRead, notRead, readInto, readExamined, totalsThere, readCall}
 use Rattle.journal.specs.declared.Examined.{Examined}
 use Rattle.journal.proofs.FrameLaws.{frames-length}

@@ -1,5 +1,4 @@
 -- Frames that were made of entries inside their rules are good, and the entries stand in them.
---     Keeps                        an entry as a journal holds it
 --     framed-entry, framed-rest    a frame read
 --     examined-frames, filed-frames        all frames
 -- Assumes nothing.
@@ -12,11 +11,12 @@ use native.Mathlib.Omega.{arith}
 use lib.ListN.{length, drop, length-append}
 use lib.Seq.{drop-at, drop-drop}
 use borrow.Author.Tests.{eq-eqb}
+use Rattle.numbers.specs.Words.{All}
 use Rattle.numbers.specs.Numbers.{big, num}
 use Rattle.numbers.specs.Cells.{cells}
 use Rattle.numbers.proofs.NumberLaws.{be-big}
 use Rattle.numbers.proofs.WordLaws.{if-false}
-use Rattle.entries.specs.Entries.{operationOk, entryOf, entryOk, encodeEntry, EntryFits}
+use Rattle.entries.specs.Entries.{entryOf, entryOk, encodeEntry, EntryFits, Sendable}
 use Rattle.entries.specs.declared.Entry.{Entry}
 use Rattle.entries.proofs.EntryLaws.{length-encode, entryOf-encode, entryOk-encode}
 use Rattle.fees.specs.Results.{resultOf, encodeResult, ResultFits}
@@ -24,7 +24,6 @@ use Rattle.fees.specs.declared.Outcome.{Outcome}
 use Rattle.fees.proofs.ResultLaws.{result-codec}
 use Rattle.model.specs.Book.{outcome, totalsAfter, resultsOf}
 use Rattle.model.proofs.BookLaws.{outcome-code}
-use Rattle.safety.specs.Ranges.{All}
 use Rattle.journal.specs.Journal.{journalFrame, framesAfter, framedEntry, framedResult, filed}
 use Rattle.journal.specs.Examining.{resultFault, fault, examinedAs, examinedAfter}
 use Rattle.journal.specs.Calls.{allSmall}
@@ -32,11 +31,6 @@ use Rattle.journal.proofs.FrameLaws.{frame-length}
 use Rattle.journal.proofs.FaultLaws.{GoodForm, fault-result, good-form}
 use Rattle.journal.proofs.ExamineLaws.{examined-end, examined-good}
 use Rattle.journal.proofs.SmallLaws.{small-outcome, small-after}
-
--- an entry inside its rules, whose fields fit
-pub record Keeps (e : Entry) : Type 0 where
-  pub fits : EntryFits e
-  pub ok : operationOk (e .operation) (e .cents) ≡ true
 
 -- ---- one frame
 
@@ -63,7 +57,7 @@ module _ (op : ℕ) (e : Entry) (o : Outcome) (rest : List ℕ) where
   pub framed-long : 50 ≤ length s
   framed-long = omega (arith, length-append (journalFrame op e o) rest, frame-length op e o)
 
-  good : Keeps e → op < 2 ^ 32 → GoodForm op s
+  good : Sendable e → op < 2 ^ 32 → GoodForm op s
   unfolding journalFrame big num
   good k h =
       record {
@@ -78,7 +72,7 @@ same-result : (o : Outcome) → resultFault o o ≡ 0
 unfolding resultFault
 same-result o = if-false _ _ _ (ap not (eq-eqb (o .code) (o .code) refl)) ∙ if-false _ _ _ (ap not (eq-eqb (o .total) (o .total) refl))
 
-frame-good : (op : ℕ) (ts : List ℕ) (e : Entry) (rest : List ℕ) → Keeps e → allSmall ts ≡ true → op < 2 ^ 32
+frame-good : (op : ℕ) (ts : List ℕ) (e : Entry) (rest : List ℕ) → Sendable e → allSmall ts ≡ true → op < 2 ^ 32
     → fault op ts (journalFrame op e (outcome ts e) ++ rest) ≡ 0
 frame-good op ts e rest k small h =
     let o = outcome ts e in
@@ -92,7 +86,7 @@ frame-good op ts e rest k small h =
 
 -- ---- all frames
 
-pub examined-frames : (k i : ℕ) (ts : List ℕ) (es : List Entry) → All Keeps es → allSmall ts ≡ true → length es ≤ k → i + length es < 2 ^ 32
+pub examined-frames : (k i : ℕ) (ts : List ℕ) (es : List Entry) → All Sendable es → allSmall ts ≡ true → length es ≤ k → i + length es < 2 ^ 32
     → examinedAfter k i ts (framesAfter i es (resultsOf ts es)) ≡ examinedAs (i + length es) 0
 unfolding framesAfter resultsOf
 examined-frames k i ts [] ks small l h = examined-end i ts [] k refl ∙ ap (λ (n : ℕ). examinedAs n 0) (sym (add-zero i))
@@ -107,7 +101,7 @@ examined-frames (suc k) i ts (e ∷ es) ks small l h =
     ∙ examined-frames k (suc i) (totalsAfter ts e) es (ks .1) (small-after ts small e) (omega arith) (omega arith)
     ∙ ap (λ (m : ℕ). examinedAs m 0) n
 
-pub filed-frames : (i : ℕ) (es : List Entry) (os : List Outcome) → length es ≡ length os → All Keeps es
+pub filed-frames : (i : ℕ) (es : List Entry) (os : List Outcome) → length es ≡ length os → All Sendable es
     → filed (length es) (framesAfter i es os) ≡ es
 unfolding framesAfter cells
 filed-frames i [] os h ks = refl

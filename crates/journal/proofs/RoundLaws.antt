@@ -6,61 +6,39 @@
 -- Assumes nothing.
 use mathlib.Core.Path.{_≡_, refl, sym, ap, _∙_, subst}
 use mathlib.Core.Bool.{true, not}
-use mathlib.Core.List.{List, [], _∷_, _++_, append-assoc, append-nil}
-use Prim.Native.Nat.{ℕ, zero, suc, _+_, _*_, _%_, _≤_, _<_}
+use mathlib.Core.List.{List, [], _∷_, append-nil}
+use Prim.Native.Nat.{ℕ, _*_, _≤_, _<_}
 use native.Mathlib.Nat.{zero-add}
 use native.Mathlib.Omega.{arith}
-use lib.Dec.{leb, eqb}
-use lib.ListN.{length, take, drop, length-drop, length-replicate}
-use lib.Seq.{take-at, drop-at, take-add, take-all}
+use lib.Dec.{leb}
+use lib.ListN.{length, take, drop, length-replicate}
+use lib.Seq.{take-at}
 use borrow.Author.Tests.{ltb-false, leb-true, eqb-true, eq-eqb, not-false}
-use Rattle.numbers.specs.Words.{_and_}
+use Rattle.numbers.specs.Words.{_and_, All}
 use Rattle.numbers.specs.Numbers.{big, within, over, Bytes}
-use Rattle.numbers.specs.Cells.{cells, packed, Codec}
+use Rattle.numbers.specs.Cells.{cells, packed}
 use Rattle.numbers.proofs.WordLaws.{split, and-both, if-false}
-use Rattle.numbers.proofs.NumberLaws.{drop-bytes, both-within}
-use Rattle.numbers.proofs.CellLaws.{cells-length, cells-one, packed-length}
-use Rattle.entries.specs.Entries.{entryOf, entryOk, encodeEntry, entries, entriesOk, EntryFits}
+use Rattle.numbers.proofs.NumberLaws.{both-within}
+use Rattle.numbers.proofs.CellLaws.{cells-length, cells-packed, packed-length}
+use Rattle.entries.specs.Entries.{entryOf, encodeEntry, entries, runCount, runOk, EntryFits, Sendable}
 use Rattle.entries.specs.declared.Entry.{Entry}
-use Rattle.entries.proofs.EntryLaws.{length-encode, entryOk-encode, encode-decode, entry-codec}
-use Rattle.book.proofs.EntryRules.{ok-entry, entry-fits}
+use Rattle.entries.proofs.EntryLaws.{entry-codec}
+use Rattle.entries.proofs.SendableLaws.{run-long, run-sendable, run-is, entries-packed, packed-count, packed-ok, packed-entries}
 use Rattle.model.specs.Book.{resultsOf, through}
 use Rattle.model.proofs.BookLaws.{through-length, answers-length}
 use Rattle.layout.specs.Layout.{totalOf}
-use Rattle.safety.specs.Ranges.{All}
 use Rattle.safety.proofs.Money.{member-total, all-totals}
 use Rattle.journal.specs.Journal.{noTotals, journal, framedEntry, filed}
 use Rattle.journal.specs.Examining.{examinedAs, examined}
-use Rattle.journal.specs.Calls.{LeftWritten, writing, runCount, runOk, writeCall}
+use Rattle.journal.specs.Calls.{LeftWritten, writing, writeCall}
 use Rattle.journal.specs.Calls.{LeftRead, readInto, readExamined, totalsThere, readCall, allSmall, takingsOf}
 use Rattle.journal.specs.Laws.{fileOf, entriesRead, ReadsBack, WritesBack, Balanced, BalancedRead}
 use Rattle.journal.proofs.TotalLaws.{TotalFits, total-codec}
 use Rattle.journal.proofs.TakingLaws.{there-is}
 use Rattle.journal.proofs.CallLaws.{journal-length, written, read-done}
 use Rattle.journal.proofs.SmallLaws.{small-none, small-through}
-use Rattle.journal.proofs.GoodLaws.{Keeps, examined-frames, filed-frames}
+use Rattle.journal.proofs.GoodLaws.{examined-frames, filed-frames}
 use Rattle.journal.proofs.WholeLaws.{Whole, whole}
-
--- ---- a run of entries
-
--- entries inside their rules, out of bytes
-entries-keep : (n : ℕ) (s : List ℕ) → Bytes s → entriesOk n s ≡ true → All Keeps (entries n s)
-unfolding entriesOk cells
-entries-keep zero s b h = tt
-entries-keep (suc n) s b h =
-    let p = and-both (entryOk s) (entriesOk n (drop 32 s)) h in
-    (record { fits = entry-fits s b; ok = ok-entry s (p .0) }, entries-keep n (drop 32 s) (drop-bytes 32 s b) (p .1))
-
--- their bytes are the run
-run-whole : (n : ℕ) (s : List ℕ) → Bytes s → 32 * n ≤ length s → entriesOk n s ≡ true → packed encodeEntry (entries n s) ≡ take (32 * n) s
-unfolding entriesOk cells packed
-run-whole zero s b l h = refl
-run-whole (suc n) s b l h =
-    let p = and-both (entryOk s) (entriesOk n (drop 32 s)) h in
-    let e : 32 * suc n ≡ 32 + 32 * n = omega arith in
-    let m : 32 * n ≤ length (drop 32 s) = simp length-drop (omega arith) in
-    (λ i. encode-decode s b (omega arith) (p .0) i ++ run-whole n (drop 32 s) (drop-bytes 32 s b) m (p .1) i)
-    ∙ sym (ap (λ (k : ℕ). take k s) e ∙ take-add 32 (32 * n) s)
 
 -- ---- a call that is done
 
@@ -103,29 +81,6 @@ read-done-is M file area totals =
 
 -- ---- cells written and read
 
-module _ {A : Type 0} (w : ℕ) (get : List ℕ → A) (put : A → List ℕ) (Fits : A → Type 0) (c : Codec w get put Fits) where
-  cells-packed : (xs : List A) (rest : List ℕ) → All Fits xs → cells w get (length xs) (packed put xs ++ rest) ≡ xs
-  unfolding cells packed
-  cells-packed [] rest fs = refl
-  cells-packed (x ∷ xs) rest fs =
-      ap (cells w get (suc (length xs))) (append-assoc (put x) (packed put xs) rest)
-      ∙ cells-one w get put Fits c (length xs) x (packed put xs ++ rest) (fs .0)
-      ∙ ap (λ (ys : List A). x ∷ ys) (cells-packed xs rest (fs .1))
-
-fits-all : (es : List Entry) → All Keeps es → All EntryFits es
-fits-all [] ks = tt
-fits-all (e ∷ es) ks = (ks .0 .fits, fits-all es (ks .1))
-
-entries-packed : (es : List Entry) (rest : List ℕ) → All Keeps es → entries (length es) (packed encodeEntry es ++ rest) ≡ es
-entries-packed es rest ks = cells-packed 32 entryOf encodeEntry EntryFits entry-codec es rest (fits-all es ks)
-
-ok-packed : (es : List Entry) → All Keeps es → entriesOk (length es) (packed encodeEntry es) ≡ true
-unfolding entriesOk packed _and_
-ok-packed [] ks = refl
-ok-packed (e ∷ es) ks =
-    let rest = packed encodeEntry es in
-    rw (entryOk-encode e rest (ks .0 .fits), ks .0 .ok, drop-at (encodeEntry e) rest 32 (length-encode e)) (ok-packed es (ks .1))
-
 totals-fit : (ts : List ℕ) → allSmall ts ≡ true → All TotalFits ts
 unfolding allSmall
 totals-fit [] h = tt
@@ -143,21 +98,11 @@ module _ (M : ℕ) (run : List ℕ) (b : Bytes run) (ok : runOk run ≡ true) (f
   abbrev es : List Entry
   es = entries n run
 
-  sound : (eqb (length run % 32) 0 ≡ true) × (entriesOk n run ≡ true)
-  unfolding runOk
-  sound = and-both _ _ ok
-
-  run-long : length run ≡ 32 * n
-  run-long = let e = eqb-true (length run % 32) 0 (sound .0) in omega arith
-
-  keep : All Keeps es
-  keep = entries-keep n run b (sound .1)
+  keep : All Sendable es
+  keep = run-sendable run b ok
 
   es-count : length es ≡ n
   es-count = cells-length 32 entryOf n run
-
-  is-run : packed encodeEntry es ≡ run
-  is-run = run-whole n run b (omega (arith, run-long)) (sound .1) ∙ take-all (32 * n) run (omega (arith, run-long))
 
   written-good : examined M (journal M es) ≡ examinedAs n 0
   unfolding examined journal
@@ -186,12 +131,12 @@ reads-back M run area b z into totals l t =
     (λ i. take (d .bytes i) (d .is i)) ∙ take-at w (drop (length w) area) (length w) refl in
     let g = written-filed M run b (d .ok) (d .few) in
     let p : over run into ≡ over (packed encodeEntry (filed n w)) into =
-    ap (λ (s : List ℕ). over s into) (sym (is-run M run b (d .ok) (d .few)) ∙ ap (packed encodeEntry) (sym g)) in
+    ap (λ (s : List ℕ). over s into) (sym (run-is run b (d .ok)) ∙ ap (packed encodeEntry) (sym g)) in
     let q : packed (big 8) (through (noTotals M) es) ≡ packed (big 8) (through (noTotals M) (filed n w)) =
     ap (λ (xs : List Entry). packed (big 8) (through (noTotals M) xs)) (sym g) in
     ap (λ (file : List ℕ). readCall M file into totals) f
     ∙ sym (read-done M w into totals (there-from M totals (d .members) t) (examinedAs n 0) (sym (written-good M run b (d .ok) (d .few))) refl _ _
-    (omega (arith, run-long M run b (d .ok) (d .few))) p q)
+    (omega (arith, run-long run b (d .ok))) p q)
 
 -- ---- what was read is written again
 
@@ -215,22 +160,6 @@ module _ (M : ℕ) (file : List ℕ) (b : Bytes file) (good : examined M file .f
   unfolding journal
   is-journal = all-good .is
 
-  rs-long : length (packed encodeEntry rs) ≡ 32 * all-good .m
-  rs-long = packed-length 32 entryOf encodeEntry EntryFits entry-codec rs ∙ ap (λ (k : ℕ). 32 * k) rs-count
-
-  rs-run-count : runCount (packed encodeEntry rs) ≡ all-good .m
-  rs-run-count = omega (arith, rs-long)
-
-  rs-ok : runOk (packed encodeEntry rs) ≡ true
-  unfolding runOk _and_
-  rs-ok =
-      let e : length (packed encodeEntry rs) % 32 ≡ 0 = omega (arith, rs-long) in
-      rw (eq-eqb _ _ e) (ap (λ (k : ℕ). entriesOk k (packed encodeEntry rs)) (rs-run-count ∙ sym rs-count) ∙ ok-packed rs (all-good .keeps))
-
-  rs-entries : entries (runCount (packed encodeEntry rs)) (packed encodeEntry rs) ≡ rs
-  rs-entries =
-      (λ i. entries ((rs-run-count ∙ sym rs-count) i) (sym (append-nil (packed encodeEntry rs)) i)) ∙ entries-packed rs [] (all-good .keeps)
-
 pub writes-back : (M : ℕ) (file area totals : List ℕ) → Bytes file → readCall M file area totals .answer .code ≡ 0 → WritesBack M file area totals
 unfolding over totalsThere
 writes-back M file area totals b z into l =
@@ -243,14 +172,15 @@ writes-back M file area totals b z into l =
     let f : entriesRead (readCall M file area totals) ≡ w =
     (λ i. take (32 * (d .entries-are ∙ ap length r) i) ((d .area-is ∙ ap (λ (xs : List Entry). over (packed encodeEntry xs) area) r) i))
     ∙ take-at w (drop (length w) area) (32 * length rs) (sym k) in
-    let c = rs-run-count M file b g in
+    let ks = all-good M file b g .keeps in
+    let c = packed-count rs ks ∙ rs-count M file b g in
     let m = and-both _ _ (d .there) .0 in
     let p : over file into ≡ over (journal M (entries (runCount w) w)) into =
-    ap (λ (s : List ℕ). over s into) (is-journal M file b g ∙ ap (journal M) (sym (rs-entries M file b g))) in
+    ap (λ (s : List ℕ). over s into) (is-journal M file b g ∙ ap (journal M) (sym (packed-entries rs ks))) in
     let n : 50 * runCount w ≡ length file =
     omega (arith, c, rs-count M file b g, journal-length M rs, ap length (is-journal M file b g)) in
     ap (λ (s : List ℕ). writeCall M s into) f
-    ∙ sym (written M w into m (rs-ok M file b g) (omega (arith, c, all-good M file b g .few)) _ (omega (arith, n)) p)
+    ∙ sym (written M w into m (packed-ok rs ks) (omega (arith, c, all-good M file b g .few)) _ (omega (arith, n)) p)
     ∙ (λ i. record { answer = record { code = 0; bytes = n i }; area = over file into })
 
 -- ---- totals

@@ -12,21 +12,21 @@ use lib.Dec.{eqb}
 use lib.ListN.{length, take, drop, length-drop, take-append-drop}
 use lib.Seq.{take-add, drop-drop}
 use borrow.Author.Tests.{eqb-true, eqb-false, not-false}
+use Rattle.numbers.specs.Words.{All}
 use Rattle.numbers.specs.Numbers.{big, Bytes}
 use Rattle.numbers.specs.Cells.{cells}
 use Rattle.numbers.proofs.NumberLaws.{big-num, drop-bytes}
+use Rattle.entries.specs.Entries.{Sendable}
 use Rattle.entries.proofs.EntryLaws.{encode-decode}
+use Rattle.entries.proofs.SendableLaws.{ok-entry, entry-fits}
 use Rattle.fees.specs.Results.{resultOf, encodeResult}
 use Rattle.fees.specs.declared.Outcome.{Outcome}
-use Rattle.book.proofs.EntryRules.{ok-entry, entry-fits}
 use Rattle.model.specs.Book.{outcome, totalsAfter, resultsOf}
-use Rattle.safety.specs.Ranges.{All}
 use Rattle.journal.specs.Journal.{journalFrame, framesAfter, framedEntry, framedResult, filed}
 use Rattle.journal.specs.Examining.{resultFault, fault, examinedAfter}
 use Rattle.journal.specs.declared.Examined.{Examined}
 use Rattle.journal.proofs.FaultLaws.{GoodForm, form-good, form-zero, fault-result, passed}
 use Rattle.journal.proofs.ExamineLaws.{examined-end, examined-past, examined-bad, examined-good}
-use Rattle.journal.proofs.GoodLaws.{Keeps}
 
 -- ---- one frame
 
@@ -61,7 +61,7 @@ pub record Whole (k i : ℕ) (ts s : List ℕ) : Type 0 where
   pub m : ℕ
   pub count : examinedAfter k i ts s .frames ≡ i + m
   pub few : m ≤ k
-  pub keeps : All Keeps (filed m s)
+  pub keeps : All Sendable (filed m s)
   pub is : s ≡ framesAfter i (filed m s) (resultsOf ts (filed m s))
 
 nothing : (s : List ℕ) → length s ≡ 0 → s ≡ []
@@ -93,7 +93,7 @@ module _ (k i : ℕ) (ts s : List ℕ) (b : Bytes s) (more : 0 < length s) (z : 
   form : GoodForm (suc i) s
   form = form-good (suc i) s (form-zero (suc i) ts s z)
 
-  framed : Keeps (framedEntry s)
+  framed : Sendable (framedEntry s)
   framed = record { fits = entry-fits (drop 9 s) (drop-bytes 9 s b); ok = ok-entry (drop 9 s) (form .entry-ok) }
 
   given : framedResult s ≡ outcome ts (framedEntry s)

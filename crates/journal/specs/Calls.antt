@@ -10,7 +10,7 @@ use lib.ListN.{length, drop}
 use Rattle.numbers.specs.Words.{if_then_else_, _and_}
 use Rattle.numbers.specs.Numbers.{big, within, over}
 use Rattle.numbers.specs.Cells.{cells, packed}
-use Rattle.entries.specs.Entries.{encodeEntry, entries, entriesOk}
+use Rattle.entries.specs.Entries.{encodeEntry, entries, runCount, runOk}
 use Rattle.entries.specs.Places.{entryPlace, resultPlace}
 use Rattle.entries.specs.declared.Entry.{Entry}
 use Rattle.fees.specs.Results.{outcomes}
@@ -41,13 +41,6 @@ unfoldable pub writing : (w area : List ℕ) → LeftWritten
 writing w area =
     if ltb (length area) (length w) then notWritten 9 area else
     record { answer = record { code = 0; bytes = length w }; area = over w area }
-
--- a run of entries, 32 bytes each; a rest of fewer bytes is an entry outside its rules
-abbrev pub runCount : (run : List ℕ) → ℕ
-runCount run = length run / 32
-
-unfoldable pub runOk : (run : List ℕ) → Bool
-runOk run = eqb (length run % 32) 0 and entriesOk (runCount run) run
 
 unfoldable pub writeCall : (M : ℕ) (run area : List ℕ) → LeftWritten
 writeCall M run area =

@@ -6,13 +6,13 @@ use Prim.Native.Nat.{ℕ, _+_, _*_, _≤_}
 use lib.ListN.{length, getD, take}
 use Rattle.numbers.specs.Numbers.{big, over}
 use Rattle.numbers.specs.Cells.{cells, packed}
-use Rattle.entries.specs.Entries.{entries}
+use Rattle.entries.specs.Entries.{entries, runCount}
 use Rattle.entries.specs.declared.Entry.{Entry}
 use Rattle.model.specs.Book.{through}
 use Rattle.layout.specs.Layout.{totalOf}
 use Rattle.safety.specs.Money.{feesOf, refundsOf, allFees, allRefunds, sum}
 use Rattle.journal.specs.Journal.{noTotals}
-use Rattle.journal.specs.Calls.{LeftWritten, notWritten, LeftRead, notRead, runCount, writeCall, readCall, takingsOf}
+use Rattle.journal.specs.Calls.{LeftWritten, notWritten, LeftRead, notRead, writeCall, readCall, takingsOf}
 
 -- the bytes that a call wrote, and the run of entries that a call read
 abbrev pub fileOf : LeftWritten → List ℕ

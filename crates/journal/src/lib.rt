@@ -55,7 +55,7 @@ pub fn write(members: u32, run: &[u8], area: &mut [u8]) -> Written
     if !numbers::within(1, 4096, members as u64) {
         return not_written(1);
     }
-    if !writing::run_ok(run) {
+    if !entries::run_ok(run) {
         return not_written(2);
     }
     let n = run.len() / 32;

@@ -9,7 +9,7 @@ ghost use Rattle.entries.specs.Places.{entryPlace, resultPlace};
 ghost use Rattle.fees.specs.Results.{outcomes};
 ghost use Rattle.journal.specs.Journal.{journalFrame, framesAfter, journal};
 ghost use Rattle.journal.specs.Steps.{WritesGroup};
-ghost use Rattle.journal.specs.Calls.{runOk, opsThere};
+ghost use Rattle.journal.specs.Calls.{opsThere};
 use crate::grouping;
 use entries::Entry;
 use fees::Outcome;
@@ -24,16 +24,6 @@ fn write_frame(area: &mut [u8], op: u32, e: Entry, o: Outcome)
     numbers::write_u32(&mut area[5..], op);
     entries::write_entry(&mut area[9..], e);
     fees::write_result(&mut area[41..], o);
-}
-
-// Whether a run is entries that keep the rules, and nothing else.
-pub fn run_ok(run: &[u8]) -> bool
-    ensures { λ r. ⌜ r ≡ runOk (was run) ⌝ }
-{
-    if run.len() % 32 != 0 {
-        return false;
-    }
-    entries::entries_ok(run, 0, run.len() / 32)
 }
 
 // The frames of those entries that are of a group's members, among the first n of a run.

@@ -5,9 +5,9 @@ use Prim.Native.Nat.{ℕ, zero, suc, _-_, _*_}
 use lib.ListN.{length, replicate}
 use Rattle.numbers.specs.Numbers.{big}
 use Rattle.numbers.specs.Cells.{packed}
-use Rattle.entries.specs.Entries.{entries}
+use Rattle.entries.specs.Entries.{entries, runCount}
 use Rattle.journal.specs.Journal.{journal}
-use Rattle.journal.specs.Calls.{LeftWritten, notWritten, runCount, writeCall, LeftRead, notRead, readCall}
+use Rattle.journal.specs.Calls.{LeftWritten, notWritten, writeCall, LeftRead, notRead, readCall}
 
 -- What is lent is filled with a byte other than 0: what a call leaves as it was differs from a 0 that it writes.
 unfoldable pub lentBytes : ℕ → List ℕ

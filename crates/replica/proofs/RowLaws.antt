@@ -8,6 +8,7 @@ use mathlib.Core.List.{List, [], _∷_, _++_, append-assoc}
 use Prim.Native.Nat.{ℕ, zero, suc, _+_, _-_, _^_, _<_}
 use native.Mathlib.Omega.{arith}
 use lib.ListN.{length, take, drop, replicate}
+use Rattle.numbers.specs.Words.{All}
 use Rattle.numbers.specs.Numbers.{Bytes}
 use Rattle.numbers.specs.Cells.{cells, packed}
 use Rattle.numbers.proofs.WordLaws.{split}
@@ -15,9 +16,9 @@ use Rattle.numbers.proofs.NumberLaws.{drop-bytes}
 use Rattle.numbers.proofs.CellLaws.{cells-one}
 use Rattle.entries.specs.Entries.{EntryFits}
 use Rattle.entries.specs.declared.Entry.{Entry}
+use Rattle.entries.proofs.SendableLaws.{num-fits}
 use Rattle.fees.specs.Results.{resultOf, ResultFits, outcomes}
 use Rattle.fees.specs.declared.Outcome.{Outcome}
-use Rattle.book.proofs.EntryRules.{num-fits}
 use Rattle.client_table.specs.Rows.{spotOf, stored, inserted, putRow, appended, replied, rowsCommitted, keptRow, rebuilt, renewed, followed}
 use Rattle.client_table.specs.Shape.{rowAt}
 use Rattle.client_table.specs.declared.Change.{Change}
@@ -25,7 +26,6 @@ use Rattle.client_table_bytes.specs.Layout.{noRow, byteRow, freshOf, rowWith, r
 use Rattle.client_table_bytes.specs.Steps.{RowFits}
 use Rattle.client_table_bytes.specs.declared.MarkedRow.{MarkedRow}
 use Rattle.client_table_bytes.proofs.LayoutLaws.{row-codec}
-use Rattle.safety.specs.Ranges.{All}
 use Rattle.safety.proofs.Changes.{all-append, all-take, all-drop}
 
 -- ---- what bytes say fits

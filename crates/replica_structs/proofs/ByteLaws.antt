@@ -12,7 +12,7 @@ use native.Mathlib.Omega.{arith}
 use lib.Dec.{eqb}
 use lib.ListN.{length, drop, replicate, length-map, drop-of-length-le}
 use borrow.Author.Tests.{ne-eqb}
-use Rattle.numbers.specs.Words.{_and_}
+use Rattle.numbers.specs.Words.{_and_, All}
 use Rattle.numbers.specs.Numbers.{over, within}
 use Rattle.numbers.specs.Cells.{packed}
 use Rattle.numbers.proofs.WordLaws.{and-left, if-false}
@@ -36,7 +36,6 @@ use Rattle.client_table_structs.specs.Shape as S
 use Rattle.client_table_structs.specs.declared.Row.{Row}
 use Rattle.client_table_structs.specs.declared.KeptReply.{KeptReply}
 use Rattle.client_table_structs.specs.declared.KeptReply.the-variants.{Unused, Waiting, Kept}
-use Rattle.safety.specs.Ranges.{All}
 use Rattle.replica.proofs.RowLaws.{followed-fits, read-back}
 use Rattle.replica_structs.specs.Promise.{markOf, totalIn, byteOf, tableBytes, ReplyOk, RowsOk}
 

@@ -3,6 +3,7 @@
 use mathlib.Core.Path.{_≡_}
 use mathlib.Core.List.{List, map}
 use Prim.Native.Nat.{ℕ, _≤_}
+use Rattle.numbers.specs.Words.{All}
 use Rattle.numbers.specs.Numbers.{Bytes}
 use Rattle.numbers.specs.Cells.{packed}
 use Rattle.numbers.specs.declared.View.{View}
@@ -15,7 +16,6 @@ use Rattle.client_table_structs.specs.declared.Row.{Row}
 use Rattle.client_table_structs.specs.declared.KeptReply.{KeptReply}
 use Rattle.client_table_structs.specs.declared.KeptReply.the-variants.{Unused, Waiting, Kept}
 use Rattle.state.specs.declared.Replica.{Replica}
-use Rattle.safety.specs.Ranges.{All}
 use Rattle.replica.specs.Lent.{Lent, Called}
 use Rattle.replica.specs.Calls.{messageCall, idleCall, createCall, recoverCall}
 use Rattle.replica.specs.Meaning as Meaning

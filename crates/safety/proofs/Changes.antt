@@ -8,6 +8,7 @@ use mathlib.Core.List.{List, [], _∷_, _++_}
 use mathlib.Core.Option.{none, some}
 use lib.ListN.{length, take, drop, getD, set, replicate, length-append, length-drop, length-set, length-replicate}
 use lib.Pow.{pow-pos}
+use Rattle.numbers.specs.Words.{All}
 use Rattle.numbers.proofs.WordLaws.{split}
 use Rattle.entries.specs.Entries.{operationOf, EntryFits}
 use Rattle.entries.specs.declared.Entry.{Entry}
@@ -32,7 +33,7 @@ use Rattle.model.specs.Recovery.{noted, noResponses, forgotten}
 use Rattle.model.specs.Steps.{newAt}
 use Rattle.model.proofs.BookLaws.{commitAll-log, commitAll-totals}
 use Rattle.safety.specs.Demand.{Every}
-use Rattle.safety.specs.Ranges.{All, Below, Small, ReportedFits, ResponseFits, Ranges}
+use Rattle.safety.specs.Ranges.{Below, Small, ReportedFits, ResponseFits, Ranges}
 use Rattle.safety.proofs.Handlers.{every-none, every-set}
 
 -- each of a list

@@ -5,6 +5,7 @@
 use Prim.Native.Nat.{ℕ}
 use mathlib.Core.Logic.{inl, inr}
 use mathlib.Core.List.{List, [], _∷_, _++_}
+use Rattle.numbers.specs.Words.{All}
 use Rattle.config.specs.declared.Setup.{Setup}
 use Rattle.model.specs.State.{State, Answer, after}
 use Rattle.model.specs.Asked.{Voted, AllBacked}
@@ -12,7 +13,6 @@ use Rattle.model.proofs.AskedLaws.{Fair, new-voted, frame-fair, tick-fair, afte
 use Rattle.model.proofs.AskedLaws.Fair.{refusal, moved}
 use Rattle.safety.specs.Demand.{Call, answer, run, Created}
 use Rattle.safety.specs.Demand.Call.{frame, tick}
-use Rattle.safety.specs.Ranges.{All}
 use Rattle.safety.specs.Earned.{Asks, AskedIn, sentBy, Earned}
 use Rattle.safety.proofs.Runs.{created}
 

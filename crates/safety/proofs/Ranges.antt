@@ -8,13 +8,14 @@ use mathlib.Core.List.{List, [], _∷_}
 use mathlib.Core.Option.{Option, none, some}
 use lib.ListN.{length, take, drop}
 use borrow.Author.Tests.{ltb-true, ltb-false, leb-false}
-use Rattle.numbers.specs.Words.{if_then_else_}
+use Rattle.numbers.specs.Words.{if_then_else_, All}
 use Rattle.numbers.specs.Numbers.{num, Bytes}
 use Rattle.numbers.specs.Cells.{cells}
 use Rattle.numbers.proofs.WordLaws.{split, or-left, and-left}
 use Rattle.numbers.proofs.NumberLaws.{drop-bytes}
 use Rattle.entries.specs.Entries.{entries, EntryFits}
 use Rattle.entries.specs.declared.Entry.{Entry}
+use Rattle.entries.proofs.SendableLaws.{num-fits, entry-fits}
 use Rattle.config.specs.Setup.{setupOk}
 use Rattle.config.specs.declared.Setup.{Setup}
 use Rattle.config.proofs.SetupLaws.{sized}
@@ -42,10 +43,9 @@ use Rattle.model.specs.ViewChange.{maybeSendDoViewChange, startViewChange, onSt
 use Rattle.model.specs.Recovery.{latestView, forgotten, onRecovery, recovered, recoverWith, recoverFrom, recoverLatest, onRecoveryResponse}
 use Rattle.model.specs.Steps.{fitted, carriedLog, heldIn, numbersOk, onMessage, onChecked, primaryTick, nextView, followTick, changeTick, onIdle, onFrame, onTick, newAt}
 use Rattle.model.proofs.BookLaws.{commitAll-log}
-use Rattle.book.proofs.EntryRules.{num-fits, entry-fits}
 use Rattle.safety.specs.Demand.{Call, answer, run, Created, At, Every, Safe}
 use Rattle.safety.specs.Demand.Call.{frame, tick}
-use Rattle.safety.specs.Ranges.{All, BytesOf, BytesIn, HeldFits, ReportedFits, ResponseFits, Ranges}
+use Rattle.safety.specs.Ranges.{BytesOf, BytesIn, HeldFits, ReportedFits, ResponseFits, Ranges}
 use Rattle.safety.proofs.Handlers.{every-get, chosen-has}
 use Rattle.safety.proofs.Runs.{created, demand3}
 use Rattle.safety.proofs.Changes.{all-append, all-take, all-drop, In, BookIn, ClockIn, ranges-of}

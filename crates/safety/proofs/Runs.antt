@@ -9,7 +9,7 @@ use mathlib.Core.Option.{Option, none, some}
 use lib.ListN.{length, getD, take, length-replicate}
 use lib.Seq.{length-take-le}
 use borrow.Author.Tests.{leb-false, eq-eqb, le-leb, not-true}
-use Rattle.numbers.specs.Words.{_and_}
+use Rattle.numbers.specs.Words.{_and_, All}
 use Rattle.numbers.proofs.WordLaws.{split, and-left, and-right, and-true}
 use Rattle.entries.specs.Rising.{breaksAt, follows, rising}
 use Rattle.entries.specs.declared.Entry.{Entry}
@@ -27,7 +27,7 @@ use Rattle.model.specs.Steps.{fitted, heldOk, heldOkIn, reportedOk, responsesOk
 use Rattle.safety.specs.Demand.{Call, run, Created, bare, rowsLeftBy, At, Every, StoredSound, SoundReport, SoundResponse, zeros, Safe, Later, Demand3}
 use Rattle.safety.specs.Demand.Created.{new, back}
 use Rattle.safety.specs.Money.{sum}
-use Rattle.safety.specs.Ranges.{All, Small}
+use Rattle.safety.specs.Ranges.{Small}
 use Rattle.model.proofs.BookLaws.{through-length, answers-length}
 use Rattle.safety.proofs.Money.{member-total, all-totals, sum-zeros}
 use Rattle.safety.proofs.Changes.{all-same, through-small}

@@ -10,6 +10,7 @@ use mathlib.Core.Logic.{⊎-elim}
 use mathlib.Core.List.{List, [], _∷_}
 use lib.ListN.{length}
 use borrow.Author.Tests.{eq-eqb, ne-eqb}
+use Rattle.numbers.specs.Words.{All}
 use Rattle.numbers.proofs.NumberLaws.{eq-or-not}
 use Rattle.numbers.proofs.WordLaws.{if-true, if-false}
 use Rattle.entries.specs.declared.Entry.{Entry}
@@ -18,7 +19,7 @@ use Rattle.fees.proofs.TakingsLaws.{fee-adds, refund-takes, else-stays}
 use Rattle.model.specs.Book.{outcome, totalsAfter, through, takingsThrough}
 use Rattle.model.proofs.BookLaws.{after-length}
 use Rattle.safety.specs.Money.{feeTaken, refundPaid, sum}
-use Rattle.safety.specs.Ranges.{All, Small}
+use Rattle.safety.specs.Ranges.{Small}
 use Rattle.safety.proofs.Money.{sum-one}
 use Rattle.safety.proofs.Changes.{after-small}
 

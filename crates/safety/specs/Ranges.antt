@@ -1,19 +1,15 @@
 -- The ranges of a state's numbers, over the calls that demand 3 speaks of: each number fits the field that holds it. Assumes nothing.
 use Prim.Native.Nat.{ℕ, _^_, _≤_, _<_}
 use mathlib.Core.Path.{_≡_}
-use mathlib.Core.List.{List, [], _∷_}
+use mathlib.Core.List.{List}
 use lib.ListN.{length}
+use Rattle.numbers.specs.Words.{All}
 use Rattle.numbers.specs.Numbers.{Bytes}
 use Rattle.entries.specs.Entries.{EntryFits}
 use Rattle.config.specs.declared.Setup.{Setup}
 use Rattle.model.specs.State.{Held, Reported, Response, State}
 use Rattle.safety.specs.Demand.{Call, At, Every}
 use Rattle.safety.specs.Demand.Call.{frame, tick}
-
--- each of a list
-abbrev pub All : {A : Type 0} → (A → Type 0) → List A → Type 0
-All P [] = Unit
-All P (x ∷ xs) = P x × All P xs
 
 -- a call's frame is bytes: `List ℕ` says less than the wire does
 abbrev pub BytesOf : Call → Type 0

@@ -1,10 +1,10 @@
--- `journal::writing::run_ok` meets its contract. Assumes nothing.
+-- `entries::run_ok` meets its contract. Assumes nothing.
 use borrow.Author.Needs.{needs}
 use borrow.Author.Tests.{ne-eqb, eq-eqb}
 use Rattle.numbers.specs.Words.{_and_}
-use Rattle.journal.specs.Calls.{runOk}
-use Rattle.journal.proofs.writing.run_ok.Statement.{statement}
-use Rattle.journal.proofs.writing.run_ok.Tie as tie
+use Rattle.entries.specs.Entries.{runOk}
+use Rattle.entries.proofs.run_ok.Statement.{statement}
+use Rattle.entries.proofs.run_ok.Tie as tie
 
 returns : tie.Need-returns
 unfolding _and_ runOk
