@@ -1,0 +1,15 @@
+pub mod FieldLaws
+pub mod ExportRowLaws
+pub mod ExportLaws
+pub mod ReadingLaws
+pub mod ScanLaws
+pub mod CopyLaws
+pub mod TextLaws
+pub mod SenseLaws
+pub mod RowLaws
+pub mod EntryRows
+pub mod LookLaws
+pub mod TableLaws
+pub mod BadRowLaws
+pub mod PlainLaws
+pub mod RoundLaws

@@ -1,0 +1,4 @@
+pub mod FigureLaws
+pub mod DecimalLaws
+mod LeftLaws
+mod DoneLaws
