@@ -120,7 +120,7 @@ module _ (file area : List ℕ) (t : Scanned) (e : t ≡ scanned file) where
   unfolding importCall
   scanned-only = ap (λ (x : Scanned). importScanned x file area) e
 
-  pub import-13 : (t .fault ≡ 0 → ⊥) → notImported 13 (t .rows + 1) (t .field) (t .fault) (t .place) area ≡ importCall file area
+  pub import-13 : (t .fault ≡ 0 → ⊥) → notImported 13 (t .rows + 1) (t .column) (t .fault) (t .offset) area ≡ importCall file area
   unfolding importScanned
   import-13 z = sym (if-true _ _ _ (ap not (ne-eqb _ _ z))) ∙ scanned-only
 
@@ -147,9 +147,9 @@ module _ (file area : List ℕ) (t : Scanned) (e : t ≡ scanned file) where
     import-9 h = sym (if-true _ _ _ (lt-ltb _ _ (no-room (length area) _ (rw count h)))) ∙ into-only
 
     pub imported : (after : List ℕ) → t .rows - 1 ≤ length area / 32 → after ≡ over (packed encodeEntry (tableEntries (t .rows - 1) file)) area
-        → _≡_ {A = LeftImported} (record { answer = record { code = 0; entries = t .rows - 1; row = 0; field = 0; fault = 0; place = 0 }; area = after })
+        → _≡_ {A = LeftImported} (record { answer = record { code = 0; entries = t .rows - 1; row = 0; column = 0; fault = 0; offset = 0 }; area = after })
         (importCall file area)
     unfolding importing
     imported after h p =
-        (λ i. record { answer = record { code = 0; entries = sym count i; row = 0; field = 0; fault = 0; place = 0 }; area = p i })
+        (λ i. record { answer = record { code = 0; entries = sym count i; row = 0; column = 0; fault = 0; offset = 0 }; area = p i })
         ∙ (sym (if-false _ _ _ (le-ltb _ _ (room (length area) _ (rw count h)))) ∙ into-only)

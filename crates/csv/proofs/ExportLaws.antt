@@ -1,14 +1,14 @@
 -- Laws of the table as export writes it.
 --     table-none, table-more, table-longer   the table of no entry, of one entry more, and its length
---     table-grows                            the table of the first entries is no longer than that of more
+--     table-grows, table-most                the table of the first entries is no longer than that of more, and how long it can be
 --     header-again, header-under             the header is written first, and what comes next stands over it
---     no-room, room-for                      whether the table fits, from its length
+--     no-room, room-for, room-enough         whether the table fits, from its length, or from how long it can be
 --     export-bad, export-long, export-done   the three ends of the call
 -- Assumes nothing.
 use mathlib.Core.Path.{_≡_, refl, sym, ap, _∙_}
 use mathlib.Core.Bool.{true, false, not}
 use mathlib.Core.List.{List, [], _∷_, _++_, append-nil}
-use Prim.Native.Nat.{ℕ, zero, suc, _+_, _-_, _*_, _≤_, _<_}
+use Prim.Native.Nat.{ℕ, zero, suc, _+_, _-_, _*_, _/_, _^_, _≤_, _<_}
 use native.Mathlib.Nat.{add-zero, zero-add}
 use native.Mathlib.Numerals.{add-one}
 use native.Mathlib.Omega.{arith}
@@ -17,14 +17,17 @@ use lib.Dec.{leb}
 use lib.ListN.{length, drop, length-append}
 use lib.Seq.{drop-drop, drop-at}
 use Rattle.numbers.specs.Words.{if_then_else_}
-use Rattle.numbers.specs.Numbers.{over, Wrote}
+use Rattle.numbers.specs.Numbers.{Bytes, over, Wrote}
 use Rattle.numbers.specs.Cells.{cells, packed}
+use Rattle.numbers.proofs.NumberLaws.{drop-bytes}
 use Rattle.numbers.proofs.CellLaws.{packed-append, cells-length}
 use Rattle.entries.specs.Entries.{entryOf, entries, runCount, runOk}
 use Rattle.entries.specs.declared.Entry.{Entry}
+use Rattle.entries.proofs.SendableLaws.{entry-fits}
 use Rattle.csv.specs.Table.{header, entryRow, rowsAfter, table, joined, plainRow, exported}
 use Rattle.csv.specs.declared.Exported.{Exported}
 use Rattle.csv.specs.Calls.{LeftExported, exporting, exportCall}
+use Rattle.csv.proofs.ExportRowLaws.{row-most}
 
 -- ---- the table
 
@@ -83,6 +86,14 @@ table-grows i n s h =
     let e : i + (n - i) ≡ n = omega arith in
     rw e at (grows-by i (n - i) s)
 
+pub table-most : (i : ℕ) (s : List ℕ) → Bytes s → i < 2 ^ 64 → length (tableOf i s) ≤ 37 + 113 * i
+table-most zero s b l = omega (arith, ap length (table-none s))
+table-most (suc i) s b l =
+    let e = entryOf (drop (32 * i) s) in
+    let n : i + 1 ≡ suc i = omega arith in
+    let m = rw n at (table-longer i s e refl) in
+    omega (arith, m, table-most i s b (omega arith), row-most (suc i) e l (entry-fits (drop (32 * i) s) (drop-bytes (32 * i) s b)))
+
 -- bytes over others, no fewer of them
 over-again : (v w a : List ℕ) → length v ≤ length w → over w (over v a) ≡ over w a
 unfolding over
@@ -114,6 +125,9 @@ no-room i n room s h l = sym (lt-leb (length (tableOf n s)) room (omega (arith, 
 
 pub room-for : (i n room : ℕ) (s : List ℕ) → i ≡ n → length (tableOf i s) ≤ room → true ≡ leb (length (tableOf n s)) room
 room-for i n room s e l = sym (le-leb (length (tableOf n s)) room (rw e at l))
+
+pub room-enough : (n room : ℕ) (s : List ℕ) → Bytes s → n < 2 ^ 64 → 37 ≤ room → n ≤ (room - 37) / 113 → true ≡ leb (length (tableOf n s)) room
+room-enough n room s b l h q = sym (le-leb (length (tableOf n s)) room (omega (arith, table-most n s b l)))
 
 -- ---- the call
 

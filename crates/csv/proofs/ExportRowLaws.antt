@@ -3,10 +3,12 @@
 --     fee-word, refund-word, ask-word        the word of each operation; refund-long, other-long: its length
 --     front-parts, back-parts, row-parts     a row's halves and a row are their parts, one behind the other
 --     front-long, back-long, row-long        how many bytes these are; front-sizes, back-sizes: with their parts'
+--     row-most                               no row has more than 113 bytes
 -- Assumes nothing.
 use mathlib.Core.Path.{_≡_, refl, sym, ap, _∙_}
 use mathlib.Core.List.{List, [], _∷_, _++_, append-assoc}
-use Prim.Native.Nat.{ℕ, _+_, _-_}
+use mathlib.Core.Logic.{⊎-elim}
+use Prim.Native.Nat.{ℕ, _+_, _-_, _^_, _≤_, _<_}
 use native.Mathlib.Omega.{arith}
 use borrow.Author.Tests.{eq-eqb, ne-eqb}
 use lib.Dec.{eqb}
@@ -14,9 +16,12 @@ use lib.ListN.{length, take, drop, length-append}
 use Rattle.numbers.specs.Words.{if_then_else_}
 use Rattle.numbers.specs.Numbers.{Wrote}
 use Rattle.numbers.proofs.RunLaws.{over-lend}
+use Rattle.numbers.proofs.NumberLaws.{eq-or-not}
 use Rattle.numbers.proofs.WordLaws.{split}
+use Rattle.entries.specs.Entries.{EntryFits}
 use Rattle.entries.specs.declared.Entry.{Entry}
 use Rattle.decimal.specs.Decimal.{decimal}
+use Rattle.decimal.proofs.DecimalLaws.{decimal-short}
 use Rattle.csv.specs.Rows.{comma, crlf}
 use Rattle.csv.specs.Table.{kindWord, entryRow, joined, plainRow, frontOf, backOf}
 
@@ -97,3 +102,22 @@ back-sizes e = (back-long e, comma-long (kindWord (e .operation)), comma-long (d
 
 pub row-long : (op : ℕ) (e : Entry) → length (plainRow (entryRow op e)) ≡ length (frontOf op e) + length (backOf e)
 row-long op e = ap length (sym (row-parts op e)) ∙ length-append (frontOf op e) (backOf e)
+
+word-most : (k : ℕ) → length (kindWord k) ≤ 6
+word-most k = ⊎-elim (λ e. omega (arith, refund-long k e)) (λ e. omega (arith, other-long k e)) (eq-or-not k 2)
+
+pub row-most : (op : ℕ) (e : Entry) → op < 2 ^ 64 → EntryFits e → length (plainRow (entryRow op e)) ≤ 113
+row-most op e l f =
+    let fits : e .member < 2 ^ 64 = omega (arith, f .member) in
+    omega (
+      arith,
+      row-long op e,
+      front-long op e,
+      back-long e,
+      word-most (e .operation),
+      decimal-short op l,
+      decimal-short (e .client) (f .client),
+      decimal-short (e .request) (f .request),
+      decimal-short (e .member) fits,
+      decimal-short (e .cents) (f .cents),
+    )

@@ -8,14 +8,12 @@
 use mathlib.Core.Path.{_≡_, refl, sym, ap, _∙_, subst}
 use mathlib.Core.List.{List, [], _∷_, _++_, append-assoc, append-nil}
 use mathlib.Core.Logic.{_⊎_, inl, inr, ⊎-elim}
-use Prim.Native.Nat.{ℕ, zero, suc, _+_, _≤_, _<_}
+use Prim.Native.Nat.{ℕ, zero, suc, _+_, _-_, _≤_, _<_}
 use native.Mathlib.Nat.{zero-add}
 use native.Mathlib.Omega.{arith}
-use lib.ListN.{length, drop, length-append}
+use lib.ListN.{length, drop, length-append, length-drop}
 use lib.Seq.{drop-at, drop-length}
-use borrow.Author.Tests.{eq-eqb, ne-eqb}
 use Rattle.numbers.specs.Words.{if_then_else_}
-use Rattle.numbers.proofs.WordLaws.{if-true, if-false}
 use Rattle.entries.specs.declared.Entry.{Entry}
 use Rattle.csv.specs.Rows.{comma, crlf, RowText}
 use Rattle.csv.specs.Table.{header, entryRow}
@@ -23,6 +21,7 @@ use Rattle.csv.specs.Fields.{ending, endingSize}
 use Rattle.csv.specs.Reading.{noValues, entryFrom, goodRow, rowFrom, rowIn, scannedAs, scannedAfter}
 use Rattle.csv.specs.Laws.{IsRow, BeginsWith}
 use Rattle.csv.specs.declared.Row.{Row}
+use Rattle.csv.proofs.ScanLaws.{after-bad, after-last, after-next}
 use Rattle.csv.proofs.RowLaws.{EndsRow, SaysAll, putAll, file-ends, row-ends, row-complete, row-sound}
 use Rattle.csv.proofs.EntryRows.{header-fields, entry-fields}
 
@@ -149,20 +148,18 @@ pub empty-not : (y : List ℕ) → length y ≡ 0 → 1 ≤ length y → ⊥
 empty-not y e l = omega arith
 
 module _ (n i p : ℕ) (s : List ℕ) where
-  pub scan-bad : (rowIn i s .fault ≡ 0 → ⊥) → scannedAfter (suc n) i p s ≡ scannedAs i (rowIn i s .fault) (rowIn i s .field) (p + rowIn i s .place)
-  unfolding scannedAfter
-  scan-bad h = if-false _ _ _ (ne-eqb _ _ h)
+  pub scan-bad : (rowIn i s .fault ≡ 0 → ⊥) → scannedAfter (suc n) i p s ≡ scannedAs i (rowIn i s .fault) (rowIn i s .column) (p + rowIn i s .place)
+  scan-bad h = sym (after-bad n i p s (rowIn i s) refl h)
 
   module _ (h : rowIn i s .fault ≡ 0) (y : List ℕ) (e : drop (rowIn i s .used) s ≡ y) where
+    left-is : length s - rowIn i s .used ≡ length y
+    left-is = sym (length-drop (rowIn i s .used) s) ∙ ap length e
+
     pub scan-end : length y ≡ 0 → scannedAfter (suc n) i p s ≡ scannedAs (suc i) 0 0 0
-    unfolding scannedAfter
-    scan-end l = if-true _ _ _ (eq-eqb _ _ h) ∙ if-true _ _ _ (eq-eqb _ _ (ap length e ∙ l))
+    scan-end l = sym (after-last n i p s (rowIn i s) refl h (omega (arith, left-is)))
 
     pub scan-on : 1 ≤ length y → scannedAfter (suc n) i p s ≡ scannedAfter n (suc i) (p + rowIn i s .used) y
-    unfolding scannedAfter
-    scan-on l =
-        if-true _ _ _ (eq-eqb _ _ h) ∙ if-false _ _ _ (ne-eqb _ _ (λ z. empty-not y (sym (ap length e) ∙ z) l))
-        ∙ ap (scannedAfter n (suc i) (p + rowIn i s .used)) e
+    scan-on l = after-next n i p s (rowIn i s) refl h (omega (arith, left-is)) ∙ ap (scannedAfter n (suc i) (p + rowIn i s .used)) e
 
 -- a row of two fields or more has a byte
 pub row-byte : (fs : List (List ℕ)) (a : List ℕ) → 2 ≤ length fs → RowText fs a → 1 ≤ length a

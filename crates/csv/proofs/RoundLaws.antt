@@ -54,7 +54,7 @@ scanned-good file area =
 pub record ImportDone (es : List Entry) (area : List ℕ) (d : LeftImported) : Type 0 where
   pub count : d .answer .entries ≡ length es
   pub is : d .area ≡ over (packed encodeEntry es) area
-  pub done : d ≡ record { answer = record { code = 0; entries = length es; row = 0; field = 0; fault = 0; place = 0 }; area = over (packed encodeEntry es) area }
+  pub done : d ≡ record { answer = record { code = 0; entries = length es; row = 0; column = 0; fault = 0; offset = 0 }; area = over (packed encodeEntry es) area }
 
 importing-done : (es : List Entry) (area : List ℕ) → importing es area .answer .code ≡ 0 → ImportDone es area (importing es area)
 unfolding importing
@@ -69,9 +69,9 @@ record Imports (file area : List ℕ) : Type 0 where
   done : ImportDone es area (importCall file area)
   entries-are : entries (importCall file area .answer .entries) (importCall file area .area) ≡ es
 
-import-done : (file area : List ℕ) → importCall file area .answer .code ≡ 0 → Imports file area
+done-import : (file area : List ℕ) → importCall file area .answer .code ≡ 0 → Imports file area
 unfolding over
-import-done file area z =
+done-import file area z =
     let t = table-is file (scanned-good file area z) in
     let q = import-is file (t .es) (t .looked) area in
     let d = subst (ImportDone (t .es) area) (sym q) (importing-done (t .es) area (ap (λ (x : LeftImported). x .answer .code) (sym q) ∙ z)) in
@@ -84,7 +84,7 @@ import-done file area z =
     }
 
 pub accepts : (file area : List ℕ) → importCall file area .answer .code ≡ 0 → Accepts file (importCall file area)
-accepts file area z = let d = import-done file area z in subst (λ (xs : List Entry). IsTable xs file) (sym (d .entries-are)) (d .is)
+accepts file area z = let d = done-import file area z in subst (λ (xs : List Entry). IsTable xs file) (sym (d .entries-are)) (d .is)
 
 pub bad-row : (file area : List ℕ) → importCall file area .answer .code ≡ 13 → FirstBad (importCall file area .answer .row) file
 unfolding importCall importScanned importing
@@ -100,9 +100,9 @@ pub record ExportDone (run area : List ℕ) (d : LeftExported) : Type 0 where
   pub bytes : d .answer .bytes ≡ length (exported (entries (runCount run) run))
   pub is : d .area ≡ over (exported (entries (runCount run) run)) area
 
-pub export-done : (run area : List ℕ) → exportCall run area .answer .code ≡ 0 → ExportDone run area (exportCall run area)
+pub done-export : (run area : List ℕ) → exportCall run area .answer .code ≡ 0 → ExportDone run area (exportCall run area)
 unfolding exportCall exporting
-export-done run area =
+done-export run area =
     split (λ (d : LeftExported). d .answer .code ≡ 0 → ExportDone run area d) _ _ _ (λ _ e. absurd (past 2 0 (omega arith) e)) λ r.
     split (λ (d : LeftExported). d .answer .code ≡ 0 → ExportDone run area d) _ _ _ (λ _ e. absurd (past 9 0 (omega arith) e))
     (λ _ _. record { ok = not-false _ r; bytes = refl; is = refl })
@@ -112,7 +112,7 @@ export-done run area =
 pub imports-back : (run area : List ℕ) → Bytes run → exportCall run area .answer .code ≡ 0 → ImportsBack run area
 unfolding over importing
 imports-back run area b z into l =
-    let d = export-done run area z in
+    let d = done-export run area z in
     let es = entries (runCount run) run in
     let t = exported es in
     let f : textOf (exportCall run area) ≡ t = (λ i. take (d .bytes i) (d .is i)) ∙ take-at t (drop (length t) area) (length t) refl in
@@ -121,7 +121,7 @@ imports-back run area b z into l =
     ap (λ (s : List ℕ). importCall s into) f
     ∙ accepted es t (exported-is es (run-sendable run b (d .ok))) into
     ∙ if-false _ _ _ (le-ltb (length into) (32 * length es) m)
-    ∙ (λ i. record { answer = record { code = 0; entries = n i; row = 0; field = 0; fault = 0; place = 0 }; area = over (run-is run b (d .ok) i) into })
+    ∙ (λ i. record { answer = record { code = 0; entries = n i; row = 0; column = 0; fault = 0; offset = 0 }; area = over (run-is run b (d .ok) i) into })
 
 -- entries that can be sent, exported
 export-sendable : (es : List Entry) (into : List ℕ) → All Sendable es → length (exported es) ≤ length into
@@ -135,7 +135,7 @@ export-sendable es into k l =
 pub exports-back : (file area : List ℕ) → importCall file area .answer .code ≡ 0 → ExportsBack file area
 unfolding over
 exports-back file area z into l =
-    let d = import-done file area z in
+    let d = done-import file area z in
     let w = packed encodeEntry (d .es) in
     let k = d .is .sendable in
     let f : runOf (importCall file area) ≡ w =

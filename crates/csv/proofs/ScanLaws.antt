@@ -4,6 +4,7 @@
 --     scan-rows, scan-counts    how many rows a file has: as many as bytes at most, and one at least where none is bad
 -- Assumes nothing.
 use mathlib.Core.Path.{_≡_, sym, ap, _∙_}
+use mathlib.Core.Bool.{not}
 use mathlib.Core.List.{List}
 use Prim.Native.Nat.{ℕ, zero, suc, _+_, _-_, _≤_, _<_}
 use native.Mathlib.Numerals.{add-one}
@@ -11,7 +12,7 @@ use native.Mathlib.Omega.{arith}
 use lib.Dec.{eqb}
 use lib.ListN.{length, take, drop, length-drop}
 use lib.Seq.{drop-drop}
-use borrow.Author.Tests.{eqb-true, eqb-false, eq-eqb, ne-eqb}
+use borrow.Author.Tests.{eqb-true, eqb-false, eq-eqb, ne-eqb, not-true, not-false}
 use Rattle.numbers.proofs.WordLaws.{if-true, if-false, split}
 use Rattle.numbers.proofs.RunLaws.{part-rest}
 use Rattle.csv.specs.declared.Row.{Row}
@@ -22,11 +23,11 @@ use Rattle.csv.proofs.ReadingLaws.{row-used, row-place, row-some}
 -- ---- a row at a time
 
 module _ (n i p : ℕ) (s : List ℕ) (r : Row) (e : r ≡ rowIn i s) where
-  after-bad : (r .fault ≡ 0 → ⊥) → scannedAs i (r .fault) (r .field) (p + r .place) ≡ scannedAfter (suc n) i p s
+  pub after-bad : (r .fault ≡ 0 → ⊥) → scannedAs i (r .fault) (r .column) (p + r .place) ≡ scannedAfter (suc n) i p s
   unfolding scannedAfter
   after-bad z =
       let h : (rowIn i s .fault ≡ 0 → ⊥) = λ g. z (ap (λ (x : Row). x .fault) e ∙ g) in
-      ap (λ (x : Row). scannedAs i (x .fault) (x .field) (p + x .place)) e ∙ sym (if-false _ _ _ (ne-eqb _ _ h))
+      ap (λ (x : Row). scannedAs i (x .fault) (x .column) (p + x .place)) e ∙ sym (if-true _ _ _ (ap not (ne-eqb _ _ h)))
 
   module _ (z : r .fault ≡ 0) where
     good : rowIn i s .fault ≡ 0
@@ -35,17 +36,17 @@ module _ (n i p : ℕ) (s : List ℕ) (r : Row) (e : r ≡ rowIn i s) where
     rest : length (drop (rowIn i s .used) s) ≡ length s - r .used
     rest = length-drop (rowIn i s .used) s ∙ ap (λ (x : Row). length s - x .used) (sym e)
 
-    after-last : length s ≤ r .used → scannedAs (suc i) 0 0 0 ≡ scannedAfter (suc n) i p s
+    pub after-last : length s ≤ r .used → scannedAs (suc i) 0 0 0 ≡ scannedAfter (suc n) i p s
     unfolding scannedAfter
     after-last h =
         let g : length (drop (rowIn i s .used) s) ≡ 0 = omega (arith, rest) in
-        sym (if-true _ _ _ (eq-eqb _ _ good) ∙ if-true _ _ _ (eq-eqb _ _ g))
+        sym (if-false _ _ _ (ap not (eq-eqb _ _ good)) ∙ if-true _ _ _ (eq-eqb _ _ g))
 
-    after-next : r .used < length s → scannedAfter (suc n) i p s ≡ scannedAfter n (suc i) (p + r .used) (drop (r .used) s)
+    pub after-next : r .used < length s → scannedAfter (suc n) i p s ≡ scannedAfter n (suc i) (p + r .used) (drop (r .used) s)
     unfolding scannedAfter
     after-next h =
         let g : (length (drop (rowIn i s .used) s) ≡ 0 → ⊥) = λ q. omega (arith, rest) in
-        if-true _ _ _ (eq-eqb _ _ good) ∙ if-false _ _ _ (ne-eqb _ _ g) ∙ ap (λ (x : Row). scannedAfter n (suc i) (p + x .used) (drop (x .used) s)) (sym e)
+        if-false _ _ _ (ap not (eq-eqb _ _ good)) ∙ if-false _ _ _ (ne-eqb _ _ g) ∙ ap (λ (x : Row). scannedAfter n (suc i) (p + x .used) (drop (x .used) s)) (sym e)
 
 -- ---- the same in a file, of which `&file[p..]` is handed over
 
@@ -78,7 +79,7 @@ module _ (i p : ℕ) (file : List ℕ) (r : Row) (e : r ≡ rowIn i (take (lengt
       left = omega arith
 
       pub scan-bad : (r .fault ≡ 0 → ⊥)
-          → scannedAs i (r .fault) (r .field) (p + r .place) ≡ scannedAfter (suc (length file) - i) i p (drop p file)
+          → scannedAs i (r .fault) (r .column) (p + r .place) ≡ scannedAfter (suc (length file) - i) i p (drop p file)
       scan-bad z = rw left (after-bad (length file - i) i p (drop p file) r here z)
 
       module _ (z : r .fault ≡ 0) where
@@ -95,15 +96,14 @@ module _ (i p : ℕ) (file : List ℕ) (r : Row) (e : r ≡ rowIn i (take (lengt
 -- ---- how many rows
 
 -- what holds of a bad row, of the last one and of what is behind a good one
-after-by : (P : Scanned → Type 0) (n i p : ℕ) (s : List ℕ) → let r = rowIn i s in ((r .fault ≡ 0 → ⊥) → P (scannedAs i (r .fault) (r .field) (p + r .place)))
+after-by : (P : Scanned → Type 0) (n i p : ℕ) (s : List ℕ) → let r = rowIn i s in ((r .fault ≡ 0 → ⊥) → P (scannedAs i (r .fault) (r .column) (p + r .place)))
     → (r .fault ≡ 0 → P (scannedAs (suc i) 0 0 0)) → (r .fault ≡ 0 → P (scannedAfter n (suc i) (p + r .used) (drop (r .used) s)))
     → P (scannedAfter (suc n) i p s)
 unfolding scannedAfter
 after-by P n i p s b l g =
     let r = rowIn i s in
-    split P (eqb (r .fault) 0) _ _
-    (λ e. split P (eqb (length (drop (r .used) s)) 0) _ _ (λ _. l (eqb-true _ _ e)) (λ _. g (eqb-true _ _ e)))
-    (λ e. b (eqb-false _ _ e))
+    split P (not (eqb (r .fault) 0)) _ _ (λ e. b (eqb-false _ _ (not-true _ e)))
+    (λ e. let z = eqb-true _ _ (not-false _ e) in split P (eqb (length (drop (r .used) s)) 0) _ _ (λ _. l z) (λ _. g z))
 
 after-rows : (n i p : ℕ) (s : List ℕ) → scannedAfter n i p s .rows ≤ i + length s
 unfolding scannedAfter

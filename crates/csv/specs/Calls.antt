@@ -1,5 +1,5 @@
 -- Export and import as calls: what each answers and leaves. A refused call leaves every lent byte as it was and answers 0 but for its number, and with 13 the
--- first bad row, the header being 1, with its first bad field, what is wrong with that, and where it begins in the file. Refusals in their order: in export 2,
+-- first bad row, the header being 1, the column of its first bad field, what is wrong with that, and where in the file it begins. Refusals in their order: in export 2,
 -- an entry outside its rules; in import 13; 9, the result doesn't fit. Assumes nothing.
 use mathlib.Core.Bool.{not}
 use mathlib.Core.List.{List}
@@ -44,18 +44,18 @@ pub record LeftImported : Type 0 where
   pub answer : Imported
   pub area : List ℕ
 
-abbrev pub notImported : (code row field fault place : ℕ) (area : List ℕ) → LeftImported
-notImported c r k f p area = record { answer = record { code = c; entries = 0; row = r; field = k; fault = f; place = p }; area = area }
+abbrev pub notImported : (code row column fault offset : ℕ) (area : List ℕ) → LeftImported
+notImported c r k f p area = record { answer = record { code = c; entries = 0; row = r; column = k; fault = f; offset = p }; area = area }
 
 -- entries over the front of the area, 32 bytes each, where they fit
 unfoldable pub importing : List Entry → (area : List ℕ) → LeftImported
 importing es area =
     if ltb (length area) (32 * length es) then notImported 9 0 0 0 0 area else
-    record { answer = record { code = 0; entries = length es; row = 0; field = 0; fault = 0; place = 0 }; area = over (packed encodeEntry es) area }
+    record { answer = record { code = 0; entries = length es; row = 0; column = 0; fault = 0; offset = 0 }; area = over (packed encodeEntry es) area }
 
 unfoldable pub importScanned : Scanned → (file area : List ℕ) → LeftImported
 importScanned t file area =
-    if not (eqb (t .fault) 0) then notImported 13 (t .rows + 1) (t .field) (t .fault) (t .place) area else
+    if not (eqb (t .fault) 0) then notImported 13 (t .rows + 1) (t .column) (t .fault) (t .offset) area else
     importing (tableEntries (t .rows - 1) file) area
 
 unfoldable pub importCall : (file area : List ℕ) → LeftImported

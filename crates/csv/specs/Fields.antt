@@ -39,14 +39,12 @@ abbrev pub fieldAs : (start n q ends : ℕ) → Field
 fieldAs a n q k = record { start = a; size = n; used = a + n + q + endingSize k; ends = k }
 
 unfoldable pub plainField : List ℕ → Field
-plainField s = fieldAs 0 (stretch s) 0 (ending (drop (stretch s) s))
+plainField s = let n = stretch s in fieldAs 0 n 0 (ending (drop n s))
 
 unfoldable pub quotedField : List ℕ → Field
 quotedField s =
-    if eqb (getD s (1 + stretch (drop 1 s)) 0) quote then
-    fieldAs 1 (stretch (drop 1 s)) 1 (ending (drop (2 + stretch (drop 1 s)) s))
-    else
-    fieldAs 1 (stretch (drop 1 s)) 0 0
+    let n = stretch (drop 1 s) in
+    if eqb (getD s (1 + n) 0) quote then fieldAs 1 n 1 (ending (drop (2 + n) s)) else fieldAs 1 n 0 0
 
 -- the field at the front
 unfoldable pub fieldIn : List ℕ → Field
@@ -66,7 +64,7 @@ same (b ∷ s) (c ∷ t) = eqb b c and same s t
 
 -- the op of this row
 unfoldable pub opIn : (i : ℕ) → List ℕ → Number
-opIn i t = if eqb (numberIn i t .value) i then numberIn i t else noNumber
+opIn i t = let n = numberIn i t in if eqb (n .value) i then n else noNumber
 
 -- an operation's number
 unfoldable pub kindIn : List ℕ → Number
@@ -78,7 +76,7 @@ kindIn t =
 
 -- cents that the entry rules allow this operation
 unfoldable pub centsIn : (operation : ℕ) → List ℕ → Number
-centsIn o t = if operationOk o (numberIn 1000000 t .value) then numberIn 1000000 t else noNumber
+centsIn o t = let n = numberIn 1000000 t in if operationOk o (n .value) then n else noNumber
 
 -- word k of the header, which says nothing but itself
 unfoldable pub headerIn : (k : ℕ) → List ℕ → Number
@@ -111,4 +109,4 @@ judged last f n =
 
 -- field k of row i, at the front
 unfoldable pub told : (i k o : ℕ) → List ℕ → Told
-told i k o s = judged (eqb k 5) (fieldIn s) (sense i k o (content (fieldIn s) s))
+told i k o s = let f = fieldIn s in judged (eqb k 5) f (sense i k o (content f s))

@@ -62,7 +62,7 @@ abbrev pub ImportsBack : (run area : List ℕ) → Type 0
 ImportsBack run area =
     (into : List ℕ) → length run ≤ length into
     → importCall (textOf (exportCall run area)) into
-    ≡ record { answer = record { code = 0; entries = runCount run; row = 0; field = 0; fault = 0; place = 0 }; area = over run into }
+    ≡ record { answer = record { code = 0; entries = runCount run; row = 0; column = 0; fault = 0; offset = 0 }; area = over run into }
 
 -- What was imported of a file is exported, into any area that holds it: the table of the same entries, with no quotes and every CRLF.
 abbrev pub ExportsBack : (file area : List ℕ) → Type 0
@@ -80,5 +80,5 @@ abbrev pub UntouchedByExport : (area : List ℕ) → LeftExported → Type 0
 UntouchedByExport area d = (d .answer .code ≡ 0 → ⊥) → d ≡ notExported (d .answer .code) area
 
 pub record UntouchedByImport (area : List ℕ) (d : LeftImported) : Type 0 where
-  pub as-before : (d .answer .code ≡ 0 → ⊥) → d ≡ notImported (d .answer .code) (d .answer .row) (d .answer .field) (d .answer .fault) (d .answer .place) area
-  pub else-nothing : (d .answer .code ≡ 13 → ⊥) → (d .answer .row ≡ 0) × (d .answer .field ≡ 0) × (d .answer .fault ≡ 0) × (d .answer .place ≡ 0)
+  pub as-before : (d .answer .code ≡ 0 → ⊥) → d ≡ notImported (d .answer .code) (d .answer .row) (d .answer .column) (d .answer .fault) (d .answer .offset) area
+  pub else-nothing : (d .answer .code ≡ 13 → ⊥) → (d .answer .row ≡ 0) × (d .answer .column ≡ 0) × (d .answer .fault ≡ 0) × (d .answer .offset ≡ 0)

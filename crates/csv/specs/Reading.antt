@@ -1,5 +1,6 @@
 -- How a file is read: six fields a row, row after row up to the first bad one, until nothing is left. Rows and fields count from 0 here, row 0 being the header
 -- and row i that of op i. Assumes nothing.
+use mathlib.Core.Bool.{not}
 use mathlib.Core.List.{List, [], _∷_}
 use Prim.Native.Nat.{ℕ, zero, suc, _+_}
 use lib.Dec.{eqb}
@@ -20,37 +21,36 @@ entryFrom vs =
 
 -- a row that takes so many bytes; one whose field number k, from 1 on, is bad, p bytes behind the row's beginning
 abbrev pub goodRow : (used : ℕ) (values : List ℕ) → Row
-goodRow n vs = record { fault = 0; field = 0; place = 0; used = n; entry = entryFrom vs }
+goodRow n vs = record { fault = 0; column = 0; place = 0; used = n; entry = entryFrom vs }
 
-abbrev pub badRow : (fault k p : ℕ) → Row
-badRow f k p = record { fault = f; field = k; place = p; used = 0; entry = entryFrom noValues }
+abbrev pub badRow : (fault column p : ℕ) → Row
+badRow f k p = record { fault = f; column = k; place = p; used = 0; entry = entryFrom noValues }
 
 -- what is left of row i behind its first k fields, which took p bytes and said these values; n more come
 unfoldable pub rowFrom : (n k i : ℕ) (vs : List ℕ) (p : ℕ) (s : List ℕ) → Row
 rowFrom zero k i vs p s = goodRow p vs
 rowFrom (suc n) k i vs p s =
-    if eqb (told i k (getD vs 3 0) s .fault) 0 then
-    rowFrom n (suc k) i (set vs k (told i k (getD vs 3 0) s .value)) (p + told i k (getD vs 3 0) s .used) (drop (told i k (getD vs 3 0) s .used) s)
-    else
-    badRow (told i k (getD vs 3 0) s .fault) (k + 1) p
+    let t = told i k (getD vs 3 0) s in
+    if eqb (t .fault) 0 then rowFrom n (suc k) i (set vs k (t .value)) (p + t .used) (drop (t .used) s) else
+    badRow (t .fault) (k + 1) p
 
 -- row i, at the front
 unfoldable pub rowIn : (i : ℕ) → List ℕ → Row
 rowIn i s = rowFrom 6 0 i noValues 0 s
 
 -- so many good rows, and where and how the next is bad; fault 0: none is
-abbrev pub scannedAs : (rows fault field place : ℕ) → Scanned
-scannedAs i f k p = record { rows = i; fault = f; field = k; place = p }
+abbrev pub scannedAs : (rows fault column offset : ℕ) → Scanned
+scannedAs i f k p = record { rows = i; fault = f; column = k; offset = p }
 
 -- What is left of a file behind i good rows, which took p bytes, where at most so many come: a row takes a byte or more.
 unfoldable pub scannedAfter : (most i p : ℕ) (s : List ℕ) → Scanned
 scannedAfter zero i p s = scannedAs i 0 0 0
 scannedAfter (suc n) i p s =
-    if eqb (rowIn i s .fault) 0 then
-    (if eqb (length (drop (rowIn i s .used) s)) 0 then scannedAs (suc i) 0 0 0 else
-    scannedAfter n (suc i) (p + rowIn i s .used) (drop (rowIn i s .used) s))
-    else
-    scannedAs i (rowIn i s .fault) (rowIn i s .field) (p + rowIn i s .place)
+    let r = rowIn i s in
+    let rest = drop (r .used) s in
+    if not (eqb (r .fault) 0) then scannedAs i (r .fault) (r .column) (p + r .place) else
+    if eqb (length rest) 0 then scannedAs (suc i) 0 0 0 else
+    scannedAfter n (suc i) (p + r .used) rest
 
 unfoldable pub scanned : (file : List ℕ) → Scanned
 scanned file = scannedAfter (suc (length file)) 0 0 file
@@ -58,7 +58,7 @@ scanned file = scannedAfter (suc (length file)) 0 0 file
 -- the entries of n rows, from row i on
 unfoldable pub rowEntries : (n i : ℕ) (s : List ℕ) → List Entry
 rowEntries zero i s = []
-rowEntries (suc n) i s = rowIn i s .entry ∷ rowEntries n (suc i) (drop (rowIn i s .used) s)
+rowEntries (suc n) i s = let r = rowIn i s in r .entry ∷ rowEntries n (suc i) (drop (r .used) s)
 
 -- those of the first n rows behind the header
 unfoldable pub tableEntries : (n : ℕ) (file : List ℕ) → List Entry

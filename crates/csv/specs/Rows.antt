@@ -2,7 +2,7 @@
 -- bytes, which are 32 to 126 and no quote and no comma; or quoted: it stands between two quotes, may hold commas, CR and LF too, and each quote of it is
 -- written twice. Assumes nothing.
 use mathlib.Core.Path.{_≡_}
-use mathlib.Core.Bool.{Bool, true, false, not}
+use mathlib.Core.Bool.{Bool, true, not}
 use mathlib.Core.List.{List, [], _∷_, _++_}
 use mathlib.Core.Logic.{_⊎_}
 use Prim.Native.Nat.{ℕ}

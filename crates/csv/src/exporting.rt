@@ -91,7 +91,7 @@ fn row_size(op: u64, e: Entry) -> usize
     front + back + 7
 }
 
-// Whether so many bytes hold the table of a run.
+// Whether so many bytes hold the table of a run. No row has more than 113: where that much is there for each, none is measured.
 pub fn fits(run: &[u8], room: usize) -> bool
     ensures { λ r. ⌜ r ≡ leb (length (exported (entries (runCount (was run)) (was run)))) room ⌝ }
 {
@@ -100,6 +100,9 @@ pub fn fits(run: &[u8], room: usize) -> bool
     }
     let n = run.len() / 32;
     let mut left = room - 37;
+    if n <= left / 113 {
+        return true;
+    }
     let mut i: usize = 0;
     while i < n {
         let size = row_size((i + 1) as u64, entries::entry_at(run, 32 * i));

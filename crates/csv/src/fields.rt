@@ -1,14 +1,12 @@
 // A field at the front of what is left of a file: where it stands, how it ends, and what it says.
 ghost use mathlib.Core.Path.{_≡_};
 ghost use mathlib.Core.Bool.{true};
-ghost use mathlib.Core.List.{[]};
 ghost use Prim.Native.Nat.{_+_, _≤_, _<_};
-ghost use lib.Dec.{eqb};
-ghost use lib.ListN.{length, getD, drop};
+ghost use lib.ListN.{length, drop};
 ghost use Rattle.numbers.specs.Lending.{was, last};
 ghost use Rattle.decimal.specs.Decimal.{said, noNumber};
 ghost use Rattle.csv.specs.Table.{header};
-ghost use Rattle.csv.specs.Fields.{stops, stretch, ending, endingSize, fieldAs, plainField, quotedField, fieldIn, same, opIn, kindIn, centsIn, headerIn, sense, wrongField, judged, told};
+ghost use Rattle.csv.specs.Fields.{stops, stretch, ending, endingSize, plainField, quotedField, fieldIn, same, opIn, kindIn, centsIn, headerIn, sense, wrongField, judged, told};
 use crate::Field;
 use crate::Told;
 use decimal::Number;

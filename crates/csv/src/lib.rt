@@ -30,31 +30,31 @@ pub struct Told {
     pub used: usize,
 }
 
-// A row judged: what is wrong with its first bad field, which field that is, 1 to 6, and how far behind the row's beginning. Fault 0: nothing; then how many bytes the row takes, and its entry.
+// A row judged: what is wrong with its first bad field, its column, 1 to 6, and how far behind the row's beginning it stands. Fault 0: nothing; then how many bytes the row takes, and its entry.
 pub struct Row {
     pub fault: u8,
-    pub field: u8,
+    pub column: u8,
     pub place: usize,
     pub used: usize,
     pub entry: Entry,
 }
 
-// So many good rows, and what is wrong with the next, in which field, at which place of the file. Fault 0: none is bad.
+// So many good rows, and what is wrong with the next, in which column, and where in the file that field begins. Fault 0: none is bad.
 pub struct Scanned {
     pub rows: usize,
     pub fault: u8,
-    pub field: u8,
-    pub place: usize,
+    pub column: u8,
+    pub offset: usize,
 }
 
-// The refusal's number, how many entries were imported, and with 13 the first bad row, the header being 1, its first bad field, what is wrong with that, and where in the file it begins.
+// The refusal's number, how many entries were imported, and with 13 the first bad row, the header being 1, the column of its first bad field, what is wrong with that, and where in the file it begins.
 pub struct Imported {
     pub code: u8,
     pub entries: usize,
     pub row: usize,
-    pub field: u8,
+    pub column: u8,
     pub fault: u8,
-    pub place: usize,
+    pub offset: usize,
 }
 
 fn not_exported(code: u8) -> Exported
@@ -78,15 +78,15 @@ pub fn export(run: &[u8], area: &mut [u8]) -> Exported
 }
 
 fn not_imported(code: u8) -> Imported
-    ensures { λ r. ⌜ r ≡ (record { code = code; entries = 0; row = 0; field = 0; fault = 0; place = 0 }) ⌝ }
+    ensures { λ r. ⌜ r ≡ (record { code = code; entries = 0; row = 0; column = 0; fault = 0; offset = 0 }) ⌝ }
 {
     Imported {
         code,
         entries: 0,
         row: 0,
-        field: 0,
+        column: 0,
         fault: 0,
-        place: 0,
+        offset: 0,
     }
 }
 
@@ -100,9 +100,9 @@ pub fn import(file: &[u8], area: &mut [u8]) -> Imported
             code: 13,
             entries: 0,
             row: t.rows + 1,
-            field: t.field,
+            column: t.column,
             fault: t.fault,
-            place: t.place,
+            offset: t.offset,
         };
     }
     let n = t.rows - 1;
@@ -114,8 +114,8 @@ pub fn import(file: &[u8], area: &mut [u8]) -> Imported
         code: 0,
         entries: n,
         row: 0,
-        field: 0,
+        column: 0,
         fault: 0,
-        place: 0,
+        offset: 0,
     }
 }

@@ -12,12 +12,12 @@ use crate::Scanned;
 use crate::fields;
 use entries::Entry;
 
-fn bad_row(fault: u8, field: u8, place: usize) -> Row
-    ensures { λ r. ⌜ r ≡ badRow fault field place ⌝ }
+fn bad_row(fault: u8, column: u8, place: usize) -> Row
+    ensures { λ r. ⌜ r ≡ badRow fault column place ⌝ }
 {
     Row {
         fault,
-        field,
+        column,
         place,
         used: 0,
         entry: Entry {
@@ -48,7 +48,7 @@ fn row(s: &[u8], i: u64) -> Row
     }
     Row {
         fault: 0,
-        field: 0,
+        column: 0,
         place: 0,
         used: p,
         entry: Entry {
@@ -73,8 +73,8 @@ pub fn scan(file: &[u8]) -> Scanned
             return Scanned {
                 rows: i,
                 fault: r.fault,
-                field: r.field,
-                place: p + r.place,
+                column: r.column,
+                offset: p + r.place,
             };
         }
         p += r.used;
@@ -83,8 +83,8 @@ pub fn scan(file: &[u8]) -> Scanned
             return Scanned {
                 rows: i,
                 fault: 0,
-                field: 0,
-                place: 0,
+                column: 0,
+                offset: 0,
             };
         }
     }

@@ -2,9 +2,9 @@
 -- for its number, and with 12 the offset of the first bad frame's first byte and what is wrong with it. Refusals in their order: 1 M not 1 to 4,096, or
 -- a run of totals that isn't 8M bytes; in writing 2, an entry outside its rules, and 4, past 4,096 entries; in reading 12; 9, the result doesn't fit.
 -- Assumes nothing.
-use mathlib.Core.Bool.{Bool, true, false, not}
+use mathlib.Core.Bool.{Bool, true, not}
 use mathlib.Core.List.{List, [], _∷_}
-use Prim.Native.Nat.{ℕ, _+_, _-_, _*_, _/_, _%_}
+use Prim.Native.Nat.{ℕ, _+_, _-_, _*_}
 use lib.Dec.{eqb, leb, ltb}
 use lib.ListN.{length, drop}
 use Rattle.numbers.specs.Words.{if_then_else_, _and_}

@@ -8,7 +8,7 @@ use Rattle.csv.specs.Calls.{LeftExported, LeftImported}
 abbrev pub exportedAs : (code bytes : ℕ) (area : List ℕ) → LeftExported
 exportedAs k n area = record { answer = record { code = k; bytes = n }; area = area }
 
--- an import: it returned this number, and left entries, row, field, fault and place, and this area
+-- an import: it returned this number, and left entries, row, column, fault and offset, and this area
 abbrev pub importedAs : (code : ℕ) (answers area : List ℕ) → LeftImported
 importedAs k answers area =
     record {
@@ -16,9 +16,9 @@ importedAs k answers area =
         code = k;
         entries = getD answers 0 0;
         row = getD answers 1 0;
-        field = getD answers 2 0;
+        column = getD answers 2 0;
         fault = getD answers 3 0;
-        place = getD answers 4 0;
+        offset = getD answers 4 0;
       };
       area = area;
     }

@@ -15,7 +15,7 @@ pub extern "C" fn whitherhaul_csv_export(run: &[u8], area: &mut [u8], bytes: &mu
     a.code
 }
 
-// A table's entries; answers: entries, and with 13 the first bad row, its first bad field, what is wrong with that, and where in the file it begins.
+// A table's entries; answers: entries, and with 13 the first bad row, the column of its first bad field, what is wrong with that, and where in the file it begins.
 #[no_mangle]
 pub extern "C" fn whitherhaul_csv_import(file: &[u8], area: &mut [u8], answers: &mut [u64; 5]) -> u8
     ensures { λ r. ⌜ importedAs r (last answers) (last area) ≡ importCall (was file) (was area) ⌝ }
@@ -24,9 +24,9 @@ pub extern "C" fn whitherhaul_csv_import(file: &[u8], area: &mut [u8], answers: 
     *answers = [
         a.entries as u64,
         a.row as u64,
-        a.field as u64,
+        a.column as u64,
         a.fault as u64,
-        a.place as u64,
+        a.offset as u64,
     ];
     a.code
 }

@@ -5,7 +5,7 @@ use native.Mathlib.Omega.{arith}
 use lib.ListN.{length, List·getD-eq-default}
 use borrow.Author.Tests.{eq-eqb, ne-eqb}
 use borrow.Author.Needs.{needs}
-use Rattle.numbers.specs.Words.{if_then_else_, _and_}
+use Rattle.numbers.specs.Words.{_and_, if_then_else_}
 use Rattle.csv.proofs.FieldLaws.{ending-at}
 use Rattle.csv.proofs.fields.ending.Statement.{statement}
 use Rattle.csv.proofs.fields.ending.Tie as tie

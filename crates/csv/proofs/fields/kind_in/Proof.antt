@@ -2,7 +2,7 @@
 -- Assumes nothing.
 use borrow.Author.Needs.{needs}
 use Rattle.numbers.specs.Words.{if_then_else_}
-use Rattle.csv.specs.Fields.{kindIn, same}
+use Rattle.csv.specs.Fields.{kindIn}
 use Rattle.csv.specs.Table.{kindWord}
 use Rattle.csv.proofs.fields.kind_in.Statement.{statement}
 use Rattle.csv.proofs.fields.kind_in.Tie as tie
