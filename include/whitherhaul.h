@@ -141,7 +141,10 @@ extern "C" {
  * another length.
  */
 #define WHITHERHAUL_REFUSED_SIZES 1
-/* 2: frame malformed, with an offset; client: operation or cents outside the entry rules. */
+/*
+ * 2: frame malformed, with an offset; client, journal, table: operation or cents outside the entry
+ * rules.
+ */
 #define WHITHERHAUL_REFUSED_MALFORMED 2
 /* 3: addressee isn't this replica, or sender not below n. */
 #define WHITHERHAUL_REFUSED_REPLICA 3
@@ -155,7 +158,7 @@ extern "C" {
 #define WHITHERHAUL_REFUSED_COMMITTED 7
 /* 8: a tick would move past view 4,294,967,295. */
 #define WHITHERHAUL_REFUSED_LAST_VIEW 8
-/* 9: the messages don't fit `out`, or a client's frames or a journal's bytes their area. */
+/* 9: the messages don't fit `out`, or what else a call writes its area. */
 #define WHITHERHAUL_REFUSED_MESSAGES 9
 /* 10: the replies don't fit `reps`. */
 #define WHITHERHAUL_REFUSED_REPLIES 10
@@ -163,6 +166,8 @@ extern "C" {
 #define WHITHERHAUL_REFUSED_NUMBERS 11
 /* 12: a frame of a journal is bad (whitherhaul_journal.h). */
 #define WHITHERHAUL_REFUSED_JOURNAL 12
+/* 13: a row of a table is bad (whitherhaul_csv.h). */
+#define WHITHERHAUL_REFUSED_ROW 13
 
 /*
  * Sizes: n is 3 to 7, an id 0 to n-1, T (timeout, in ticks) 1 to 65,535, L and M 1 to 4,096. A
@@ -177,7 +182,9 @@ extern "C" {
 
 /* Lengths of the lent runs. */
 #define WHITHERHAUL_STATE_BYTES 154
-/* Entries, as on the wire. */
+/* An entry, as on the wire: client 8, request 8, operation 1, zeros 3, member 4, cents 8. */
+#define WHITHERHAUL_ENTRY_BYTES 32
+/* Entries. */
 #define WHITHERHAUL_LOG_BYTES(L) (32 * (size_t)(L))
 /* Of each applied entry: outcome 1, total 8. */
 #define WHITHERHAUL_RESULTS_BYTES(L) (9 * (size_t)(L))
@@ -421,13 +428,15 @@ static inline const char *whitherhaul_words(uint8_t number)
     case WHITHERHAUL_REFUSED_LAST_VIEW:
         return "past the last view, 4294967295";
     case WHITHERHAUL_REFUSED_MESSAGES:
-        return "the messages, or a journal's bytes, don't fit their area";
+        return "the messages, or the bytes of a journal or a table, don't fit their area";
     case WHITHERHAUL_REFUSED_REPLIES:
         return "the replies don't fit their area";
     case WHITHERHAUL_REFUSED_NUMBERS:
         return "the next request number is 2^64-1";
     case WHITHERHAUL_REFUSED_JOURNAL:
         return "bad journal frame";
+    case WHITHERHAUL_REFUSED_ROW:
+        return "bad row";
     default:
         return "no number of this library";
     }

@@ -82,8 +82,6 @@
 extern "C" {
 #endif
 
-/* An entry: client 8, request 8, operation 1, zeros 3, member 4, cents 8. */
-#define WHITHERHAUL_ENTRY_BYTES 32
 /* A frame of a journal. */
 #define WHITHERHAUL_JOURNAL_FRAME_BYTES 50
 /* How many a journal can have. */

@@ -608,12 +608,12 @@ static void frames(void)
     expect(whitherhaul_addressee(first_tick + 15) == 2, "the second for replica 2");
 }
 
-/* Numbers that aren't the library's; host/c-check compares the words of 1 to 12 with the Rust's. */
+/* Numbers that aren't the library's; host/c-check compares the words of 1 to 13 with the Rust's. */
 static void words(void)
 {
     unsigned number;
     expect(strcmp(whitherhaul_words(WHITHERHAUL_DONE), "done") == 0, "the word for 0");
-    for (number = 13; number <= UINT8_MAX; number++)
+    for (number = 14; number <= UINT8_MAX; number++)
         expect(strcmp(whitherhaul_words((uint8_t)number), "no number of this library") == 0,
                "the words for any other number");
 }
@@ -804,7 +804,7 @@ static void refused_replies(void)
 static int print_words(void)
 {
     uint8_t number;
-    for (number = 1; number <= WHITHERHAUL_REFUSED_JOURNAL; number++)
+    for (number = 1; number <= WHITHERHAUL_REFUSED_ROW; number++)
         printf("%s\n", whitherhaul_words(number));
     return 0;
 }

@@ -1,5 +1,6 @@
-//! Links the proved library, `libwhitherhaul_journal.a` and with the feature `replica`
-//! `libwhitherhaul.a`: those of the repository, or of the folder that `WHITHERHAUL_ARCHIVE_DIR` names.
+//! Links the proved library, `libwhitherhaul_journal.a` and `libwhitherhaul_csv.a`, and with the
+//! feature `replica` `libwhitherhaul.a`: those of the repository, or of the folder that
+//! `WHITHERHAUL_ARCHIVE_DIR` names.
 //!
 //! Without them `cargo check` and `cargo doc` still work. Whatever has to be linked fails, and the
 //! warning says why.
@@ -25,6 +26,7 @@ fn main() {
     }
     println!("cargo::rustc-link-search=native={}", folder.display());
     link(&folder, "whitherhaul_journal");
+    link(&folder, "whitherhaul_csv");
     if env::var_os("CARGO_FEATURE_REPLICA").is_some() {
         link(&folder, "whitherhaul");
     }

@@ -14,7 +14,7 @@ use Rattle.numbers.proofs.NumberLaws.{eq-or-not}
 use Rattle.entries.specs.Entries.{Sendable}
 use Rattle.entries.specs.declared.Entry.{Entry}
 use Rattle.csv.specs.Rows.{crlf, RowsText}
-use Rattle.csv.specs.Table.{header, entryRow, rowsAfter, table}
+use Rattle.csv.specs.Table.{headerWords, entryFields, entryRowsAfter, table}
 use Rattle.csv.specs.Reading.{rowIn, scannedAfter, scanned}
 use Rattle.csv.specs.Laws.{BeginsWith, FirstBad}
 use Rattle.csv.specs.declared.Scanned.{Scanned}
@@ -28,7 +28,7 @@ record BadRows (n i p : ℕ) (s : List ℕ) : Type 0 where
   rest : List ℕ
   sendable : All Sendable es
   is : s ≡ before-it ++ rest
-  good : RowsText (rowsAfter i es) before-it
+  good : RowsText (entryRowsAfter i es) before-it
   rows : scannedAfter n (suc i) p s .rows ≡ suc i + length es
   left : rest ≡ [] → ⊥
   bad : BeginsWith (suc i + length es) rest → ⊥
@@ -38,7 +38,7 @@ none-there s l e = empty-not s (ap length e) l
 
 module _ (n i p : ℕ) (s : List ℕ) where
   bad-here : 1 ≤ length s → (rowIn (suc i) s .fault ≡ 0 → ⊥) → BadRows (suc n) i p s
-  unfolding rowsAfter RowsText
+  unfolding entryRowsAfter RowsText
   bad-here l b =
       let k : suc i + 0 ≡ suc i = omega arith in
       record {
@@ -54,11 +54,11 @@ module _ (n i p : ℕ) (s : List ℕ) where
       }
 
   bad-on : (d : EntryAt i s) → 1 ≤ length (d .rest) → BadRows n (suc i) (p + rowIn (suc i) s .used) (d .rest) → BadRows (suc n) i p s
-  unfolding rowsAfter RowsText
+  unfolding entryRowsAfter RowsText
   bad-on d z r =
       let g = d .at in
       let k : suc (suc i) + length (r .es) ≡ suc i + length (d .e ∷ r .es) = omega arith in
-      let c = ended (suc i) s (entryRow (suc i) (d .e)) (d .a) (d .rest) (d .e) g z in
+      let c = ended (suc i) s (entryFields (suc i) (d .e)) (d .a) (d .rest) (d .e) g z in
       record {
         es = d .e ∷ r .es;
         before-it = d .a ++ crlf ++ r .before-it;
@@ -90,8 +90,8 @@ bad-rows (suc n) i p s l m h =
     bad-on n i p s d z (bad-rows n (suc i) (p + rowIn (suc i) s .used) (d .rest) (less-left n i p s d l) z (bad-from n i p s d z h)))
     (bad-here n i p s m) (eq-or-not (rowIn (suc i) s .fault) 0)
 
-rows-length : (i : ℕ) (es : List Entry) → length (rowsAfter i es) ≡ length es
-unfolding rowsAfter
+rows-length : (i : ℕ) (es : List Entry) → length (entryRowsAfter i es) ≡ length es
+unfolding entryRowsAfter
 rows-length i [] = refl
 rows-length i (e ∷ es) = ap suc (rows-length (suc i) es)
 
@@ -120,7 +120,7 @@ entry-bad file d z r =
     let g = d .at in
     let n : scanned file .rows ≡ 1 + length (r .es) = ap (λ (x : Scanned). x .rows) (header-on file d z) ∙ r .rows in
     let k : scanned file .rows + 1 - 1 ≡ 1 + length (r .es) = omega arith in
-    let c = ended 0 file header (d .a) (d .rest) (d .e) g z in
+    let c = ended 0 file headerWords (d .a) (d .rest) (d .e) g z in
     record {
       rows = table (r .es);
       before = d .a ++ crlf ++ r .before-it;

@@ -23,7 +23,7 @@ use Rattle.numbers.proofs.CellLaws.{packed-append, packed-length}
 use Rattle.entries.specs.Entries.{encodeEntry, entryOf, EntryFits}
 use Rattle.entries.specs.declared.Entry.{Entry}
 use Rattle.entries.proofs.EntryLaws.{entry-codec}
-use Rattle.csv.specs.declared.Row.{Row}
+use Rattle.csv.specs.declared.RowRead.{RowRead}
 use Rattle.csv.specs.declared.Scanned.{Scanned}
 use Rattle.csv.specs.Reading.{rowIn, scanned, rowEntries, tableEntries}
 use Rattle.csv.specs.Calls.{LeftImported, notImported, importing, importScanned, importCall}
@@ -65,15 +65,15 @@ table-length : (n : ℕ) (file : List ℕ) → length (tableEntries n file) ≡ 
 unfolding tableEntries
 table-length n file = entries-length n 1 (drop (rowIn 0 file .used) file)
 
-pub behind-none : (file : List ℕ) (r : Row) → r ≡ rowIn 0 file → drop (r .used) file ≡ behindRows 0 file
+pub behind-none : (file : List ℕ) (r : RowRead) → r ≡ rowIn 0 file → drop (r .used) file ≡ behindRows 0 file
 unfolding behindRows behind
-behind-none file r e = ap (λ (x : Row). drop (x .used) file) e
+behind-none file r e = ap (λ (x : RowRead). drop (x .used) file) e
 
 pub copied-none : (file area : List ℕ) → area ≡ over (packed encodeEntry (tableEntries 0 file)) area
 unfolding packed tableEntries rowEntries
 copied-none file area = over-nil area
 
-module _ (j p : ℕ) (file : List ℕ) (r : Row) (e : r ≡ rowIn (j + 1) (take (length file - p) (drop p file))) (h : drop p file ≡ behindRows j file) where
+module _ (j p : ℕ) (file : List ℕ) (r : RowRead) (e : r ≡ rowIn (j + 1) (take (length file - p) (drop p file))) (h : drop p file ≡ behindRows j file) where
   next : r ≡ rowIn (1 + j) (behindRows j file)
   next =
       let n : j + 1 ≡ 1 + j = omega arith in
@@ -84,7 +84,7 @@ module _ (j p : ℕ) (file : List ℕ) (r : Row) (e : r ≡ rowIn (j + 1) (take 
   behind-more =
       sym (drop-drop (r .used) p file)
       ∙ ap (drop (r .used)) h
-      ∙ ap (λ (x : Row). drop (x .used) (behindRows j file)) next
+      ∙ ap (λ (x : RowRead). drop (x .used) (behindRows j file)) next
       ∙ sym (behind-last j 1 (drop (rowIn 0 file .used) file))
       ∙ ap (λ (i : ℕ). behindRows i file) (sym (add-one j))
 
@@ -93,7 +93,7 @@ module _ (j p : ℕ) (file : List ℕ) (r : Row) (e : r ≡ rowIn (j + 1) (take 
   table-last =
       ap (λ (i : ℕ). tableEntries i file) (add-one j)
       ∙ entries-last j 1 (drop (rowIn 0 file .used) file)
-      ∙ ap (λ (x : Row). tableEntries j file ++ x .entry ∷ []) (sym next)
+      ∙ ap (λ (x : RowRead). tableEntries j file ++ x .entry ∷ []) (sym next)
 
   pub copied-more : (area cur : List ℕ) {part : List ℕ} → cur ≡ over (packed encodeEntry (tableEntries j file)) area
       → part ≡ over (encodeEntry (r .entry)) (take (length cur - 32 * j) (drop (32 * j) cur))

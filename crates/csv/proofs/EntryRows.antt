@@ -14,9 +14,9 @@ use Rattle.entries.specs.declared.Entry.{Entry}
 use Rattle.decimal.specs.Decimal.{decimal, said, numberIn}
 use Rattle.decimal.specs.declared.Number.{Number}
 use Rattle.decimal.proofs.DecimalLaws.{number-of-decimal, number-there}
-use Rattle.csv.specs.Table.{header, kindWord, entryRow}
+use Rattle.csv.specs.Table.{headerWords, kindWord, entryFields}
 use Rattle.csv.specs.Fields.{sense, kindIn, centsIn}
-use Rattle.csv.specs.Reading.{noValues, entryFrom}
+use Rattle.csv.specs.Reading.{noValues, entryOfValues}
 use Rattle.csv.proofs.TextLaws.{other, past}
 use Rattle.csv.proofs.SenseLaws.{header-says, header-said, op-says, op-said, kind-says, kind-said, cents-says, cents-said, cents-most, sense-header, sense-op, sense-client, sense-request, sense-kind, sense-member, sense-cents}
 use Rattle.csv.proofs.RowLaws.{SaysAll, putAll}
@@ -111,35 +111,35 @@ six i fs ws e s =
 
 -- ---- the header
 
-pub header-row : (fs : List (List ℕ)) (ws : List ℕ) → length fs ≡ 6 → SaysAll 0 0 noValues fs ws → fs ≡ header
-unfolding header
+pub header-row : (fs : List (List ℕ)) (ws : List ℕ) → length fs ≡ 6 → SaysAll 0 0 noValues fs ws → fs ≡ headerWords
+unfolding headerWords
 header-row fs ws e s =
     let x = six 0 fs ws e s in
     x .fs-is ∙ (λ j. word 0 (x .c0 .f) (x .c0 .w) 0 (x .c0 .says) j ∷ word 1 (x .c1 .f) (x .c1 .w) 0 (x .c1 .says) j ∷ word 2 (x .c2 .f) (x .c2 .w) 0 (x .c2 .says) j
     ∷ word 3 (x .c3 .f) (x .c3 .w) 0 (x .c3 .says) j ∷ word 4 (x .c4 .f) (x .c4 .w) (x .c3 .w) (x .c4 .says) j
     ∷ word 5 (x .c5 .f) (x .c5 .w) (x .c3 .w) (x .c5 .says) j ∷ [])
   where
-    word : (k : ℕ) (f : List ℕ) (w o : ℕ) → sense 0 k o f ≡ said w → f ≡ getD header k []
+    word : (k : ℕ) (f : List ℕ) (w o : ℕ) → sense 0 k o f ≡ said w → f ≡ getD headerWords k []
     word k f w o h = header-says k f (said-there _ w (sym (sense-header k o f) ∙ h))
 
-pub header-fields : SaysAll 0 0 noValues header (0 ∷ 0 ∷ 0 ∷ 0 ∷ 0 ∷ 0 ∷ [])
-unfolding SaysAll header
+pub header-fields : SaysAll 0 0 noValues headerWords (0 ∷ 0 ∷ 0 ∷ 0 ∷ 0 ∷ 0 ∷ [])
+unfolding SaysAll headerWords
 header-fields =
     (word 0, (word 1, (word 2, (word 3, (word 4, (word 5, tt))))))
   where
-    word : (k : ℕ) → sense 0 k 0 (getD header k []) ≡ said 0
-    word k = sense-header k 0 (getD header k []) ∙ header-said k
+    word : (k : ℕ) → sense 0 k 0 (getD headerWords k []) ≡ said 0
+    word k = sense-header k 0 (getD headerWords k []) ∙ header-said k
 
 -- ---- an entry
 
 -- what six contents of an entry's row are
 record Made (i : ℕ) (fs : List (List ℕ)) (e : Entry) : Type 0 where
-  row : fs ≡ entryRow (suc i) e
+  row : fs ≡ entryFields (suc i) e
   sendable : Sendable e
 
 made : (i : ℕ) (fs : List (List ℕ)) (ws : List ℕ) (x : Six (suc i) fs ws)
     → Made i fs (record { client = x .c1 .w; request = x .c2 .w; operation = x .c3 .w; member = x .c4 .w; cents = x .c5 .w })
-unfolding entryRow
+unfolding entryFields
 made i fs ws x =
     let op = op-says (suc i) (x .c0 .f) (said-there _ (x .c0 .w) (sym (sense-op i 0 (x .c0 .f)) ∙ x .c0 .says)) in
     let client = number-is _ (x .c1 .f) (x .c1 .w) (sym (sense-client i 0 (x .c1 .f)) ∙ x .c1 .says) in
@@ -162,16 +162,16 @@ made i fs ws x =
     }
 
 pub entry-row : (i : ℕ) (fs : List (List ℕ)) (ws : List ℕ) → length fs ≡ 6 → SaysAll (suc i) 0 noValues fs ws
-    → (fs ≡ entryRow (suc i) (entryFrom (putAll noValues 0 ws))) × Sendable (entryFrom (putAll noValues 0 ws))
+    → (fs ≡ entryFields (suc i) (entryOfValues (putAll noValues 0 ws))) × Sendable (entryOfValues (putAll noValues 0 ws))
 entry-row i fs ws e s =
     let x = six (suc i) fs ws e s in
     let m = made i fs ws x in
-    subst (λ (us : List ℕ). (fs ≡ entryRow (suc i) (entryFrom (putAll noValues 0 us))) × Sendable (entryFrom (putAll noValues 0 us)))
+    subst (λ (us : List ℕ). (fs ≡ entryFields (suc i) (entryOfValues (putAll noValues 0 us))) × Sendable (entryOfValues (putAll noValues 0 us)))
     (sym (x .ws-is)) (m .row, m .sendable)
 
 pub entry-fields : (i : ℕ) (e : Entry) → Sendable e
-    → SaysAll (suc i) 0 noValues (entryRow (suc i) e) (suc i ∷ e .client ∷ e .request ∷ e .operation ∷ e .member ∷ e .cents ∷ [])
-unfolding SaysAll entryRow
+    → SaysAll (suc i) 0 noValues (entryFields (suc i) e) (suc i ∷ e .client ∷ e .request ∷ e .operation ∷ e .member ∷ e .cents ∷ [])
+unfolding SaysAll entryFields
 entry-fields i e k =
     let client = number-of-decimal 18446744073709551615 (e .client) (omega (arith, k .fits .client)) in
     let request = number-of-decimal 18446744073709551615 (e .request) (omega (arith, k .fits .request)) in

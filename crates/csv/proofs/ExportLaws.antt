@@ -24,15 +24,15 @@ use Rattle.numbers.proofs.CellLaws.{packed-append, cells-length}
 use Rattle.entries.specs.Entries.{entryOf, entries, runCount, runOk}
 use Rattle.entries.specs.declared.Entry.{Entry}
 use Rattle.entries.proofs.SendableLaws.{entry-fits}
-use Rattle.csv.specs.Table.{header, entryRow, rowsAfter, table, joined, plainRow, exported}
+use Rattle.csv.specs.Table.{headerWords, entryFields, entryRowsAfter, table, joinedFields, plainRow, exported}
 use Rattle.csv.specs.declared.Exported.{Exported}
 use Rattle.csv.specs.Calls.{LeftExported, exporting, exportCall}
 use Rattle.csv.proofs.ExportRowLaws.{row-most}
 
 -- ---- the table
 
-rows-more : (i : ℕ) (es : List Entry) (e : Entry) → rowsAfter i (es ++ e ∷ []) ≡ rowsAfter i es ++ entryRow (suc (i + length es)) e ∷ []
-unfolding rowsAfter
+rows-more : (i : ℕ) (es : List Entry) (e : Entry) → entryRowsAfter i (es ++ e ∷ []) ≡ entryRowsAfter i es ++ entryFields (suc (i + length es)) e ∷ []
+unfolding entryRowsAfter
 rows-more i [] e = rw (add-zero i)
 rows-more i (d ∷ es) e =
     let s : suc i + length es ≡ i + suc (length es) = omega arith in
@@ -53,13 +53,13 @@ packed-one r = append-nil (plainRow r)
 abbrev pub tableOf : ℕ → List ℕ → List ℕ
 tableOf i s = exported (entries i s)
 
-pub table-more : (i : ℕ) (s : List ℕ) (e : Entry) → e ≡ entryOf (drop (32 * i) s) → tableOf i s ++ plainRow (entryRow (i + 1) e) ≡ tableOf (i + 1) s
+pub table-more : (i : ℕ) (s : List ℕ) (e : Entry) → e ≡ entryOf (drop (32 * i) s) → tableOf i s ++ plainRow (entryFields (i + 1) e) ≡ tableOf (i + 1) s
 unfolding exported table
 table-more i s e p =
     sym
     (rw (add-one, entries-more i s, rows-more 0 (entries i s) (entryOf (drop (32 * i) s)), cells-length 32 entryOf i s, zero-add i, ← p)
-    (packed-append plainRow (header ∷ rowsAfter 0 (entries i s)) (entryRow (suc i) e ∷ [])
-    ∙ ap (λ (t : List ℕ). tableOf i s ++ t) (packed-one (entryRow (suc i) e))))
+    (packed-append plainRow (headerWords ∷ entryRowsAfter 0 (entries i s)) (entryFields (suc i) e ∷ [])
+    ∙ ap (λ (t : List ℕ). tableOf i s ++ t) (packed-one (entryFields (suc i) e))))
 
 -- the header's bytes
 abbrev pub headerBytes : List ℕ
@@ -68,12 +68,12 @@ headerBytes =
     ∷ 101 ∷ 114 ∷ 44 ∷ 99 ∷ 101 ∷ 110 ∷ 116 ∷ 115 ∷ 13 ∷ 10 ∷ []
 
 pub table-none : (s : List ℕ) → tableOf 0 s ≡ headerBytes
-unfolding exported table header rowsAfter packed plainRow joined cells
+unfolding exported table headerWords entryRowsAfter packed plainRow joinedFields cells
 table-none s = refl
 
 pub table-longer : (i : ℕ) (s : List ℕ) (e : Entry) → e ≡ entryOf (drop (32 * i) s)
-    → length (tableOf (i + 1) s) ≡ length (tableOf i s) + length (plainRow (entryRow (i + 1) e))
-table-longer i s e p = ap length (sym (table-more i s e p)) ∙ length-append (tableOf i s) (plainRow (entryRow (i + 1) e))
+    → length (tableOf (i + 1) s) ≡ length (tableOf i s) + length (plainRow (entryFields (i + 1) e))
+table-longer i s e p = ap length (sym (table-more i s e p)) ∙ length-append (tableOf i s) (plainRow (entryFields (i + 1) e))
 
 grows-by : (i d : ℕ) (s : List ℕ) → length (tableOf i s) ≤ length (tableOf (i + d) s)
 grows-by i zero s = rw (add-zero i) (omega arith)

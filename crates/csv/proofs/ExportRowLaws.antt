@@ -23,7 +23,7 @@ use Rattle.entries.specs.declared.Entry.{Entry}
 use Rattle.decimal.specs.Decimal.{decimal}
 use Rattle.decimal.proofs.DecimalLaws.{decimal-short}
 use Rattle.csv.specs.Rows.{comma, crlf}
-use Rattle.csv.specs.Table.{kindWord, entryRow, joined, plainRow, frontOf, backOf}
+use Rattle.csv.specs.Table.{kindWord, entryFields, joinedFields, plainRow, frontOf, backOf}
 
 -- ---- one writer behind the other
 
@@ -74,8 +74,8 @@ pub back-parts : (e : Entry) → ((withComma (kindWord (e .operation)) ++ withCo
 unfolding backOf
 back-parts e = simp append-assoc
 
-pub row-parts : (op : ℕ) (e : Entry) → frontOf op e ++ backOf e ≡ plainRow (entryRow op e)
-unfolding frontOf backOf plainRow entryRow joined
+pub row-parts : (op : ℕ) (e : Entry) → frontOf op e ++ backOf e ≡ plainRow (entryFields op e)
+unfolding frontOf backOf plainRow entryFields joinedFields
 row-parts op e = simp append-assoc
 
 pub front-long : (op : ℕ) (e : Entry) → length (frontOf op e) ≡ length (decimal op) + length (decimal (e .client)) + length (decimal (e .request)) + 3
@@ -100,13 +100,13 @@ pub back-sizes : (e : Entry)
     × (length (withComma (decimal (e .member))) ≡ length (decimal (e .member)) + 1)
 back-sizes e = (back-long e, comma-long (kindWord (e .operation)), comma-long (decimal (e .member)))
 
-pub row-long : (op : ℕ) (e : Entry) → length (plainRow (entryRow op e)) ≡ length (frontOf op e) + length (backOf e)
+pub row-long : (op : ℕ) (e : Entry) → length (plainRow (entryFields op e)) ≡ length (frontOf op e) + length (backOf e)
 row-long op e = ap length (sym (row-parts op e)) ∙ length-append (frontOf op e) (backOf e)
 
 word-most : (k : ℕ) → length (kindWord k) ≤ 6
 word-most k = ⊎-elim (λ e. omega (arith, refund-long k e)) (λ e. omega (arith, other-long k e)) (eq-or-not k 2)
 
-pub row-most : (op : ℕ) (e : Entry) → op < 2 ^ 64 → EntryFits e → length (plainRow (entryRow op e)) ≤ 113
+pub row-most : (op : ℕ) (e : Entry) → op < 2 ^ 64 → EntryFits e → length (plainRow (entryFields op e)) ≤ 113
 row-most op e l f =
     let fits : e .member < 2 ^ 64 = omega (arith, f .member) in
     omega (

@@ -26,9 +26,9 @@ use Rattle.entries.specs.Entries.{operationOk}
 use Rattle.decimal.specs.Decimal.{noNumber, numberIn}
 use Rattle.decimal.specs.declared.Number.{Number}
 use Rattle.csv.specs.declared.Field.{Field}
-use Rattle.csv.specs.declared.Told.{Told}
+use Rattle.csv.specs.declared.FieldTold.{FieldTold}
 use Rattle.csv.specs.Table.{kindWord}
-use Rattle.csv.specs.Fields.{stops, stretch, ending, endingSize, fieldAs, plainField, quotedField, fieldIn, content, same, opIn, kindIn, centsIn, sense, wrongField, judged, told}
+use Rattle.csv.specs.Fields.{stops, stretch, ending, endingSize, fieldAs, plainField, quotedField, fieldAtFront, content, same, rowOpIn, kindIn, centsIn, sense, wrongField, judgedField, fieldTold}
 
 -- a place with another byte than 0 is there
 there : (s : List ℕ) (i k : ℕ) → getD s i 0 ≡ suc k → i < length s
@@ -142,8 +142,8 @@ module _ (s : List ℕ) where
       (λ e. omega (arith, there s (1 + n) 33 (eqb-true _ _ e), ending-fits (drop (2 + n) s), length-drop (2 + n) s))
       (λ _. omega (arith, size-none, stretch-le (drop 1 s), length-drop 1 s))
 
-  pub field-used : fieldIn s .used ≤ length s
-  unfolding fieldIn
+  pub field-used : fieldAtFront s .used ≤ length s
+  unfolding fieldAtFront
   field-used =
       split (λ (f : Field). f .used ≤ length s) (eqb (getD s 0 0) 34) _ _ (λ e. quoted-used (there s 0 33 (eqb-true _ _ e))) (λ _. plain-used)
 
@@ -158,8 +158,8 @@ module _ (s : List ℕ) where
       (λ _. omega (arith, stretch-le (drop 1 s), length-drop 1 s))
       (λ _. omega (arith, stretch-le (drop 1 s), length-drop 1 s))
 
-  pub field-content : fieldIn s .start + fieldIn s .size ≤ length s
-  unfolding fieldIn
+  pub field-content : fieldAtFront s .start + fieldAtFront s .size ≤ length s
+  unfolding fieldAtFront
   field-content =
       split (λ (f : Field). f .start + f .size ≤ length s) (eqb (getD s 0 0) 34) _ _
       (λ e. quoted-content (there s 0 33 (eqb-true _ _ e)))
@@ -169,8 +169,8 @@ module _ (s : List ℕ) where
 comma-counts : (a n q k : ℕ) → k ≡ 1 → 1 ≤ fieldAs a n q k .used
 comma-counts a n q k e = let z : endingSize k ≡ 1 = ap endingSize e ∙ size-comma in omega arith
 
-field-some : (s : List ℕ) → fieldIn s .ends ≡ 1 → 1 ≤ fieldIn s .used
-unfolding fieldIn plainField quotedField
+field-some : (s : List ℕ) → fieldAtFront s .ends ≡ 1 → 1 ≤ fieldAtFront s .used
+unfolding fieldAtFront plainField quotedField
 field-some s =
     split P (eqb (getD s 0 0) 34) _ _
     (λ _. split P (eqb (getD s (1 + stretch (drop 1 s)) 0) 34) _ _ (λ _. comma-counts 1 _ 1 _) (λ _. comma-counts 1 _ 0 _))
@@ -200,12 +200,12 @@ module _ (s t : List ℕ) (i : ℕ) where
 -- ---- what a content says
 
 module _ (i : ℕ) (t : List ℕ) (n : Number) (e : n ≡ numberIn i t) where
-  pub op-good : n .value ≡ i → n ≡ opIn i t
-  unfolding opIn
+  pub op-good : n .value ≡ i → n ≡ rowOpIn i t
+  unfolding rowOpIn
   op-good h = e ∙ sym (if-true _ _ _ (eq-eqb _ _ (sym (ap (λ (m : Number). m .value) e) ∙ h)))
 
-  pub op-bad : (n .value ≡ i → ⊥) → noNumber ≡ opIn i t
-  unfolding opIn
+  pub op-bad : (n .value ≡ i → ⊥) → noNumber ≡ rowOpIn i t
+  unfolding rowOpIn
   op-bad h = sym (if-false _ _ _ (ne-eqb _ _ (λ g. h (ap (λ (m : Number). m .value) e ∙ g))))
 
 module _ (o : ℕ) (t : List ℕ) (n : Number) (e : n ≡ numberIn 1000000 t) where
@@ -232,39 +232,39 @@ kind-bound t =
 -- ---- a field judged
 
 module _ (f : Field) (n : Number) where
-  pub judged-1 : (last : Bool) → f .ends ≡ 0 → judged last f n ≡ wrongField 1
-  unfolding judged
+  pub judged-1 : (last : Bool) → f .ends ≡ 0 → judgedField last f n ≡ wrongField 1
+  unfolding judgedField
   judged-1 last e = if-true _ _ _ (eq-eqb _ _ e)
 
   module _ (p : f .ends ≡ 0 → ⊥) where
-    pub judged-2 : (last : Bool) → n .there ≡ false → judged last f n ≡ wrongField 2
-    unfolding judged
+    pub judged-2 : (last : Bool) → n .there ≡ false → judgedField last f n ≡ wrongField 2
+    unfolding judgedField
     judged-2 last t = if-false _ _ _ (ne-eqb _ _ p) ∙ if-true _ _ _ (ap not t)
 
     module _ (t : n .there ≡ true) where
-      pub judged-4 : f .ends ≡ 1 → judged true f n ≡ wrongField 4
-      unfolding judged _and_
+      pub judged-4 : f .ends ≡ 1 → judgedField true f n ≡ wrongField 4
+      unfolding judgedField _and_
       judged-4 e = if-false _ _ _ (ne-eqb _ _ p) ∙ if-false _ _ _ (ap not t) ∙ if-true _ _ _ (eq-eqb _ _ e)
 
-      pub judged-last : (f .ends ≡ 1 → ⊥) → judged true f n ≡ record { fault = 0; value = n .value; used = f .used }
-      unfolding judged _and_
+      pub judged-last : (f .ends ≡ 1 → ⊥) → judgedField true f n ≡ record { fault = 0; value = n .value; used = f .used }
+      unfolding judgedField _and_
       judged-last e =
           if-false _ _ _ (ne-eqb _ _ p) ∙ if-false _ _ _ (ap not t) ∙ if-false _ _ _ (ne-eqb _ _ e) ∙ if-false _ _ _ refl
 
-      pub judged-3 : (f .ends ≡ 1 → ⊥) → judged false f n ≡ wrongField 3
-      unfolding judged _and_
+      pub judged-3 : (f .ends ≡ 1 → ⊥) → judgedField false f n ≡ wrongField 3
+      unfolding judgedField _and_
       judged-3 e =
           if-false _ _ _ (ne-eqb _ _ p) ∙ if-false _ _ _ (ap not t) ∙ if-false _ _ _ refl ∙ if-true _ _ _ (ap not (ne-eqb _ _ e))
 
-      pub judged-more : f .ends ≡ 1 → judged false f n ≡ record { fault = 0; value = n .value; used = f .used }
-      unfolding judged _and_
+      pub judged-more : f .ends ≡ 1 → judgedField false f n ≡ record { fault = 0; value = n .value; used = f .used }
+      unfolding judgedField _and_
       judged-more e =
           if-false _ _ _ (ne-eqb _ _ p) ∙ if-false _ _ _ (ap not t) ∙ if-false _ _ _ refl ∙ if-false _ _ _ (ap not (eq-eqb _ _ e))
 
 -- what holds of every wrong field, and of a good one
-judged-by : (P : Told → Type 0) (last : Bool) (f : Field) (n : Number) → ((k : ℕ) → 0 < k → P (wrongField k))
-    → ((not last and not (eqb (f .ends) 1)) ≡ false → P (record { fault = 0; value = n .value; used = f .used })) → P (judged last f n)
-unfolding judged
+judged-by : (P : FieldTold → Type 0) (last : Bool) (f : Field) (n : Number) → ((k : ℕ) → 0 < k → P (wrongField k))
+    → ((not last and not (eqb (f .ends) 1)) ≡ false → P (record { fault = 0; value = n .value; used = f .used })) → P (judgedField last f n)
+unfolding judgedField
 judged-by P last f n w g =
     split P (eqb (f .ends) 0) _ _
     (λ _. w 1 (omega arith))
@@ -274,33 +274,33 @@ judged-by P last f n w g =
     (λ _. w 4 (omega arith))
     (λ _. split P (not last and not (eqb (f .ends) 1)) _ _ (λ _. w 3 (omega arith)) g)))
 
-pub judged-value : (last : Bool) (f : Field) (n : Number) → judged last f n .value ≤ n .value
-judged-value last f n = judged-by (λ (t : Told). t .value ≤ n .value) last f n (λ k _. omega arith) (λ _. omega arith)
+pub judged-value : (last : Bool) (f : Field) (n : Number) → judgedField last f n .value ≤ n .value
+judged-value last f n = judged-by (λ (t : FieldTold). t .value ≤ n .value) last f n (λ k _. omega arith) (λ _. omega arith)
 
-judged-used : (last : Bool) (f : Field) (n : Number) → judged last f n .used ≤ f .used
-judged-used last f n = judged-by (λ (t : Told). t .used ≤ f .used) last f n (λ k _. omega arith) (λ _. omega arith)
+judged-used : (last : Bool) (f : Field) (n : Number) → judgedField last f n .used ≤ f .used
+judged-used last f n = judged-by (λ (t : FieldTold). t .used ≤ f .used) last f n (λ k _. omega arith) (λ _. omega arith)
 
-judged-some : (f : Field) (n : Number) → (f .ends ≡ 1 → 1 ≤ f .used) → judged false f n .fault ≡ 0 → 1 ≤ judged false f n .used
+judged-some : (f : Field) (n : Number) → (f .ends ≡ 1 → 1 ≤ f .used) → judgedField false f n .fault ≡ 0 → 1 ≤ judgedField false f n .used
 unfolding _and_
 judged-some f n h =
-    judged-by (λ (t : Told). t .fault ≡ 0 → 1 ≤ t .used) false f n (λ k p e. absurd (omega arith)) (λ e _. h (eqb-true _ _ (not-false _ e)))
+    judged-by (λ (t : FieldTold). t .fault ≡ 0 → 1 ≤ t .used) false f n (λ k p e. absurd (omega arith)) (λ e _. h (eqb-true _ _ (not-false _ e)))
 
-pub content-fits : (s : List ℕ) (f : Field) → f ≡ fieldIn s → f .start + f .size ≤ length s
-content-fits s f e = let a : f .start ≡ fieldIn s .start = cc in let b : f .size ≡ fieldIn s .size = cc in omega (arith, field-content s)
+pub content-fits : (s : List ℕ) (f : Field) → f ≡ fieldAtFront s → f .start + f .size ≤ length s
+content-fits s f e = let a : f .start ≡ fieldAtFront s .start = cc in let b : f .size ≡ fieldAtFront s .size = cc in omega (arith, field-content s)
 
 module _ (i k o : ℕ) (s : List ℕ) where
-  pub told-used : told i k o s .used ≤ length s
-  unfolding told
-  told-used = omega (arith, judged-used (eqb k 5) (fieldIn s) (sense i k o (content (fieldIn s) s)), field-used s)
+  pub told-used : fieldTold i k o s .used ≤ length s
+  unfolding fieldTold
+  told-used = omega (arith, judged-used (eqb k 5) (fieldAtFront s) (sense i k o (content (fieldAtFront s) s)), field-used s)
 
-  pub told-some : k < 5 → told i k o s .fault ≡ 0 → 1 ≤ told i k o s .used
-  unfolding told
+  pub told-some : k < 5 → fieldTold i k o s .fault ≡ 0 → 1 ≤ fieldTold i k o s .used
+  unfolding fieldTold
   told-some h =
       let z : eqb k 5 ≡ false = ne-eqb k 5 (λ e. omega arith) in
-      rw z (judged-some (fieldIn s) (sense i k o (content (fieldIn s) s)) (field-some s))
+      rw z (judged-some (fieldAtFront s) (sense i k o (content (fieldAtFront s) s)) (field-some s))
 
-  pub told-made : (f : Field) (n : Number) → f ≡ fieldIn s → n ≡ sense i k o (take (f .start + f .size - f .start) (drop (f .start) s))
-      → judged (eqb k 5) f n ≡ told i k o s
-  unfolding told
+  pub told-made : (f : Field) (n : Number) → f ≡ fieldAtFront s → n ≡ sense i k o (take (f .start + f .size - f .start) (drop (f .start) s))
+      → judgedField (eqb k 5) f n ≡ fieldTold i k o s
+  unfolding fieldTold
   told-made f n e g =
       let z : f .start + f .size - f .start ≡ f .size = omega arith in cc

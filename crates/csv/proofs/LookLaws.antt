@@ -16,11 +16,11 @@ use lib.Seq.{drop-at, drop-length}
 use Rattle.numbers.specs.Words.{if_then_else_}
 use Rattle.entries.specs.declared.Entry.{Entry}
 use Rattle.csv.specs.Rows.{comma, crlf, RowText}
-use Rattle.csv.specs.Table.{header, entryRow}
+use Rattle.csv.specs.Table.{headerWords, entryFields}
 use Rattle.csv.specs.Fields.{ending, endingSize}
-use Rattle.csv.specs.Reading.{noValues, entryFrom, goodRow, rowFrom, rowIn, scannedAs, scannedAfter}
+use Rattle.csv.specs.Reading.{noValues, entryOfValues, goodRow, rowFrom, rowIn, scannedAs, scannedAfter}
 use Rattle.csv.specs.Laws.{IsRow, BeginsWith}
-use Rattle.csv.specs.declared.Row.{Row}
+use Rattle.csv.specs.declared.RowRead.{RowRead}
 use Rattle.csv.proofs.ScanLaws.{after-bad, after-last, after-next}
 use Rattle.csv.proofs.RowLaws.{EndsRow, SaysAll, putAll, file-ends, row-ends, row-complete, row-sound}
 use Rattle.csv.proofs.EntryRows.{header-fields, entry-fields}
@@ -45,7 +45,7 @@ row-in i fs ws t z e s r x =
 
 -- contents that say something, with nothing behind their text, or with CRLF
 module _ (i : ℕ) (fs : List (List ℕ)) (ws a : List ℕ) (e : length fs ≡ 6) (s : SaysAll i 0 noValues fs ws) (r : RowText fs a) where
-  pub alone : RowAt i a fs a [] (entryFrom (putAll noValues 0 ws))
+  pub alone : RowAt i a fs a [] (entryOfValues (putAll noValues 0 ws))
   unfolding endingSize if_then_else_
   alone =
       let q : rowIn i a ≡ goodRow (length a + endingSize (ending [])) (putAll noValues 0 ws) =
@@ -54,12 +54,12 @@ module _ (i : ℕ) (fs : List (List ℕ)) (ws a : List ℕ) (e : length fs ≡ 6
       record {
         row = r;
         ends = inl (refl, refl);
-        good = ap (λ (x : Row). x .fault) q;
-        left = ap (λ (x : Row). drop (x .used) a) q ∙ ap (λ (n : ℕ). drop n a) u ∙ drop-length a;
-        entry = ap (λ (x : Row). x .entry) q;
+        good = ap (λ (x : RowRead). x .fault) q;
+        left = ap (λ (x : RowRead). drop (x .used) a) q ∙ ap (λ (n : ℕ). drop n a) u ∙ drop-length a;
+        entry = ap (λ (x : RowRead). x .entry) q;
       }
 
-  pub before : (b : List ℕ) → RowAt i (a ++ crlf ++ b) fs a b (entryFrom (putAll noValues 0 ws))
+  pub before : (b : List ℕ) → RowAt i (a ++ crlf ++ b) fs a b (entryOfValues (putAll noValues 0 ws))
   unfolding endingSize if_then_else_
   before b =
       let q : rowIn i (a ++ crlf ++ b) ≡ goodRow (length a + endingSize (ending (crlf ++ b))) (putAll noValues 0 ws) =
@@ -68,9 +68,9 @@ module _ (i : ℕ) (fs : List (List ℕ)) (ws a : List ℕ) (e : length fs ≡ 6
       record {
         row = r;
         ends = inr refl;
-        good = ap (λ (x : Row). x .fault) q;
-        left = ap (λ (x : Row). drop (x .used) (a ++ crlf ++ b)) q ∙ ap (λ (n : ℕ). drop n (a ++ crlf ++ b)) u ∙ drop-at (a ++ crlf) b (length (a ++ crlf)) refl;
-        entry = ap (λ (x : Row). x .entry) q;
+        good = ap (λ (x : RowRead). x .fault) q;
+        left = ap (λ (x : RowRead). drop (x .used) (a ++ crlf ++ b)) q ∙ ap (λ (n : ℕ). drop n (a ++ crlf ++ b)) u ∙ drop-at (a ++ crlf) b (length (a ++ crlf)) refl;
+        entry = ap (λ (x : RowRead). x .entry) q;
       }
 
 -- a row that a table can have says something in each field
@@ -80,7 +80,7 @@ record Said (i : ℕ) (row : List (List ℕ)) : Type 0 where
   says : SaysAll i 0 noValues row ws
 
 row-said : (i : ℕ) (row : List (List ℕ)) → IsRow i row → Said i row
-unfolding header entryRow
+unfolding headerWords entryFields
 row-said zero row e = subst (Said 0) (sym e) (record { ws = 0 ∷ 0 ∷ 0 ∷ 0 ∷ 0 ∷ 0 ∷ []; count = refl; says = header-fields })
 row-said (suc i) row e =
     subst (Said (suc i)) (sym (e .2))
@@ -107,13 +107,13 @@ pub record Good (i : ℕ) (s : List ℕ) : Type 0 where
   pub rest : List ℕ
   pub count : length fs ≡ 6
   pub says : SaysAll i 0 noValues fs ws
-  pub at : RowAt i s fs a rest (entryFrom (putAll noValues 0 ws))
+  pub at : RowAt i s fs a rest (entryOfValues (putAll noValues 0 ws))
 
 pub row-is : (i : ℕ) (s : List ℕ) → rowIn i s .fault ≡ 0 → Good i s
 unfolding rowIn
 row-is i s h =
     let d = row-sound 5 0 i noValues 0 s (omega arith) h in
-    let P : List ℕ → List ℕ → Type 0 = λ (y rest : List ℕ). RowAt i y (d .fs) (d .t) rest (entryFrom (putAll noValues 0 (d .ws))) in
+    let P : List ℕ → List ℕ → Type 0 = λ (y rest : List ℕ). RowAt i y (d .fs) (d .t) rest (entryOfValues (putAll noValues 0 (d .ws))) in
     ⊎-elim
     (λ q.
     let e : s ≡ d .t = d .is ∙ ap (λ (y : List ℕ). d .t ++ y) q ∙ append-nil (d .t) in

@@ -21,45 +21,45 @@ use Rattle.numbers.proofs.RunLaws.{part-rest}
 use Rattle.decimal.specs.Decimal.{numberIn}
 use Rattle.decimal.specs.declared.Number.{Number}
 use Rattle.decimal.proofs.DecimalLaws.{number-bound}
-use Rattle.csv.specs.declared.Told.{Told}
-use Rattle.csv.specs.declared.Row.{Row}
-use Rattle.csv.specs.Fields.{fieldIn, content, kindIn, headerIn, sense, told}
+use Rattle.csv.specs.declared.FieldTold.{FieldTold}
+use Rattle.csv.specs.declared.RowRead.{RowRead}
+use Rattle.csv.specs.Fields.{fieldAtFront, content, kindIn, headerIn, sense, fieldTold}
 use Rattle.csv.specs.Reading.{noValues, goodRow, badRow, rowFrom, rowIn}
 use Rattle.csv.proofs.FieldLaws.{told-used, told-some, kind-bound, judged-value}
 
 -- ---- a row, a field at a time
 
 module _ (n k i : ℕ) (vs : List ℕ) (p : ℕ) (s : List ℕ) where
-  pub row-step : (v u : ℕ) → told i k (getD vs 3 0) s ≡ record { fault = 0; value = v; used = u }
+  pub row-step : (v u : ℕ) → fieldTold i k (getD vs 3 0) s ≡ record { fault = 0; value = v; used = u }
       → rowFrom (suc n) k i vs p s ≡ rowFrom n (suc k) i (set vs k v) (p + u) (drop u s)
   unfolding rowFrom if_then_else_
   row-step v u e = rw e
 
-  module _ (t : Told) (e : t ≡ told i k (getD vs 3 0) s) where
+  module _ (t : FieldTold) (e : t ≡ fieldTold i k (getD vs 3 0) s) where
     pub row-good : t .fault ≡ 0 → rowFrom (suc n) k i vs p s ≡ rowFrom n (suc k) i (set vs k (t .value)) (p + t .used) (drop (t .used) s)
     row-good z = row-step (t .value) (t .used) (sym e ∙ (λ j. record { fault = z j; value = t .value; used = t .used }))
 
     pub row-bad : (t .fault ≡ 0 → ⊥) → badRow (t .fault) (k + 1) p ≡ rowFrom (suc n) k i vs p s
     unfolding rowFrom
     row-bad z =
-        let h : (told i k (getD vs 3 0) s .fault ≡ 0 → ⊥) = λ g. z (ap (λ (x : Told). x .fault) e ∙ g) in
-        ap (λ (x : Told). badRow (x .fault) (k + 1) p) e ∙ sym (if-false _ _ _ (ne-eqb _ _ h))
+        let h : (fieldTold i k (getD vs 3 0) s .fault ≡ 0 → ⊥) = λ g. z (ap (λ (x : FieldTold). x .fault) e ∙ g) in
+        ap (λ (x : FieldTold). badRow (x .fault) (k + 1) p) e ∙ sym (if-false _ _ _ (ne-eqb _ _ h))
 
 -- what holds of the bad rows and of what is behind a good field
-row-by : (P : Row → Type 0) (n k i : ℕ) (vs : List ℕ) (p : ℕ) (s : List ℕ) → let t = told i k (getD vs 3 0) s in
+row-by : (P : RowRead → Type 0) (n k i : ℕ) (vs : List ℕ) (p : ℕ) (s : List ℕ) → let t = fieldTold i k (getD vs 3 0) s in
     ((f : ℕ) → 0 < f → P (badRow f (k + 1) p))
     → (t .fault ≡ 0 → P (rowFrom n (suc k) i (set vs k (t .value)) (p + t .used) (drop (t .used) s))) → P (rowFrom (suc n) k i vs p s)
 unfolding rowFrom
 row-by P n k i vs p s b g =
-    let f = told i k (getD vs 3 0) s .fault in
+    let f = fieldTold i k (getD vs 3 0) s .fault in
     split P (eqb f 0) _ _ (λ e. g (eqb-true f 0 e)) (λ e. let h = eqb-false f 0 e in b f (omega arith))
 
 from-used : (n k i : ℕ) (vs : List ℕ) (p : ℕ) (s : List ℕ) → rowFrom n k i vs p s .used ≤ p + length s
 unfolding rowFrom
 from-used zero k i vs p s = omega arith
 from-used (suc n) k i vs p s =
-    let t = told i k (getD vs 3 0) s in
-    row-by (λ (r : Row). r .used ≤ p + length s) n k i vs p s
+    let t = fieldTold i k (getD vs 3 0) s in
+    row-by (λ (r : RowRead). r .used ≤ p + length s) n k i vs p s
     (λ f h. omega arith)
     (λ _. omega (arith, from-used n (suc k) i (set vs k (t .value)) (p + t .used) (drop (t .used) s), length-drop (t .used) s, told-used i k (getD vs 3 0) s))
 
@@ -67,8 +67,8 @@ from-more : (n k i : ℕ) (vs : List ℕ) (p : ℕ) (s : List ℕ) → rowFrom n
 unfolding rowFrom
 from-more zero k i vs p s = λ z. omega arith
 from-more (suc n) k i vs p s =
-    let t = told i k (getD vs 3 0) s in
-    row-by (λ (r : Row). r .fault ≡ 0 → p ≤ r .used) n k i vs p s
+    let t = fieldTold i k (getD vs 3 0) s in
+    row-by (λ (r : RowRead). r .fault ≡ 0 → p ≤ r .used) n k i vs p s
     (λ f h z. absurd (omega arith))
     (λ _ z. omega (arith, from-more n (suc k) i (set vs k (t .value)) (p + t .used) (drop (t .used) s) z))
 
@@ -76,8 +76,8 @@ from-place : (n k i : ℕ) (vs : List ℕ) (p : ℕ) (s : List ℕ) → rowFrom 
 unfolding rowFrom
 from-place zero k i vs p s = omega arith
 from-place (suc n) k i vs p s =
-    let t = told i k (getD vs 3 0) s in
-    row-by (λ (r : Row). r .place ≤ p + length s) n k i vs p s
+    let t = fieldTold i k (getD vs 3 0) s in
+    row-by (λ (r : RowRead). r .place ≤ p + length s) n k i vs p s
     (λ f h. omega arith)
     (λ _. omega (arith, from-place n (suc k) i (set vs k (t .value)) (p + t .used) (drop (t .used) s), length-drop (t .used) s, told-used i k (getD vs 3 0) s))
 
@@ -92,8 +92,8 @@ row-place i s = omega (arith, from-place 6 0 i noValues 0 s)
 pub row-some : (i : ℕ) (s : List ℕ) → rowIn i s .fault ≡ 0 → 1 ≤ rowIn i s .used
 unfolding rowIn
 row-some i s =
-    let t = told i 0 0 s in
-    row-by (λ (r : Row). r .fault ≡ 0 → 1 ≤ r .used) 5 0 i noValues 0 s
+    let t = fieldTold i 0 0 s in
+    row-by (λ (r : RowRead). r .fault ≡ 0 → 1 ≤ r .used) 5 0 i noValues 0 s
     (λ f h z. absurd (omega arith))
     (λ e z. omega (arith, told-some i 0 0 s (omega arith) e, from-more 5 1 i (set noValues 0 (t .value)) (0 + t .used) (drop (t .used) s) z))
 
@@ -109,17 +109,17 @@ sense-member i o t =
     split (λ (n : Number). n .value ≤ 4294967295) (eqb i 0) (headerIn 4 t) (numberIn 4294967295 t) (λ _. omega arith) (λ _. number-bound 4294967295 t)
 
 module _ (i o : ℕ) (s : List ℕ) where
-  told-kind : told i 3 o s .value ≤ 3
-  unfolding told
+  told-kind : fieldTold i 3 o s .value ≤ 3
+  unfolding fieldTold
   told-kind =
-      let t = content (fieldIn s) s in
-      omega (arith, judged-value (eqb 3 5) (fieldIn s) (sense i 3 o t), sense-kind i o t)
+      let t = content (fieldAtFront s) s in
+      omega (arith, judged-value (eqb 3 5) (fieldAtFront s) (sense i 3 o t), sense-kind i o t)
 
-  told-member : told i 4 o s .value ≤ 4294967295
-  unfolding told
+  told-member : fieldTold i 4 o s .value ≤ 4294967295
+  unfolding fieldTold
   told-member =
-      let t = content (fieldIn s) s in
-      omega (arith, judged-value (eqb 4 5) (fieldIn s) (sense i 4 o t), sense-member i o t)
+      let t = content (fieldAtFront s) s in
+      omega (arith, judged-value (eqb 4 5) (fieldAtFront s) (sense i 4 o t), sense-member i o t)
 
 -- what the values of a row are, as far as it is read
 pub record Values (vs : List ℕ) : Type 0 where
@@ -139,17 +139,17 @@ set-bound most j k v vs l h g = go _ refl
         rw (← z, getD-set-same vs k v 0 l) (g z)
     go false e = rw (getD-set-other vs k j v 0 (λ z. eqb-false k j e (sym z))) h
 
-pub values-next : (i k o : ℕ) (vs s : List ℕ) (t : Told) → t ≡ told i k o s → k < 6 → Values vs → Values (set vs k (t .value))
+pub values-next : (i k o : ℕ) (vs s : List ℕ) (t : FieldTold) → t ≡ fieldTold i k o s → k < 6 → Values vs → Values (set vs k (t .value))
 values-next i k o vs s t e h w =
     let l : k < length vs = omega (arith, w .six) in
     let v = t .value in
     record { six = length-set vs k v ∙ w .six; kind = set-bound 3 3 k v vs l (w .kind) kind; member = set-bound 4294967295 4 k v vs l (w .member) member }
   where
     kind : k ≡ 3 → t .value ≤ 3
-    kind z = let v : t .value ≡ told i 3 o s .value = cc in omega (arith, told-kind i o s)
+    kind z = let v : t .value ≡ fieldTold i 3 o s .value = cc in omega (arith, told-kind i o s)
 
     member : k ≡ 4 → t .value ≤ 4294967295
-    member z = let v : t .value ≡ told i 4 o s .value = cc in omega (arith, told-member i o s)
+    member z = let v : t .value ≡ fieldTold i 4 o s .value = cc in omega (arith, told-member i o s)
 
 -- ---- a turn of a row's loop, which hands over `&s[p..]`
 
@@ -161,13 +161,13 @@ pub row-end : (k i : ℕ) (vs : List ℕ) (p : ℕ) (s : List ℕ) → 6 ≤ k �
 unfolding rowFrom
 row-end k i vs p s h = let z : 6 - k ≡ 0 = omega arith in rw z
 
-module _ (k i : ℕ) (vs : List ℕ) (p : ℕ) (s : List ℕ) (t : Told) (e : t ≡ told i k (getD vs 3 0) (take (length s - p) (drop p s))) where
-  here : t ≡ told i k (getD vs 3 0) (drop p s)
-  here = e ∙ ap (told i k (getD vs 3 0)) (part-rest p s)
+module _ (k i : ℕ) (vs : List ℕ) (p : ℕ) (s : List ℕ) (t : FieldTold) (e : t ≡ fieldTold i k (getD vs 3 0) (take (length s - p) (drop p s))) where
+  here : t ≡ fieldTold i k (getD vs 3 0) (drop p s)
+  here = e ∙ ap (fieldTold i k (getD vs 3 0)) (part-rest p s)
 
   pub turn-fits : p ≤ length s → p + t .used ≤ length s
   turn-fits h =
-      let z : t .used ≡ told i k (getD vs 3 0) (drop p s) .used = ap (λ (x : Told). x .used) here in
+      let z : t .used ≡ fieldTold i k (getD vs 3 0) (drop p s) .used = ap (λ (x : FieldTold). x .used) here in
       omega (arith, told-used i k (getD vs 3 0) (drop p s), length-drop p s)
 
   module _ (h : k < 6) where

@@ -22,7 +22,7 @@ use Rattle.entries.proofs.SendableLaws.{run-long, run-sendable, run-is, entries
 use Rattle.csv.specs.Table.{exported, IsTable}
 use Rattle.csv.specs.Reading.{scanned, tableEntries}
 use Rattle.csv.specs.Calls.{LeftExported, exporting, exportCall, LeftImported, importing, importScanned, importCall}
-use Rattle.csv.specs.Laws.{textOf, runOf, Accepts, Accepted, FirstBad, ImportsBack, ExportsBack, UntouchedByExport, UntouchedByImport}
+use Rattle.csv.specs.Laws.{textOf, runOf, AcceptsOnly, AcceptsAll, FirstBad, ImportsBack, ExportsBack, UntouchedByExport, UntouchedByImport}
 use Rattle.csv.specs.declared.Scanned.{Scanned}
 use Rattle.csv.proofs.TextLaws.{other, past}
 use Rattle.csv.proofs.TableLaws.{Looked, good-table, table-is}
@@ -40,8 +40,8 @@ import-is file es d area =
     ∙ ap (λ (n : ℕ). importing (tableEntries n file) area) (omega arith)
     ∙ ap (λ (xs : List Entry). importing xs area) (d .read)
 
-pub accepted : (es : List Entry) (file : List ℕ) → IsTable es file → Accepted es file
-accepted es file t area = import-is file es (good-table file es t) area
+pub accepts-all : (es : List Entry) (file : List ℕ) → IsTable es file → AcceptsAll es file
+accepts-all es file t area = import-is file es (good-table file es t) area
 
 -- what a done import found
 scanned-good : (file area : List ℕ) → importCall file area .answer .code ≡ 0 → scanned file .fault ≡ 0
@@ -83,8 +83,8 @@ done-import file area z =
           (λ i. entries (d .count i) (d .is i)) ∙ entries-packed (t .es) (drop (length (packed encodeEntry (t .es))) area) (t .is .sendable);
     }
 
-pub accepts : (file area : List ℕ) → importCall file area .answer .code ≡ 0 → Accepts file (importCall file area)
-accepts file area z = let d = done-import file area z in subst (λ (xs : List Entry). IsTable xs file) (sym (d .entries-are)) (d .is)
+pub accepts-only : (file area : List ℕ) → importCall file area .answer .code ≡ 0 → AcceptsOnly file (importCall file area)
+accepts-only file area z = let d = done-import file area z in subst (λ (xs : List Entry). IsTable xs file) (sym (d .entries-are)) (d .is)
 
 pub bad-row : (file area : List ℕ) → importCall file area .answer .code ≡ 13 → FirstBad (importCall file area .answer .row) file
 unfolding importCall importScanned importing
@@ -119,7 +119,7 @@ imports-back run area b z into l =
     let n : length es ≡ runCount run = cells-length 32 entryOf (runCount run) run in
     let m : 32 * length es ≤ length into = omega (arith, run-long run b (d .ok)) in
     ap (λ (s : List ℕ). importCall s into) f
-    ∙ accepted es t (exported-is es (run-sendable run b (d .ok))) into
+    ∙ accepts-all es t (exported-is es (run-sendable run b (d .ok))) into
     ∙ if-false _ _ _ (le-ltb (length into) (32 * length es) m)
     ∙ (λ i. record { answer = record { code = 0; entries = n i; row = 0; column = 0; fault = 0; offset = 0 }; area = over (run-is run b (d .ok) i) into })
 

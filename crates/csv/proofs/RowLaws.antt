@@ -21,11 +21,11 @@ use Rattle.numbers.proofs.NumberLaws.{eq-or-not}
 use Rattle.decimal.specs.Decimal.{said}
 use Rattle.decimal.specs.declared.Number.{Number}
 use Rattle.csv.specs.Rows.{comma, crlf, FieldText, RowText}
-use Rattle.csv.specs.Fields.{stops, stretch, ending, endingSize, fieldIn, content, sense, judged, told}
+use Rattle.csv.specs.Fields.{stops, stretch, ending, endingSize, fieldAtFront, content, sense, judgedField, fieldTold}
 use Rattle.csv.specs.Reading.{goodRow, rowFrom}
 use Rattle.csv.specs.declared.Field.{Field}
-use Rattle.csv.specs.declared.Told.{Told}
-use Rattle.csv.specs.declared.Row.{Row}
+use Rattle.csv.specs.declared.FieldTold.{FieldTold}
+use Rattle.csv.specs.declared.RowRead.{RowRead}
 use Rattle.csv.proofs.TextLaws.{other, past, ending-cons, text-of, of-text, text-free, ends-comma, ends-row, ends-file, field-complete, field-sound}
 use Rattle.csv.proofs.ReadingLaws.{row-step}
 use Rattle.csv.proofs.SenseLaws.{sense-text}
@@ -74,12 +74,12 @@ closed-comma z c = ends-comma z (eqb-true _ _ (c .fits))
 
 -- ---- a field judged
 
-abbrev pub toldAs : (v u : ℕ) → Told
+abbrev pub toldAs : (v u : ℕ) → FieldTold
 toldAs v u = record { fault = 0; value = v; used = u }
 
 judged-good : (last : Bool) (f : Field) (n : Number) → (f .ends ≡ 0 → ⊥) → n .there ≡ true → eqb (f .ends) 1 ≡ not last
-    → judged last f n ≡ toldAs (n .value) (f .used)
-unfolding judged _and_
+    → judgedField last f n ≡ toldAs (n .value) (f .used)
+unfolding judgedField _and_
 judged-good true f n e t l =
     if-false _ _ _ (ne-eqb (f .ends) 0 e) ∙ if-false _ _ _ (ap not t) ∙ if-false _ _ _ l ∙ if-false _ _ _ refl
 judged-good false f n e t l =
@@ -96,8 +96,8 @@ unfolding _and_
 fit true b p q = p
 fit false b p q = not-false b q
 
-judged-inv : (last : Bool) (f : Field) (n : Number) → judged last f n .fault ≡ 0 → Judged last f n
-unfolding judged
+judged-inv : (last : Bool) (f : Field) (n : Number) → judgedField last f n .fault ≡ 0 → Judged last f n
+unfolding judgedField
 judged-inv last f n =
     split P _ _ _ (λ _ h. absurd (past 1 0 (omega arith) h)) λ e.
     split P _ _ _ (λ _ h. absurd (past 2 0 (omega arith) h)) λ t.
@@ -105,20 +105,20 @@ judged-inv last f n =
     split P _ _ _ (λ _ h. absurd (past 3 0 (omega arith) h)) λ b h.
     record { some = eqb-false _ _ e; there = not-false _ t; fits = fit last (eqb (f .ends) 1) a b }
   where
-    P : Told → Type 0
+    P : FieldTold → Type 0
     P x = x .fault ≡ 0 → Judged last f n
 
 -- ---- a field with what stands behind it
 
 module _ (i k o : ℕ) (f t z : List ℕ) (v : ℕ) (l : k < 6) (says : sense i k o f ≡ said v) (x : FieldText f t) (c : Closes (eqb k 5) z) where
-  told-complete : told i k o (t ++ z) ≡ toldAs v (length t + endingSize (ending z))
-  unfolding told
+  told-complete : fieldTold i k o (t ++ z) ≡ toldAs v (length t + endingSize (ending z))
+  unfolding fieldTold
   told-complete =
       let y = sense-text i k o f l (ap (λ (n : Number). n .there) says) in
       let w = text-free f (y .text) in
       let g = field-complete f z (y .some) w (c .short) t (text-of f t w x) in
-      let e : sense i k o (content (fieldIn (t ++ z)) (t ++ z)) ≡ said v = ap (sense i k o) (g .says) ∙ says in
-      judged-good (eqb k 5) (fieldIn (t ++ z)) _ (λ h. c .some (sym (g .ends-so) ∙ h)) (ap (λ (n : Number). n .there) e)
+      let e : sense i k o (content (fieldAtFront (t ++ z)) (t ++ z)) ≡ said v = ap (sense i k o) (g .says) ∙ says in
+      judged-good (eqb k 5) (fieldAtFront (t ++ z)) _ (λ h. c .some (sym (g .ends-so) ∙ h)) (ap (λ (n : Number). n .there) e)
       (ap (λ (m : ℕ). eqb m 1) (g .ends-so) ∙ c .fits)
       ∙ (λ j. toldAs (e j .value) (g .takes j))
 
@@ -132,7 +132,7 @@ pub record ToldIs (i k o : ℕ) (s : List ℕ) : Type 0 where
   pub text : FieldText f t
   pub says : sense i k o f ≡ said v
   pub closes : Closes (eqb k 5) z
-  pub takes : told i k o s ≡ toldAs v (length t + endingSize (ending z))
+  pub takes : fieldTold i k o s ≡ toldAs v (length t + endingSize (ending z))
 
 -- what ends a field stops it
 stop-at : (b c : ℕ) (z : List ℕ) → b ≡ c → stretch (c ∷ z) ≡ 0 → stretch (b ∷ z) ≡ 0
@@ -149,12 +149,12 @@ ending-short (b ∷ z) h =
     P : ℕ → Type 0
     P k = (k ≡ 0 → ⊥) → stretch (b ∷ z) ≡ 0
 
-told-sound : (i k o : ℕ) (s : List ℕ) → k < 6 → told i k o s .fault ≡ 0 → ToldIs i k o s
-unfolding told
+told-sound : (i k o : ℕ) (s : List ℕ) → k < 6 → fieldTold i k o s .fault ≡ 0 → ToldIs i k o s
+unfolding fieldTold
 told-sound i k o s l h =
-    let c = content (fieldIn s) s in
+    let c = content (fieldAtFront s) s in
     let n = sense i k o c in
-    let j = judged-inv (eqb k 5) (fieldIn s) n h in
+    let j = judged-inv (eqb k 5) (fieldAtFront s) n h in
     let d = field-sound s (j .some) in
     let y = sense-text i k o c l (j .there) in
     let some : ending (d .z) ≡ 0 → ⊥ = λ e. j .some (d .ends-so ∙ e) in
@@ -167,7 +167,7 @@ told-sound i k o s l h =
       text = of-text c (d .t) (y .text) (d .text);
       says = λ x. record { there = j .there x; value = n .value };
       closes = record { short = ending-short (d .z) some; some = some; fits = ap (λ (m : ℕ). eqb m 1) (sym (d .ends-so)) ∙ j .fits };
-      takes = judged-good (eqb k 5) (fieldIn s) n (j .some) (j .there) (j .fits) ∙ (λ x. toldAs (n .value) (d .takes x));
+      takes = judged-good (eqb k 5) (fieldAtFront s) n (j .some) (j .there) (j .fits) ∙ (λ x. toldAs (n .value) (d .takes x));
     }
 
 -- ---- contents that say values
@@ -183,10 +183,10 @@ abbrev pub putAll : (vs : List ℕ) (k : ℕ) (ws : List ℕ) → List ℕ
 putAll vs k [] = vs
 putAll vs k (w ∷ ws) = putAll (set vs k w) (suc k) ws
 
-row-inv : (n k i : ℕ) (vs : List ℕ) (p : ℕ) (s : List ℕ) → rowFrom (suc n) k i vs p s .fault ≡ 0 → told i k (getD vs 3 0) s .fault ≡ 0
+row-inv : (n k i : ℕ) (vs : List ℕ) (p : ℕ) (s : List ℕ) → rowFrom (suc n) k i vs p s .fault ≡ 0 → fieldTold i k (getD vs 3 0) s .fault ≡ 0
 unfolding rowFrom
 row-inv n k i vs p s =
-    split (λ (r : Row). r .fault ≡ 0 → told i k (getD vs 3 0) s .fault ≡ 0) _ _ _ (λ e _. eqb-true _ _ e) (λ _ h. h)
+    split (λ (r : RowRead). r .fault ≡ 0 → fieldTold i k (getD vs 3 0) s .fault ≡ 0) _ _ _ (λ e _. eqb-true _ _ e) (λ _ h. h)
 
 -- a field and its comma passed
 drop-comma : (a y : List ℕ) → drop (length a + 1) (a ++ comma ∷ y) ≡ y
@@ -268,7 +268,7 @@ join-row f [] a b l x r = absurd r
 join-row f (g ∷ fs) a b l x r = (a, b, refl, x, r)
 
 module _ (k i : ℕ) (vs : List ℕ) (p : ℕ) (s : List ℕ) (l : k < 6) where
-  last-sound : k ≡ 5 → told i k (getD vs 3 0) s .fault ≡ 0 → RowIs 1 k i vs p s
+  last-sound : k ≡ 5 → fieldTold i k (getD vs 3 0) s .fault ≡ 0 → RowIs 1 k i vs p s
   unfolding SaysAll rowFrom RowText
   last-sound e h =
       let d = told-sound i k (getD vs 3 0) s l h in
@@ -297,7 +297,7 @@ module _ (k i : ℕ) (vs : List ℕ) (p : ℕ) (s : List ℕ) (l : k < 6) where
     says : sense i k (getD vs 3 0) f ≡ said v
     goes : (n : ℕ) → rowFrom (suc n) k i vs p s ≡ rowFrom n (suc k) i (set vs k v) (p + (length a + 1)) y
 
-  more-sound : k < 5 → told i k (getD vs 3 0) s .fault ≡ 0 → MoreIs
+  more-sound : k < 5 → fieldTold i k (getD vs 3 0) s .fault ≡ 0 → MoreIs
   more-sound m h =
       let d = told-sound i k (getD vs 3 0) s l h in
       let c = closed-comma (d .z) (subst (λ (b : Bool). Closes b (d .z)) (ne-eqb k 5 (λ e. omega arith)) (d .closes)) in
@@ -319,7 +319,7 @@ row-sound zero k i vs p s e h = last-sound k i vs p s (omega arith) (omega arith
 row-sound (suc n) k i vs p s e h =
     let d = more-sound k i vs p s (omega arith) (omega arith) (row-inv (suc n) k i vs p s h) in
     let g = d .goes (suc n) in
-    let r = row-sound n (suc k) i (set vs k (d .v)) (p + (length (d .a) + 1)) (d .y) (omega arith) (ap (λ (x : Row). x .fault) (sym g) ∙ h) in
+    let r = row-sound n (suc k) i (set vs k (d .v)) (p + (length (d .a) + 1)) (d .y) (omega arith) (ap (λ (x : RowRead). x .fault) (sym g) ∙ h) in
     let t = d .a ++ comma ∷ r .t in
     let m : p + (length (d .a) + 1) + length (r .t) + endingSize (ending (r .z)) ≡ p + length t + endingSize (ending (r .z)) =
     omega (arith, length-append (d .a) (comma ∷ r .t)) in

@@ -15,26 +15,26 @@ use lib.Seq.{drop-drop}
 use borrow.Author.Tests.{eqb-true, eqb-false, eq-eqb, ne-eqb, not-true, not-false}
 use Rattle.numbers.proofs.WordLaws.{if-true, if-false, split}
 use Rattle.numbers.proofs.RunLaws.{part-rest}
-use Rattle.csv.specs.declared.Row.{Row}
+use Rattle.csv.specs.declared.RowRead.{RowRead}
 use Rattle.csv.specs.declared.Scanned.{Scanned}
 use Rattle.csv.specs.Reading.{rowIn, scannedAs, scannedAfter, scanned}
 use Rattle.csv.proofs.ReadingLaws.{row-used, row-place, row-some}
 
 -- ---- a row at a time
 
-module _ (n i p : ℕ) (s : List ℕ) (r : Row) (e : r ≡ rowIn i s) where
+module _ (n i p : ℕ) (s : List ℕ) (r : RowRead) (e : r ≡ rowIn i s) where
   pub after-bad : (r .fault ≡ 0 → ⊥) → scannedAs i (r .fault) (r .column) (p + r .place) ≡ scannedAfter (suc n) i p s
   unfolding scannedAfter
   after-bad z =
-      let h : (rowIn i s .fault ≡ 0 → ⊥) = λ g. z (ap (λ (x : Row). x .fault) e ∙ g) in
-      ap (λ (x : Row). scannedAs i (x .fault) (x .column) (p + x .place)) e ∙ sym (if-true _ _ _ (ap not (ne-eqb _ _ h)))
+      let h : (rowIn i s .fault ≡ 0 → ⊥) = λ g. z (ap (λ (x : RowRead). x .fault) e ∙ g) in
+      ap (λ (x : RowRead). scannedAs i (x .fault) (x .column) (p + x .place)) e ∙ sym (if-true _ _ _ (ap not (ne-eqb _ _ h)))
 
   module _ (z : r .fault ≡ 0) where
     good : rowIn i s .fault ≡ 0
-    good = sym (ap (λ (x : Row). x .fault) e) ∙ z
+    good = sym (ap (λ (x : RowRead). x .fault) e) ∙ z
 
     rest : length (drop (rowIn i s .used) s) ≡ length s - r .used
-    rest = length-drop (rowIn i s .used) s ∙ ap (λ (x : Row). length s - x .used) (sym e)
+    rest = length-drop (rowIn i s .used) s ∙ ap (λ (x : RowRead). length s - x .used) (sym e)
 
     pub after-last : length s ≤ r .used → scannedAs (suc i) 0 0 0 ≡ scannedAfter (suc n) i p s
     unfolding scannedAfter
@@ -46,7 +46,7 @@ module _ (n i p : ℕ) (s : List ℕ) (r : Row) (e : r ≡ rowIn i s) where
     unfolding scannedAfter
     after-next h =
         let g : (length (drop (rowIn i s .used) s) ≡ 0 → ⊥) = λ q. omega (arith, rest) in
-        if-false _ _ _ (ap not (eq-eqb _ _ good)) ∙ if-false _ _ _ (ne-eqb _ _ g) ∙ ap (λ (x : Row). scannedAfter n (suc i) (p + x .used) (drop (x .used) s)) (sym e)
+        if-false _ _ _ (ap not (eq-eqb _ _ good)) ∙ if-false _ _ _ (ne-eqb _ _ g) ∙ ap (λ (x : RowRead). scannedAfter n (suc i) (p + x .used) (drop (x .used) s)) (sym e)
 
 -- ---- the same in a file, of which `&file[p..]` is handed over
 
@@ -54,24 +54,24 @@ pub scan-start : (file : List ℕ) → scanned file ≡ scannedAfter (suc (lengt
 unfolding scanned
 scan-start file = let z : suc (length file) - 0 ≡ suc (length file) = omega arith in rw z
 
-module _ (i p : ℕ) (file : List ℕ) (r : Row) (e : r ≡ rowIn i (take (length file - p) (drop p file))) where
+module _ (i p : ℕ) (file : List ℕ) (r : RowRead) (e : r ≡ rowIn i (take (length file - p) (drop p file))) where
   here : r ≡ rowIn i (drop p file)
   here = e ∙ ap (rowIn i) (part-rest p file)
 
   pub scan-some : r .fault ≡ 0 → 1 ≤ r .used
   scan-some z =
-      let u : r .used ≡ rowIn i (drop p file) .used = ap (λ (x : Row). x .used) here in
-      omega (arith, row-some i (drop p file) (sym (ap (λ (x : Row). x .fault) here) ∙ z))
+      let u : r .used ≡ rowIn i (drop p file) .used = ap (λ (x : RowRead). x .used) here in
+      omega (arith, row-some i (drop p file) (sym (ap (λ (x : RowRead). x .fault) here) ∙ z))
 
   module _ (h : p ≤ length file) where
     pub scan-fits : p + r .used ≤ length file
     scan-fits =
-        let u : r .used ≡ rowIn i (drop p file) .used = ap (λ (x : Row). x .used) here in
+        let u : r .used ≡ rowIn i (drop p file) .used = ap (λ (x : RowRead). x .used) here in
         omega (arith, row-used i (drop p file), length-drop p file)
 
     pub scan-place : p + r .place ≤ length file
     scan-place =
-        let u : r .place ≡ rowIn i (drop p file) .place = ap (λ (x : Row). x .place) here in
+        let u : r .place ≡ rowIn i (drop p file) .place = ap (λ (x : RowRead). x .place) here in
         omega (arith, row-place i (drop p file), length-drop p file)
 
     module _ (l : i ≤ p) where

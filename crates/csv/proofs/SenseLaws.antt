@@ -23,8 +23,8 @@ use Rattle.decimal.specs.Decimal.{decimal, allFigures, said, numberIn}
 use Rattle.decimal.specs.declared.Number.{Number}
 use Rattle.decimal.proofs.DecimalLaws.{decimal-figures, decimal-there, number-of-decimal, number-there}
 use Rattle.csv.specs.Rows.{quote, comma, isText, allOf}
-use Rattle.csv.specs.Table.{header, kindWord}
-use Rattle.csv.specs.Fields.{same, opIn, kindIn, centsIn, headerIn, sense}
+use Rattle.csv.specs.Table.{headerWords, kindWord}
+use Rattle.csv.specs.Fields.{same, rowOpIn, kindIn, centsIn, headerIn, sense}
 
 -- ---- the same
 
@@ -44,22 +44,22 @@ same-refl (b ∷ s) = and-true _ _ (eq-eqb b b refl) (same-refl s)
 
 -- ---- each field
 
-pub header-says : (k : ℕ) (f : List ℕ) → headerIn k f .there ≡ true → f ≡ getD header k []
+pub header-says : (k : ℕ) (f : List ℕ) → headerIn k f .there ≡ true → f ≡ getD headerWords k []
 unfolding headerIn
-header-says k f h = same-true f (getD header k []) h
+header-says k f h = same-true f (getD headerWords k []) h
 
-pub header-said : (k : ℕ) → headerIn k (getD header k []) ≡ said 0
+pub header-said : (k : ℕ) → headerIn k (getD headerWords k []) ≡ said 0
 unfolding headerIn
-header-said k = λ i. record { there = same-refl (getD header k []) i; value = 0 }
+header-said k = λ i. record { there = same-refl (getD headerWords k []) i; value = 0 }
 
-pub op-says : (i : ℕ) (f : List ℕ) → opIn i f .there ≡ true → f ≡ decimal i
-unfolding opIn
+pub op-says : (i : ℕ) (f : List ℕ) → rowOpIn i f .there ≡ true → f ≡ decimal i
+unfolding rowOpIn
 op-says i f =
     split (λ (n : Number). n .there ≡ true → f ≡ decimal i) _ _ _
     (λ e h. sym (number-there i f h .0) ∙ ap decimal (eqb-true (numberIn i f .value) i e)) (λ _ h. absurd (false≢true h))
 
-pub op-said : (i : ℕ) → opIn i (decimal i) ≡ said i
-unfolding opIn
+pub op-said : (i : ℕ) → rowOpIn i (decimal i) ≡ said i
+unfolding rowOpIn
 op-said i =
     let e = number-of-decimal i i (le-refl i) in
     if-true _ _ _ (eq-eqb (numberIn i (decimal i) .value) i (ap (λ (n : Number). n .value) e)) ∙ e
@@ -139,8 +139,8 @@ kind-text o =
 past-six : (k : ℕ) → suc (suc (suc (suc (suc (suc k))))) < 6 → ⊥
 past-six k p = omega arith
 
-pub header-text : (k : ℕ) → k < 6 → Some (getD header k [])
-unfolding header allOf isText within _and_
+pub header-text : (k : ℕ) → k < 6 → Some (getD headerWords k [])
+unfolding headerWords allOf isText within _and_
 header-text zero h = record { text = refl; some = omega arith }
 header-text (suc zero) h = record { text = refl; some = omega arith }
 header-text (suc (suc zero)) h = record { text = refl; some = omega arith }
@@ -157,7 +157,7 @@ module _ (i o : ℕ) (f : List ℕ) where
   no-header : eqb (suc i) 0 ≡ false
   no-header = ne-eqb (suc i) 0 (λ e. omega arith)
 
-  pub sense-op : sense (suc i) 0 o f ≡ opIn (suc i) f
+  pub sense-op : sense (suc i) 0 o f ≡ rowOpIn (suc i) f
   unfolding sense if_then_else_
   sense-op = if-false _ _ _ no-header
 

@@ -13,8 +13,8 @@ use Rattle.numbers.proofs.NumberLaws.{eq-or-not}
 use Rattle.entries.specs.Entries.{Sendable}
 use Rattle.entries.specs.declared.Entry.{Entry}
 use Rattle.csv.specs.Rows.{crlf, RowText, FileText}
-use Rattle.csv.specs.Table.{header, entryRow, rowsAfter, table, IsTable}
-use Rattle.csv.specs.Reading.{noValues, entryFrom, rowIn, scannedAs, scannedAfter, scanned, rowEntries, tableEntries}
+use Rattle.csv.specs.Table.{headerWords, entryFields, entryRowsAfter, table, IsTable}
+use Rattle.csv.specs.Reading.{noValues, entryOfValues, rowIn, scannedAs, scannedAfter, scanned, rowEntries, tableEntries}
 use Rattle.csv.specs.declared.Scanned.{Scanned}
 use Rattle.csv.proofs.TextLaws.{past}
 use Rattle.csv.proofs.RowLaws.{SaysAll, putAll}
@@ -35,11 +35,11 @@ record First (i : ℕ) (fs : List (List ℕ)) (rs : List (List (List ℕ))) (s :
   behind : Behind rs rest
 
 first : (i : ℕ) (fs : List (List ℕ)) (ws : List ℕ) (rs : List (List (List ℕ))) (s : List ℕ) → length fs ≡ 6 → SaysAll i 0 noValues fs ws
-    → FileText (fs ∷ rs) s → First i fs rs s (entryFrom (putAll noValues 0 ws))
+    → FileText (fs ∷ rs) s → First i fs rs s (entryOfValues (putAll noValues 0 ws))
 unfolding FileText
 first i fs ws [] s c d x =
     let a = x .0 in
-    let E = entryFrom (putAll noValues 0 ws) in
+    let E = entryOfValues (putAll noValues 0 ws) in
     ⊎-elim
     (λ q. record { a = a; rest = []; at = subst (λ (y : List ℕ). RowAt i y fs a [] E) (sym q) (alone i fs ws a c d (x .1)); behind = refl })
     (λ q.
@@ -54,18 +54,18 @@ first i fs ws (q ∷ rs) s c d x =
     record {
       a = x .0;
       rest = x .1;
-      at = subst (λ (y : List ℕ). RowAt i y fs (x .0) (x .1) (entryFrom (putAll noValues 0 ws))) (sym (x .2)) (before i fs ws (x .0) c d (x .3) (x .1));
+      at = subst (λ (y : List ℕ). RowAt i y fs (x .0) (x .1) (entryOfValues (putAll noValues 0 ws))) (sym (x .2)) (before i fs ws (x .0) c d (x .3) (x .1));
       behind = x .4;
     }
 
-entry-first : (i : ℕ) (e : Entry) (rs : List (List (List ℕ))) (s : List ℕ) → Sendable e → FileText (entryRow (suc i) e ∷ rs) s
-    → First (suc i) (entryRow (suc i) e) rs s e
-unfolding entryRow
+entry-first : (i : ℕ) (e : Entry) (rs : List (List (List ℕ))) (s : List ℕ) → Sendable e → FileText (entryFields (suc i) e ∷ rs) s
+    → First (suc i) (entryFields (suc i) e) rs s e
+unfolding entryFields
 entry-first i e rs s k x =
-    first (suc i) (entryRow (suc i) e) (suc i ∷ e .client ∷ e .request ∷ e .operation ∷ e .member ∷ e .cents ∷ []) rs s refl (entry-fields i e k) x
+    first (suc i) (entryFields (suc i) e) (suc i ∷ e .client ∷ e .request ∷ e .operation ∷ e .member ∷ e .cents ∷ []) rs s refl (entry-fields i e k) x
 
-pub six-fields : (i : ℕ) (e : Entry) → length (entryRow i e) ≡ 6
-unfolding entryRow
+pub six-fields : (i : ℕ) (e : Entry) → length (entryFields i e) ≡ 6
+unfolding entryFields
 six-fields i e = refl
 
 -- a file of rows of two fields or more has a byte
@@ -86,9 +86,9 @@ entry-read : (n i : ℕ) (s : List ℕ) (e : Entry) (rest : List ℕ) → rowIn 
 unfolding rowEntries
 entry-read n i s e rest p q = λ j. p j ∷ rowEntries n (suc i) (q j)
 
-good-rows : (n i p : ℕ) (s : List ℕ) (e : Entry) (es : List Entry) → All Sendable (e ∷ es) → FileText (rowsAfter i (e ∷ es)) s → length s < n
+good-rows : (n i p : ℕ) (s : List ℕ) (e : Entry) (es : List Entry) → All Sendable (e ∷ es) → FileText (entryRowsAfter i (e ∷ es)) s → length s < n
     → GoodRows n i p s (e ∷ es)
-unfolding rowsAfter rowEntries
+unfolding entryRowsAfter rowEntries
 good-rows zero i p s e es k x l = absurd (less-none (length s) l)
 good-rows (suc n) i p s e [] k x l =
     let d = entry-first i e [] s (k .0) x in
@@ -99,14 +99,14 @@ good-rows (suc n) i p s e [] k x l =
       read = entry-read 0 (suc i) s e y (g .entry) (g .left);
     }
 good-rows (suc n) i p s e (f ∷ es) k x l =
-    let d = entry-first i e (rowsAfter (suc i) (f ∷ es)) s (k .0) x in
+    let d = entry-first i e (entryRowsAfter (suc i) (f ∷ es)) s (k .0) x in
     let g = d .at in
     let y = d .rest in
-    let m = shorter (suc i) s (entryRow (suc i) e) (d .a) y e (six-fields (suc i) e) g in
+    let m = shorter (suc i) s (entryFields (suc i) e) (d .a) y e (six-fields (suc i) e) g in
     let r = good-rows n (suc i) (p + rowIn (suc i) s .used) y f es (k .1) (d .behind) (omega arith) in
     record {
       scan =
-          scan-on n (suc i) p s (g .good) y (g .left) (file-byte (entryRow (suc (suc i)) f) (rowsAfter (suc (suc i)) es) y (omega (arith, six-fields (suc (suc i)) f)) (d .behind))
+          scan-on n (suc i) p s (g .good) y (g .left) (file-byte (entryFields (suc (suc i)) f) (entryRowsAfter (suc (suc i)) es) y (omega (arith, six-fields (suc (suc i)) f)) (d .behind))
           ∙ r .scan ∙ ap (λ (j : ℕ). scannedAs j 0 0 0) (omega arith);
       read = entry-read (length (f ∷ es)) (suc i) s e y (g .entry) (g .left) ∙ ap (λ (xs : List Entry). e ∷ xs) (r .read);
     }
@@ -116,29 +116,29 @@ pub record Looked (file : List ℕ) (es : List Entry) : Type 0 where
   pub scan : scanned file ≡ scannedAs (suc (length es)) 0 0 0
   pub read : tableEntries (length es) file ≡ es
 
-header-first : (rs : List (List (List ℕ))) (s : List ℕ) → FileText (header ∷ rs) s
-    → First 0 header rs s (entryFrom (putAll noValues 0 (0 ∷ 0 ∷ 0 ∷ 0 ∷ 0 ∷ 0 ∷ [])))
-unfolding header
-header-first rs s x = first 0 header (0 ∷ 0 ∷ 0 ∷ 0 ∷ 0 ∷ 0 ∷ []) rs s refl header-fields x
+header-first : (rs : List (List (List ℕ))) (s : List ℕ) → FileText (headerWords ∷ rs) s
+    → First 0 headerWords rs s (entryOfValues (putAll noValues 0 (0 ∷ 0 ∷ 0 ∷ 0 ∷ 0 ∷ 0 ∷ [])))
+unfolding headerWords
+header-first rs s x = first 0 headerWords (0 ∷ 0 ∷ 0 ∷ 0 ∷ 0 ∷ 0 ∷ []) rs s refl header-fields x
 
-six-words : length header ≡ 6
-unfolding header
+six-words : length headerWords ≡ 6
+unfolding headerWords
 six-words = refl
 
 pub good-table : (file : List ℕ) (es : List Entry) → IsTable es file → Looked file es
-unfolding table rowsAfter scanned tableEntries rowEntries
+unfolding table entryRowsAfter scanned tableEntries rowEntries
 good-table file [] x =
     let d = header-first [] file (x .text) in
     record { scan = scan-end (length file) 0 0 file (d .at .good) (d .rest) (d .at .left) (ap length (d .behind)); read = refl }
 good-table file (e ∷ es) x =
-    let d = header-first (rowsAfter 0 (e ∷ es)) file (x .text) in
+    let d = header-first (entryRowsAfter 0 (e ∷ es)) file (x .text) in
     let g = d .at in
     let y = d .rest in
-    let m = shorter 0 file header (d .a) y _ six-words g in
+    let m = shorter 0 file headerWords (d .a) y _ six-words g in
     let r = good-rows (length file) 0 (0 + rowIn 0 file .used) y e es (x .sendable) (d .behind) m in
     record {
       scan =
-          scan-on (length file) 0 0 file (g .good) y (g .left) (file-byte (entryRow 1 e) (rowsAfter 1 es) y (omega (arith, six-fields 1 e)) (d .behind))
+          scan-on (length file) 0 0 file (g .good) y (g .left) (file-byte (entryFields 1 e) (entryRowsAfter 1 es) y (omega (arith, six-fields 1 e)) (d .behind))
           ∙ r .scan ∙ ap (λ (j : ℕ). scannedAs j 0 0 0) (omega arith);
       read = ap (rowEntries (length (e ∷ es)) 1) (g .left) ∙ r .read;
     }
@@ -169,7 +169,7 @@ none-left (b ∷ y) e = absurd (past (suc (length y)) 0 (omega arith) e)
 record AllRows (n i p : ℕ) (s : List ℕ) : Type 0 where
   es : List Entry
   sendable : All Sendable es
-  text : FileText (rowsAfter i es) s
+  text : FileText (entryRowsAfter i es) s
   rows : scannedAfter n (suc i) p s .rows ≡ suc i + length es
   read : rowEntries (length es) (suc i) s ≡ es
 
@@ -179,13 +179,13 @@ pub record EntryAt (i : ℕ) (s : List ℕ) : Type 0 where
   pub a : List ℕ
   pub rest : List ℕ
   pub sendable : Sendable e
-  pub at : RowAt (suc i) s (entryRow (suc i) e) a rest e
+  pub at : RowAt (suc i) s (entryFields (suc i) e) a rest e
 
 pub entry-at : (i : ℕ) (s : List ℕ) → rowIn (suc i) s .fault ≡ 0 → EntryAt i s
 entry-at i s h =
     let g = row-is (suc i) s h in
     let d = entry-row i (g .fs) (g .ws) (g .count) (g .says) in
-    let e = entryFrom (putAll noValues 0 (g .ws)) in
+    let e = entryOfValues (putAll noValues 0 (g .ws)) in
     record {
       e = e;
       a = g .a;
@@ -196,28 +196,28 @@ entry-at i s h =
 
 module _ (n i p : ℕ) (s : List ℕ) where
   one : (d : EntryAt i s) → length (d .rest) ≡ 0 → AllRows (suc n) i p s
-  unfolding rowsAfter rowEntries
+  unfolding entryRowsAfter rowEntries
   one d z =
       let g = d .at in
       let q = scan-end n (suc i) p s (g .good) (d .rest) (g .left) z in
       record {
         es = d .e ∷ [];
         sendable = (d .sendable, tt);
-        text = last-file (suc i) s (entryRow (suc i) (d .e)) (d .a) (d .rest) (d .e) g (none-left (d .rest) z);
+        text = last-file (suc i) s (entryFields (suc i) (d .e)) (d .a) (d .rest) (d .e) g (none-left (d .rest) z);
         rows = ap (λ (x : Scanned). x .rows) q ∙ omega arith;
         read = entry-read 0 (suc i) s (d .e) (d .rest) (g .entry) (g .left);
       }
 
   more : (d : EntryAt i s) → 1 ≤ length (d .rest) → AllRows n (suc i) (p + rowIn (suc i) s .used) (d .rest) → AllRows (suc n) i p s
-  unfolding rowsAfter
+  unfolding entryRowsAfter
   more d z r =
       let g = d .at in
       let q = scan-on n (suc i) p s (g .good) (d .rest) (g .left) z in
-      let c = ended (suc i) s (entryRow (suc i) (d .e)) (d .a) (d .rest) (d .e) g z in
+      let c = ended (suc i) s (entryFields (suc i) (d .e)) (d .a) (d .rest) (d .e) g z in
       record {
         es = d .e ∷ r .es;
         sendable = (d .sendable, r .sendable);
-        text = join-file (entryRow (suc i) (d .e)) (rowsAfter (suc i) (r .es)) (d .a) (d .rest) s c (g .row) (r .text);
+        text = join-file (entryFields (suc i) (d .e)) (entryRowsAfter (suc i) (r .es)) (d .a) (d .rest) s c (g .row) (r .text);
         rows = ap (λ (x : Scanned). x .rows) q ∙ r .rows ∙ omega arith;
         read = entry-read (length (r .es)) (suc i) s (d .e) (d .rest) (g .entry) (g .left) ∙ ap (λ (xs : List Entry). d .e ∷ xs) (r .read);
       }
@@ -229,7 +229,7 @@ module _ (n i p : ℕ) (s : List ℕ) where
 
   pub less-left : (d : EntryAt i s) → length s < suc n → length (d .rest) < n
   less-left d l =
-      let m = shorter (suc i) s (entryRow (suc i) (d .e)) (d .a) (d .rest) (d .e) (six-fields (suc i) (d .e)) (d .at) in
+      let m = shorter (suc i) s (entryFields (suc i) (d .e)) (d .a) (d .rest) (d .e) (six-fields (suc i) (d .e)) (d .at) in
       omega arith
 
   good-here : (scannedAfter (suc n) (suc i) p s .fault ≡ 0) → rowIn (suc i) s .fault ≡ 0
@@ -260,12 +260,12 @@ pub record HeaderAt (s : List ℕ) : Type 0 where
   pub a : List ℕ
   pub rest : List ℕ
   pub e : Entry
-  pub at : RowAt 0 s header a rest e
+  pub at : RowAt 0 s headerWords a rest e
 
 pub header-at : (s : List ℕ) → rowIn 0 s .fault ≡ 0 → HeaderAt s
 header-at s h =
     let g = row-is 0 s h in
-    let e = entryFrom (putAll noValues 0 (g .ws)) in
+    let e = entryOfValues (putAll noValues 0 (g .ws)) in
     record { a = g .a; rest = g .rest; e = e; at = subst (λ (fs : List (List ℕ)). RowAt 0 s fs (g .a) (g .rest) e) (header-row (g .fs) (g .ws) (g .count) (g .says)) (g .at) }
 
 header-good : (file : List ℕ) → scanned file .fault ≡ 0 → rowIn 0 file .fault ≡ 0
@@ -278,19 +278,19 @@ module _ (file : List ℕ) (d : HeaderAt file) where
   u = 0 + rowIn 0 file .used
 
   pub header-less : length (d .rest) < length file
-  header-less = shorter 0 file header (d .a) (d .rest) (d .e) six-words (d .at)
+  header-less = shorter 0 file headerWords (d .a) (d .rest) (d .e) six-words (d .at)
 
   header-alone : length (d .rest) ≡ 0 → TableIs file
-  unfolding table rowsAfter
+  unfolding table entryRowsAfter
   header-alone z =
-      let t : IsTable [] file = record { text = last-file 0 file header (d .a) (d .rest) (d .e) (d .at) (none-left (d .rest) z); sendable = tt } in
+      let t : IsTable [] file = record { text = last-file 0 file headerWords (d .a) (d .rest) (d .e) (d .at) (none-left (d .rest) z); sendable = tt } in
       record { es = []; is = t; looked = good-table file [] t }
 
   header-then : 1 ≤ length (d .rest) → AllRows (length file) 0 u (d .rest) → TableIs file
-  unfolding table rowsAfter
+  unfolding table entryRowsAfter
   header-then z r =
-      let c = ended 0 file header (d .a) (d .rest) (d .e) (d .at) z in
-      let t : IsTable (r .es) file = record { text = join-file header (rowsAfter 0 (r .es)) (d .a) (d .rest) file c (d .at .row) (r .text); sendable = r .sendable } in
+      let c = ended 0 file headerWords (d .a) (d .rest) (d .e) (d .at) z in
+      let t : IsTable (r .es) file = record { text = join-file headerWords (entryRowsAfter 0 (r .es)) (d .a) (d .rest) file c (d .at .row) (r .text); sendable = r .sendable } in
       record { es = r .es; is = t; looked = good-table file (r .es) t }
 
   pub header-on : 1 ≤ length (d .rest) → scanned file ≡ scannedAfter (length file) 1 u (d .rest)

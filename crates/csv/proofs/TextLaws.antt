@@ -19,8 +19,8 @@ use Rattle.numbers.specs.Words.{if_then_else_, _and_, _or_}
 use Rattle.numbers.specs.Numbers.{within}
 use Rattle.numbers.proofs.WordLaws.{split, if-true, if-false, and-both, and-true, or-left}
 use Rattle.numbers.proofs.NumberLaws.{eq-or-not, le-or-lt}
-use Rattle.csv.specs.Rows.{quote, comma, crlf, isText, isQuotable, allOf, doubled, quoted, FieldText}
-use Rattle.csv.specs.Fields.{stops, stretch, ending, endingSize, fieldAs, plainField, quotedField, fieldIn, content}
+use Rattle.csv.specs.Rows.{quote, comma, crlf, isText, isQuotable, allOf, quotesDoubled, quoted, FieldText}
+use Rattle.csv.specs.Fields.{stops, stretch, ending, endingSize, fieldAs, plainField, quotedField, fieldAtFront, content}
 use Rattle.csv.specs.declared.Field.{Field}
 use Rattle.csv.proofs.FieldLaws.{stretch-le}
 
@@ -32,8 +32,8 @@ free b = not (stops b)
 abbrev pub Text : (f t : List ℕ) → Type 0
 Text f t = (t ≡ f) ⊎ (t ≡ quote ∷ f ++ quote ∷ [])
 
-doubled-free : (f : List ℕ) → allOf free f ≡ true → doubled f ≡ f
-unfolding doubled allOf stops
+doubled-free : (f : List ℕ) → allOf free f ≡ true → quotesDoubled f ≡ f
+unfolding quotesDoubled allOf stops
 doubled-free [] h = refl
 doubled-free (b ∷ f) h =
     let p = and-both (free b) (allOf free f) h in
@@ -138,9 +138,9 @@ ends-file (b ∷ z) e =
 
 -- how a field is read that begins a run
 pub record FieldIs (s f : List ℕ) (used ends : ℕ) : Type 0 where
-  pub ends-so : fieldIn s .ends ≡ ends
-  pub says : content (fieldIn s) s ≡ f
-  pub takes : fieldIn s .used ≡ used
+  pub ends-so : fieldAtFront s .ends ≡ ends
+  pub says : content (fieldAtFront s) s ≡ f
+  pub takes : fieldAtFront s .used ≡ used
 
 first-free : (f z : List ℕ) → 1 ≤ length f → allOf free f ≡ true → eqb (getD (f ++ z) 0 0) quote ≡ false
 unfolding allOf stops
@@ -150,8 +150,8 @@ first-free [] z l h = absurd (none l)
     none p = omega arith
 first-free (b ∷ f) z l h = or-left (eqb b quote) _ (not-true (stops b) (and-both (free b) (allOf free f) h .0))
 
-plain-is : (f z : List ℕ) → 1 ≤ length f → allOf free f ≡ true → stretch z ≡ 0 → fieldIn (f ++ z) ≡ fieldAs 0 (length f) 0 (ending z)
-unfolding fieldIn plainField
+plain-is : (f z : List ℕ) → 1 ≤ length f → allOf free f ≡ true → stretch z ≡ 0 → fieldAtFront (f ++ z) ≡ fieldAs 0 (length f) 0 (ending z)
+unfolding fieldAtFront plainField
 plain-is f z l h e =
     if-false _ _ _ (first-free f z l h)
     ∙ (λ i. fieldAs 0 (stretch-at f z h e i) 0 (ending (drop (stretch-at f z h e i) (f ++ z))))
@@ -160,8 +160,8 @@ plain-is f z l h e =
 quotes-length : (f : List ℕ) → length (quote ∷ f ++ quote ∷ []) ≡ 2 + length f
 quotes-length f = omega (arith, length-append (quote ∷ f) (quote ∷ []))
 
-quoted-is : (f z : List ℕ) → allOf free f ≡ true → fieldIn (quote ∷ f ++ quote ∷ z) ≡ fieldAs 1 (length f) 1 (ending z)
-unfolding fieldIn quotedField stretch stops _or_ if_then_else_
+quoted-is : (f z : List ℕ) → allOf free f ≡ true → fieldAtFront (quote ∷ f ++ quote ∷ z) ≡ fieldAs 1 (length f) 1 (ending z)
+unfolding fieldAtFront quotedField stretch stops _or_ if_then_else_
 quoted-is f z h =
     let n : stretch (f ++ quote ∷ z) ≡ length f = stretch-at f (quote ∷ z) h refl in
     let g : getD (quote ∷ f ++ quote ∷ z) (1 + length f) 0 ≡ quote = getD-at (quote ∷ f) quote z 0 (1 + length f) (omega arith) in
@@ -202,16 +202,16 @@ pub record Stands (s : List ℕ) : Type 0 where
   pub t : List ℕ
   pub z : List ℕ
   pub is : s ≡ t ++ z
-  pub text : Text (content (fieldIn s) s) t
-  pub free-content : allOf free (content (fieldIn s) s) ≡ true
-  pub ends-so : fieldIn s .ends ≡ ending z
-  pub takes : fieldIn s .used ≡ length t + endingSize (ending z)
+  pub text : Text (content (fieldAtFront s) s) t
+  pub free-content : allOf free (content (fieldAtFront s) s) ≡ true
+  pub ends-so : fieldAtFront s .ends ≡ ending z
+  pub takes : fieldAtFront s .used ≡ length t + endingSize (ending z)
 
-plain-sound : (s : List ℕ) → fieldIn s ≡ plainField s → Stands s
+plain-sound : (s : List ℕ) → fieldAtFront s ≡ plainField s → Stands s
 unfolding plainField
 plain-sound s q =
     let n = stretch s in
-    let c : content (fieldIn s) s ≡ take n s = ap (λ (x : Field). content x s) q in
+    let c : content (fieldAtFront s) s ≡ take n s = ap (λ (x : Field). content x s) q in
     record {
       t = take n s;
       z = drop n s;
@@ -235,15 +235,15 @@ closed-is n s g =
     ∙ ap (λ (y : List ℕ). take n s ++ y) (drop-cons s n 0 (there s n g) ∙ ap (λ (b : ℕ). b ∷ drop (suc n) s) g)
     ∙ sym (append-assoc (take n s) (quote ∷ []) (drop (suc n) s)))
 
-quoted-sound : (s : List ℕ) → fieldIn (quote ∷ s) ≡ quotedField (quote ∷ s) → (fieldIn (quote ∷ s) .ends ≡ 0 → ⊥) → Stands (quote ∷ s)
+quoted-sound : (s : List ℕ) → fieldAtFront (quote ∷ s) ≡ quotedField (quote ∷ s) → (fieldAtFront (quote ∷ s) .ends ≡ 0 → ⊥) → Stands (quote ∷ s)
 unfolding quotedField
 quoted-sound s q h =
     let n = stretch s in
-    let P : Field → Type 0 = λ (x : Field). fieldIn (quote ∷ s) ≡ x → Stands (quote ∷ s) in
+    let P : Field → Type 0 = λ (x : Field). fieldAtFront (quote ∷ s) ≡ x → Stands (quote ∷ s) in
     split P (eqb (getD (quote ∷ s) (1 + n) 0) quote) _ _
     (λ g r.
     let d : drop (2 + n) (quote ∷ s) ≡ drop (suc n) s = (let e : 2 + n ≡ suc (suc n) = omega arith in ap (λ (k : ℕ). drop k (quote ∷ s)) e) in
-    let c : content (fieldIn (quote ∷ s)) (quote ∷ s) ≡ take n s = ap (λ (x : Field). content x (quote ∷ s)) r in
+    let c : content (fieldAtFront (quote ∷ s)) (quote ∷ s) ≡ take n s = ap (λ (x : Field). content x (quote ∷ s)) r in
     record {
       t = quote ∷ take n s ++ quote ∷ [];
       z = drop (suc n) s;
@@ -257,11 +257,11 @@ quoted-sound s q h =
     (λ _ r. absurd (h (ap (λ (x : Field). x .ends) r)))
     q
 
-pub field-sound : (s : List ℕ) → (fieldIn s .ends ≡ 0 → ⊥) → Stands s
-unfolding fieldIn if_then_else_
+pub field-sound : (s : List ℕ) → (fieldAtFront s .ends ≡ 0 → ⊥) → Stands s
+unfolding fieldAtFront if_then_else_
 field-sound [] h = plain-sound [] refl
 field-sound (b ∷ s) h =
     ⊎-elim
-    (λ e. subst (λ (x : ℕ). (fieldIn (x ∷ s) .ends ≡ 0 → ⊥) → Stands (x ∷ s)) (sym e) (quoted-sound s refl) h)
+    (λ e. subst (λ (x : ℕ). (fieldAtFront (x ∷ s) .ends ≡ 0 → ⊥) → Stands (x ∷ s)) (sym e) (quoted-sound s refl) h)
     (λ e. plain-sound (b ∷ s) (if-false _ _ _ (ne-eqb b quote e)))
     (eq-or-not b quote)

@@ -10,9 +10,9 @@ use Rattle.entries.specs.Entries.{operationOk}
 use Rattle.decimal.specs.Decimal.{said, noNumber, numberIn}
 use Rattle.decimal.specs.declared.Number.{Number}
 use Rattle.csv.specs.Rows.{quote, comma}
-use Rattle.csv.specs.Table.{header, kindWord}
+use Rattle.csv.specs.Table.{headerWords, kindWord}
 use Rattle.csv.specs.declared.Field.{Field}
-use Rattle.csv.specs.declared.Told.{Told}
+use Rattle.csv.specs.declared.FieldTold.{FieldTold}
 
 -- how many bytes stand before the first quote, comma, CR or LF
 unfoldable pub stops : ℕ → Bool
@@ -47,8 +47,8 @@ quotedField s =
     if eqb (getD s (1 + n) 0) quote then fieldAs 1 n 1 (ending (drop (2 + n) s)) else fieldAs 1 n 0 0
 
 -- the field at the front
-unfoldable pub fieldIn : List ℕ → Field
-fieldIn s = if eqb (getD s 0 0) quote then quotedField s else plainField s
+unfoldable pub fieldAtFront : List ℕ → Field
+fieldAtFront s = if eqb (getD s 0 0) quote then quotedField s else plainField s
 
 -- its content
 abbrev pub content : Field → List ℕ → List ℕ
@@ -63,8 +63,8 @@ same (b ∷ s) [] = false
 same (b ∷ s) (c ∷ t) = eqb b c and same s t
 
 -- the op of this row
-unfoldable pub opIn : (i : ℕ) → List ℕ → Number
-opIn i t = let n = numberIn i t in if eqb (n .value) i then n else noNumber
+unfoldable pub rowOpIn : (i : ℕ) → List ℕ → Number
+rowOpIn i t = let n = numberIn i t in if eqb (n .value) i then n else noNumber
 
 -- an operation's number
 unfoldable pub kindIn : List ℕ → Number
@@ -80,13 +80,13 @@ centsIn o t = let n = numberIn 1000000 t in if operationOk o (n .value) then n e
 
 -- word k of the header, which says nothing but itself
 unfoldable pub headerIn : (k : ℕ) → List ℕ → Number
-headerIn k t = record { there = same t (getD header k []); value = 0 }
+headerIn k t = record { there = same t (getD headerWords k []); value = 0 }
 
 -- What a content says as field k of row i, both from 0 on; row 0 is the header. `o` is the operation of this row.
 unfoldable pub sense : (i k o : ℕ) → List ℕ → Number
 sense i k o t =
     if eqb i 0 then headerIn k t else
-    if eqb k 0 then opIn i t else
+    if eqb k 0 then rowOpIn i t else
     if eqb k 3 then kindIn t else
     if eqb k 4 then numberIn 4294967295 t else
     if eqb k 5 then centsIn o t else
@@ -96,11 +96,11 @@ sense i k o t =
 
 -- What is wrong with a field: 1 its quotes or what stands behind it, 2 what it says, 3 the row ends behind it and has too few fields, 4 the row goes on
 -- behind its last field. 0: nothing; then what it says, and how many bytes it takes with its end.
-abbrev pub wrongField : (fault : ℕ) → Told
+abbrev pub wrongField : (fault : ℕ) → FieldTold
 wrongField f = record { fault = f; value = 0; used = 0 }
 
-unfoldable pub judged : (last : Bool) → Field → Number → Told
-judged last f n =
+unfoldable pub judgedField : (last : Bool) → Field → Number → FieldTold
+judgedField last f n =
     if eqb (f .ends) 0 then wrongField 1 else
     if not (n .there) then wrongField 2 else
     if last and eqb (f .ends) 1 then wrongField 4 else
@@ -108,5 +108,5 @@ judged last f n =
     record { fault = 0; value = n .value; used = f .used }
 
 -- field k of row i, at the front
-unfoldable pub told : (i k o : ℕ) → List ℕ → Told
-told i k o s = let f = fieldIn s in judged (eqb k 5) f (sense i k o (content f s))
+unfoldable pub fieldTold : (i k o : ℕ) → List ℕ → FieldTold
+fieldTold i k o s = let f = fieldAtFront s in judgedField (eqb k 5) f (sense i k o (content f s))

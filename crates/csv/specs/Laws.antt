@@ -11,7 +11,7 @@ use Rattle.numbers.specs.Numbers.{over}
 use Rattle.entries.specs.Entries.{entries, runCount, Sendable}
 use Rattle.entries.specs.declared.Entry.{Entry}
 use Rattle.csv.specs.Rows.{crlf, RowText, RowsText}
-use Rattle.csv.specs.Table.{header, entryRow, table, exported, IsTable}
+use Rattle.csv.specs.Table.{headerWords, entryFields, table, exported, IsTable}
 use Rattle.csv.specs.Calls.{LeftExported, notExported, exportCall, LeftImported, notImported, importing, importCall}
 
 -- the text that a call wrote, and the run of entries that a call gave
@@ -24,19 +24,19 @@ runOf d = take (32 * d .answer .entries) (d .area)
 -- ---- import, in both directions
 
 -- An import that is done: the file is the table of the entries that it left.
-abbrev pub Accepts : (file : List ℕ) → LeftImported → Type 0
-Accepts file d = IsTable (entries (d .answer .entries) (d .area)) file
+abbrev pub AcceptsOnly : (file : List ℕ) → LeftImported → Type 0
+AcceptsOnly file d = IsTable (entries (d .answer .entries) (d .area)) file
 
 -- A file that is the table of some entries: these are what an import gives, into any area that holds them; 9 is all that can refuse it.
-abbrev pub Accepted : (es : List Entry) (file : List ℕ) → Type 0
-Accepted es file = (area : List ℕ) → importCall file area ≡ importing es area
+abbrev pub AcceptsAll : (es : List Entry) (file : List ℕ) → Type 0
+AcceptsAll es file = (area : List ℕ) → importCall file area ≡ importing es area
 
 -- ---- the first bad row
 
 -- the fields that row i of a table can have; row 0 is the header
 abbrev pub IsRow : (i : ℕ) (row : List (List ℕ)) → Type 0
-IsRow zero row = row ≡ header
-IsRow (suc i) row = (e : Entry) × Sendable e × (row ≡ entryRow (suc i) e)
+IsRow zero row = row ≡ headerWords
+IsRow (suc i) row = (e : Entry) × Sendable e × (row ≡ entryFields (suc i) e)
 
 -- a text that begins with such a row: the row is all of it, or CRLF follows
 abbrev pub BeginsWith : (i : ℕ) (s : List ℕ) → Type 0

@@ -7,35 +7,35 @@ use lib.Dec.{eqb}
 use lib.ListN.{length, getD, set, drop, replicate}
 use Rattle.numbers.specs.Words.{if_then_else_}
 use Rattle.entries.specs.declared.Entry.{Entry}
-use Rattle.csv.specs.Fields.{told}
-use Rattle.csv.specs.declared.Row.{Row}
+use Rattle.csv.specs.Fields.{fieldTold}
+use Rattle.csv.specs.declared.RowRead.{RowRead}
 use Rattle.csv.specs.declared.Scanned.{Scanned}
 
 -- what the six fields say, none yet; and the entry that they make
 abbrev pub noValues : List ℕ
 noValues = replicate 6 0
 
-abbrev pub entryFrom : (values : List ℕ) → Entry
-entryFrom vs =
+abbrev pub entryOfValues : (values : List ℕ) → Entry
+entryOfValues vs =
     record { client = getD vs 1 0; request = getD vs 2 0; operation = getD vs 3 0; member = getD vs 4 0; cents = getD vs 5 0 }
 
 -- a row that takes so many bytes; one whose field number k, from 1 on, is bad, p bytes behind the row's beginning
-abbrev pub goodRow : (used : ℕ) (values : List ℕ) → Row
-goodRow n vs = record { fault = 0; column = 0; place = 0; used = n; entry = entryFrom vs }
+abbrev pub goodRow : (used : ℕ) (values : List ℕ) → RowRead
+goodRow n vs = record { fault = 0; column = 0; place = 0; used = n; entry = entryOfValues vs }
 
-abbrev pub badRow : (fault column p : ℕ) → Row
-badRow f k p = record { fault = f; column = k; place = p; used = 0; entry = entryFrom noValues }
+abbrev pub badRow : (fault column p : ℕ) → RowRead
+badRow f k p = record { fault = f; column = k; place = p; used = 0; entry = entryOfValues noValues }
 
 -- what is left of row i behind its first k fields, which took p bytes and said these values; n more come
-unfoldable pub rowFrom : (n k i : ℕ) (vs : List ℕ) (p : ℕ) (s : List ℕ) → Row
+unfoldable pub rowFrom : (n k i : ℕ) (vs : List ℕ) (p : ℕ) (s : List ℕ) → RowRead
 rowFrom zero k i vs p s = goodRow p vs
 rowFrom (suc n) k i vs p s =
-    let t = told i k (getD vs 3 0) s in
+    let t = fieldTold i k (getD vs 3 0) s in
     if eqb (t .fault) 0 then rowFrom n (suc k) i (set vs k (t .value)) (p + t .used) (drop (t .used) s) else
     badRow (t .fault) (k + 1) p
 
 -- row i, at the front
-unfoldable pub rowIn : (i : ℕ) → List ℕ → Row
+unfoldable pub rowIn : (i : ℕ) → List ℕ → RowRead
 rowIn i s = rowFrom 6 0 i noValues 0 s
 
 -- so many good rows, and where and how the next is bad; fault 0: none is

@@ -31,12 +31,12 @@ allOf p [] = true
 allOf p (b ∷ s) = p b and allOf p s
 
 -- each quote twice
-unfoldable pub doubled : List ℕ → List ℕ
-doubled [] = []
-doubled (b ∷ s) = if eqb b quote then quote ∷ quote ∷ doubled s else b ∷ doubled s
+unfoldable pub quotesDoubled : List ℕ → List ℕ
+quotesDoubled [] = []
+quotesDoubled (b ∷ s) = if eqb b quote then quote ∷ quote ∷ quotesDoubled s else b ∷ quotesDoubled s
 
 unfoldable pub quoted : List ℕ → List ℕ
-quoted f = quote ∷ doubled f ++ quote ∷ []
+quoted f = quote ∷ quotesDoubled f ++ quote ∷ []
 
 -- a field, and a text of it
 abbrev pub FieldText : (field text : List ℕ) → Type 0

@@ -11,8 +11,8 @@ use Rattle.decimal.specs.Decimal.{decimal}
 use Rattle.csv.specs.Rows.{comma, crlf, FileText}
 
 -- the words of the header, in ASCII
-unfoldable pub header : List (List ℕ)
-header =
+unfoldable pub headerWords : List (List ℕ)
+headerWords =
     (111 ∷ 112 ∷ [])  -- op
     ∷ (99 ∷ 108 ∷ 105 ∷ 101 ∷ 110 ∷ 116 ∷ [])  -- client
     ∷ (114 ∷ 101 ∷ 113 ∷ 117 ∷ 101 ∷ 115 ∷ 116 ∷ [])  -- request
@@ -29,26 +29,26 @@ kindWord k =
     97 ∷ 115 ∷ 107 ∷ []
 
 -- the fields of the entry with this op
-unfoldable pub entryRow : (op : ℕ) → Entry → List (List ℕ)
-entryRow op e =
+unfoldable pub entryFields : (op : ℕ) → Entry → List (List ℕ)
+entryFields op e =
     decimal op ∷ decimal (e .client) ∷ decimal (e .request) ∷ kindWord (e .operation) ∷ decimal (e .member) ∷ decimal (e .cents) ∷ []
 
 -- the rows of entries behind those of the first i
-unfoldable pub rowsAfter : (i : ℕ) → List Entry → List (List (List ℕ))
-rowsAfter i [] = []
-rowsAfter i (e ∷ es) = entryRow (suc i) e ∷ rowsAfter (suc i) es
+unfoldable pub entryRowsAfter : (i : ℕ) → List Entry → List (List (List ℕ))
+entryRowsAfter i [] = []
+entryRowsAfter i (e ∷ es) = entryFields (suc i) e ∷ entryRowsAfter (suc i) es
 
 unfoldable pub table : List Entry → List (List (List ℕ))
-table es = header ∷ rowsAfter 0 es
+table es = headerWords ∷ entryRowsAfter 0 es
 
 -- a row as export writes it: the fields as they are, parted by commas, and CRLF
-unfoldable pub joined : List (List ℕ) → List ℕ
-joined [] = []
-joined (f ∷ []) = f
-joined (f ∷ g ∷ fs) = f ++ comma ∷ joined (g ∷ fs)
+unfoldable pub joinedFields : List (List ℕ) → List ℕ
+joinedFields [] = []
+joinedFields (f ∷ []) = f
+joinedFields (f ∷ g ∷ fs) = f ++ comma ∷ joinedFields (g ∷ fs)
 
 unfoldable pub plainRow : List (List ℕ) → List ℕ
-plainRow fs = joined fs ++ crlf
+plainRow fs = joinedFields fs ++ crlf
 
 -- the row of an entry in two halves: op, client and request, each with its comma; kind, member and cents with commas between them, and CRLF
 unfoldable pub frontOf : (op : ℕ) → Entry → List ℕ

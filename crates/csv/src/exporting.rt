@@ -9,7 +9,7 @@ ghost use Rattle.numbers.specs.Lending.{was, last};
 ghost use Rattle.entries.specs.Entries.{entries, runCount};
 ghost use Rattle.decimal.specs.Decimal.{decimal};
 ghost use Rattle.csv.specs.Rows.{comma};
-ghost use Rattle.csv.specs.Table.{kindWord, entryRow, plainRow, frontOf, backOf, exported};
+ghost use Rattle.csv.specs.Table.{kindWord, entryFields, plainRow, frontOf, backOf, exported};
 use entries::Entry;
 
 const HEADER: [u8; 37] = *b"op,client,request,kind,member,cents\r\n";
@@ -75,8 +75,8 @@ fn put_back(area: &mut [u8], e: Entry) -> usize
 
 // A row.
 fn put_row(area: &mut [u8], op: u64, e: Entry) -> usize
-    requires { ⌜ length (plainRow (entryRow op e)) ≤ length (now area) ⌝ }
-    ensures { λ r. ⌜ Wrote (plainRow (entryRow op e)) (was area) (last area) r ⌝ }
+    requires { ⌜ length (plainRow (entryFields op e)) ≤ length (now area) ⌝ }
+    ensures { λ r. ⌜ Wrote (plainRow (entryFields op e)) (was area) (last area) r ⌝ }
 {
     let a = put_front(area, op, e);
     a + put_back(&mut area[a..], e)
@@ -84,7 +84,7 @@ fn put_row(area: &mut [u8], op: u64, e: Entry) -> usize
 
 // How many bytes a row has.
 fn row_size(op: u64, e: Entry) -> usize
-    ensures { λ r. ⌜ (r ≡ length (plainRow (entryRow op e))) × (r ≤ 113) ⌝ }
+    ensures { λ r. ⌜ (r ≡ length (plainRow (entryFields op e))) × (r ≤ 113) ⌝ }
 {
     let front = decimal::width(op) + decimal::width(e.client) + decimal::width(e.request);
     let back = kind_size(e.operation) + decimal::width(e.member as u64) + decimal::width(e.cents);

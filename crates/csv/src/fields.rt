@@ -5,10 +5,10 @@ ghost use Prim.Native.Nat.{_+_, _≤_, _<_};
 ghost use lib.ListN.{length, drop};
 ghost use Rattle.numbers.specs.Lending.{was, last};
 ghost use Rattle.decimal.specs.Decimal.{said, noNumber};
-ghost use Rattle.csv.specs.Table.{header};
-ghost use Rattle.csv.specs.Fields.{stops, stretch, ending, endingSize, plainField, quotedField, fieldIn, same, opIn, kindIn, centsIn, headerIn, sense, wrongField, judged, told};
+ghost use Rattle.csv.specs.Table.{headerWords};
+ghost use Rattle.csv.specs.Fields.{stops, stretch, ending, endingSize, plainField, quotedField, fieldAtFront, same, rowOpIn, kindIn, centsIn, headerIn, sense, wrongField, judgedField, fieldTold};
 use crate::Field;
-use crate::Told;
+use crate::FieldTold;
 use decimal::Number;
 
 // Whether a byte ends the content of a field.
@@ -114,7 +114,7 @@ fn quoted_field(s: &[u8]) -> Field
 
 // The field at the front.
 pub fn field(s: &[u8]) -> Field
-    ensures { λ r. ⌜ r ≡ fieldIn (was s) ⌝ }
+    ensures { λ r. ⌜ r ≡ fieldAtFront (was s) ⌝ }
 {
     if s.len() == 0 {
         return plain_field(s);
@@ -159,7 +159,7 @@ fn no_number() -> Number
 
 // The op of row i.
 fn op_in(t: &[u8], i: u64) -> Number
-    ensures { λ r. ⌜ r ≡ opIn i (was t) ⌝ }
+    ensures { λ r. ⌜ r ≡ rowOpIn i (was t) ⌝ }
 {
     let n = decimal::read(t, i);
     if n.value == i {
@@ -228,10 +228,10 @@ fn sense(t: &[u8], i: u64, k: usize, operation: u8) -> Number
     }
 }
 
-fn wrong_field(fault: u8) -> Told
+fn wrong_field(fault: u8) -> FieldTold
     ensures { λ r. ⌜ r ≡ wrongField fault ⌝ }
 {
-    Told {
+    FieldTold {
         fault,
         value: 0,
         used: 0,
@@ -239,8 +239,8 @@ fn wrong_field(fault: u8) -> Told
 }
 
 // A field judged by how it ends and by what it says.
-fn judged(last: bool, f: Field, n: Number) -> Told
-    ensures { λ r. ⌜ r ≡ judged last f n ⌝ }
+fn judged(last: bool, f: Field, n: Number) -> FieldTold
+    ensures { λ r. ⌜ r ≡ judgedField last f n ⌝ }
 {
     if f.ends == 0 {
         return wrong_field(1);
@@ -252,7 +252,7 @@ fn judged(last: bool, f: Field, n: Number) -> Told
         if f.ends == 1 {
             return wrong_field(4);
         }
-        return Told {
+        return FieldTold {
             fault: 0,
             value: n.value,
             used: f.used,
@@ -261,7 +261,7 @@ fn judged(last: bool, f: Field, n: Number) -> Told
     if f.ends != 1 {
         return wrong_field(3);
     }
-    Told {
+    FieldTold {
         fault: 0,
         value: n.value,
         used: f.used,
@@ -269,9 +269,9 @@ fn judged(last: bool, f: Field, n: Number) -> Told
 }
 
 // Field k of row i, at the front.
-pub fn told(s: &[u8], i: u64, k: usize, operation: u8) -> Told
+pub fn told(s: &[u8], i: u64, k: usize, operation: u8) -> FieldTold
     requires { ⌜ k < 6 ⌝ }
-    ensures { λ r. ⌜ r ≡ told i k operation (was s) ⌝ }
+    ensures { λ r. ⌜ r ≡ fieldTold i k operation (was s) ⌝ }
 {
     let f = field(s);
     let start = f.start;

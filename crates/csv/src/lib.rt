@@ -24,14 +24,14 @@ pub struct Field {
 
 // A field judged: what is wrong with it, by number: 1 its quotes or what stands behind it, 2 what it says, 3 the row ends behind it too early, 4 the row goes on behind its last field. 0: nothing;
 // then what it says, and how many bytes it takes with its end.
-pub struct Told {
+pub struct FieldTold {
     pub fault: u8,
     pub value: u64,
     pub used: usize,
 }
 
 // A row judged: what is wrong with its first bad field, its column, 1 to 6, and how far behind the row's beginning it stands. Fault 0: nothing; then how many bytes the row takes, and its entry.
-pub struct Row {
+pub struct RowRead {
     pub fault: u8,
     pub column: u8,
     pub place: usize,

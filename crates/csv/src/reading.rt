@@ -7,15 +7,15 @@ ghost use Rattle.numbers.specs.Cells.{packed};
 ghost use Rattle.numbers.specs.Lending.{was, last};
 ghost use Rattle.entries.specs.Entries.{encodeEntry};
 ghost use Rattle.csv.specs.Reading.{badRow, rowIn, scanned, tableEntries};
-use crate::Row;
+use crate::RowRead;
 use crate::Scanned;
 use crate::fields;
 use entries::Entry;
 
-fn bad_row(fault: u8, column: u8, place: usize) -> Row
+fn bad_row(fault: u8, column: u8, place: usize) -> RowRead
     ensures { λ r. ⌜ r ≡ badRow fault column place ⌝ }
 {
-    Row {
+    RowRead {
         fault,
         column,
         place,
@@ -31,7 +31,7 @@ fn bad_row(fault: u8, column: u8, place: usize) -> Row
 }
 
 // Row i, at the front: the header where i is 0, else that of op i.
-fn row(s: &[u8], i: u64) -> Row
+fn row(s: &[u8], i: u64) -> RowRead
     ensures { λ r. ⌜ (r ≡ rowIn i (was s)) × (r .used ≤ length (was s)) ⌝ }
 {
     let mut values: [u64; 6] = [0; 6];
@@ -46,7 +46,7 @@ fn row(s: &[u8], i: u64) -> Row
         p += t.used;
         k += 1;
     }
-    Row {
+    RowRead {
         fault: 0,
         column: 0,
         place: 0,

@@ -1,5 +1,5 @@
-//! Times the same calls through Whitherhaul and through vsr-rs, and prints the ratios; those of a journal, which vsr-rs
-//! doesn't have, beside plain Rust.
+//! Times the same calls through Whitherhaul and through vsr-rs, and prints the ratios; those of a journal and of a table,
+//! which vsr-rs doesn't have, beside plain Rust.
 //!
 //! Every round of a case is played by each side in turn, so that a busy machine hits all alike; of the rounds the median
 //! counts. After each round the sides must stand alike, or the figures would compare unlike things.
@@ -7,10 +7,12 @@
 mod axis;
 mod cases;
 mod cluster;
+mod csv;
 mod journal;
 mod measure;
 mod options;
 mod plain;
+mod plain_csv;
 mod plot;
 mod sides;
 mod stopwatch;
@@ -30,6 +32,7 @@ fn main() -> ExitCode {
             Task::Cases { word, only } => cases(&word, only, rounds)?,
             Task::Plot(file) => plot::plot(&file, rounds)?,
             Task::Journal => journal::compare(rounds),
+            Task::Csv => csv::compare(rounds),
         }
         Ok(())
     });

@@ -6,6 +6,7 @@ pub const HELP: &str = "\
 usage: bench [--rounds N] [--case WORD] [--side ours|theirs|framed]
        bench [--rounds N] --plot FILE.svg
        bench [--rounds N] --journal
+       bench [--rounds N] --csv
 
 Times each case through Whitherhaul (ours), vsr-rs as it is, structs handed over (theirs), and vsr-rs with the same frames
 written and read around it (framed). Ratios are theirs by ours: above 1 ours is faster. A case that vsr-rs doesn't have,
@@ -18,6 +19,8 @@ a refusal, has - in its place.
                 A StartView of 16 to 4,096 entries, of 16 clients and of as many clients as entries; a committed request
                 of 1 to 2,000 clients, each with a row already; a committed request of 3 to 7 replicas and 16 clients
   --journal     in place of the cases: a journal read, written and appended to, beside plain Rust that does the same
+  --csv         in place of the cases: a table of 256 to 16,384 rows exported and imported, beside plain Rust that does the
+                same; what plain Rust doesn't read, quotes, has - in its place
   --help        this text";
 
 /// One of the three that are timed.
@@ -40,6 +43,8 @@ pub enum Task {
     Plot(PathBuf),
     /// The journal's calls.
     Journal,
+    /// The table's calls.
+    Csv,
     Help,
 }
 
@@ -52,49 +57,65 @@ pub struct Options {
 /// Reads the words behind the program's name; what is wrong is said in one sentence.
 pub fn read(mut words: impl Iterator<Item = String>) -> Result<Options, String> {
     let mut rounds = 15;
-    let (mut case, mut only, mut plot, mut journal) = (None, None, None, false);
+    let (mut case, mut only, mut instead) = (None, None, None);
     while let Some(option) = words.next() {
         let mut value = || {
             words
                 .next()
                 .ok_or(format!("{option} needs a word behind it"))
         };
-        match option.as_str() {
+        let task = match option.as_str() {
             "--help" | "-h" => {
                 let task = Task::Help;
                 return Ok(Options { rounds, task });
             }
-            "--rounds" => rounds = number(&value()?)?,
-            "--case" => case = Some(value()?),
-            "--side" => only = Some(side(&value()?)?),
-            "--plot" => plot = Some(PathBuf::from(value()?)),
-            "--journal" => journal = true,
+            "--plot" => Task::Plot(PathBuf::from(value()?)),
+            "--journal" => Task::Journal,
+            "--csv" => Task::Csv,
+            "--rounds" => {
+                rounds = number(&value()?)?;
+                continue;
+            }
+            "--case" => {
+                case = Some(value()?);
+                continue;
+            }
+            "--side" => {
+                only = Some(side(&value()?)?);
+                continue;
+            }
             _ => return Err(format!("{option} is no option; --help lists them")),
-        }
+        };
+        instead = Some(in_place(option, task, instead)?);
     }
-    let task = task(case, only, plot, journal)?;
+    let task = task(case, only, instead)?;
     Ok(Options { rounds, task })
+}
+
+/// What is done in place of the cases, and the option that asks for it.
+type Instead = (String, Task);
+
+/// Takes what an option asks for in place of the cases, where no other one did.
+fn in_place(option: String, task: Task, before: Option<Instead>) -> Result<Instead, String> {
+    match before {
+        Some((other, _)) if other != option => {
+            Err(format!("{other} and {option} don't go together"))
+        }
+        _ => Ok((option, task)),
+    }
 }
 
 /// What is asked for by all options together.
 fn task(
     case: Option<String>,
     only: Option<Only>,
-    plot: Option<PathBuf>,
-    journal: bool,
+    instead: Option<Instead>,
 ) -> Result<Task, String> {
-    let narrowed = case.is_some() || only.is_some();
-    let told = |why| Err(String::from(why));
-    match plot {
-        Some(_) if narrowed => told(
-            "--plot has points of its own through all sides, so neither --case nor --side goes with it",
-        ),
-        Some(_) if journal => told("--plot and --journal don't go together"),
-        None if journal && narrowed => told(
-            "--journal has cases and sides of its own, so neither --case nor --side goes with it",
-        ),
-        Some(file) => Ok(Task::Plot(file)),
-        None if journal => Ok(Task::Journal),
+    match instead {
+        Some((option, _)) if case.is_some() || only.is_some() => Err(format!(
+            "{option} has cases and sides of its own, so neither --case nor --side goes with it"
+        )),
+        Some((_, task)) => Ok(task),
         None => Ok(Task::Cases {
             word: case.unwrap_or_default(),
             only,
@@ -147,12 +168,14 @@ mod tests {
     }
 
     #[test]
-    fn a_journal_has_its_rounds() {
+    fn a_journal_and_a_table_have_their_rounds() {
+        let rounds = 4;
         let task = Task::Journal;
-        assert_eq!(
-            told("--journal --rounds 4"),
-            Ok(Options { rounds: 4, task })
-        );
+        assert_eq!(told("--journal --rounds 4"), Ok(Options { rounds, task }));
+        let task = Task::Csv;
+        assert_eq!(told("--rounds 4 --csv"), Ok(Options { rounds, task }));
+        let task = Task::Csv;
+        assert_eq!(told("--csv --csv --rounds 4"), Ok(Options { rounds, task }));
     }
 
     #[test]
@@ -176,6 +199,8 @@ mod tests {
             ("--journal --case read", "neither --case nor --side"),
             ("--journal --side ours", "neither --case nor --side"),
             ("--journal --plot x.svg", "don't go together"),
+            ("--csv --case read", "neither --case nor --side"),
+            ("--csv --journal", "--csv and --journal don't go together"),
         ] {
             let why = told(words).expect_err(words);
             assert!(why.contains(part), "{words}: {why}");

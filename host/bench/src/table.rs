@@ -19,12 +19,12 @@ pub fn row(name: &str, [ours, as_it_is, framed]: Times) {
     ]);
 }
 
-/// What stands above the columns of a journal's calls.
+/// What stands above the columns of calls that vsr-rs doesn't have.
 pub fn beside_plain_heading() {
     two(["", "ours", "plain Rust", "ratio"]);
 }
 
-/// A journal's call, and plain Rust that does the same.
+/// Such a call, and plain Rust that does the same.
 pub fn beside_plain(name: &str, [ours, plain]: [Time; 2]) {
     two([name, &shown(ours), &shown(plain), &ratio(plain, ours)]);
 }

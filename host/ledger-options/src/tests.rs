@@ -21,6 +21,12 @@ fn every_word_has_its_place() {
     assert_eq!(asked("show a"), Ok(Asked::Show(file("a"), None)));
     let shown = Asked::Show(Source::Input, Some(1));
     assert_eq!(asked("show --members 1 - --members 1"), Ok(shown));
+    let exported = Asked::Export(file("a"), 240);
+    assert_eq!(asked("export a --members 240"), Ok(exported));
+    let exported = Asked::Export(Source::Input, 1);
+    assert_eq!(asked("export --members 1 -"), Ok(exported));
+    assert_eq!(asked("import a.csv"), Ok(Asked::Import(file("a.csv"))));
+    assert_eq!(asked("import -"), Ok(Asked::Import(Source::Input)));
 }
 
 #[test]
@@ -33,6 +39,12 @@ fn texts_are_asked_for() {
         ("check a --members 3 -h", CHECK_HELP),
         ("show --help --harm", SHOW_HELP),
         ("show a --version", VERSION),
+        ("export --help", EXPORT_HELP),
+        ("export a b --help", EXPORT_HELP),
+        ("export --version", VERSION),
+        ("import -h", IMPORT_HELP),
+        ("import a --members 3 --help", IMPORT_HELP),
+        ("import a --version", VERSION),
     ] {
         assert_eq!(asked(line), Ok(Asked::Say(text)), "{line}");
     }
@@ -47,17 +59,28 @@ fn refused(lines: &[(&str, &str)]) {
 
 #[test]
 fn what_is_wrong_is_said() {
-    let file = "needs a journal: the name of its file, or - for standard input";
-    let other = "is neither check nor show; --help says more";
+    let other = "is none of check, show, export and import; --help says more";
     let option = "is no option; --help lists them";
     refused(&[
-        ("", "check or show? --help says more"),
+        ("", "check, show, export or import? --help says more"),
         ("list a", &format!("\"list\" {other}")),
         ("--members 3", &format!("\"--members\" {option}")),
         ("show a --harm", &format!("\"--harm\" {option}")),
-        ("check", &format!("check {file}")),
-        ("show --members 3", &format!("show {file}")),
+        ("import a --all", &format!("\"--all\" {option}")),
+    ]);
+}
+
+#[test]
+fn wrong_numbers_of_files_are_said() {
+    let name = "the name of its file, or - for standard input";
+    refused(&[
+        ("check", &format!("check needs a journal: {name}")),
+        ("show --members 3", &format!("show needs a journal: {name}")),
+        ("export", &format!("export needs a journal: {name}")),
+        ("import", &format!("import needs a table: {name}")),
         ("show a b", "show takes one journal at a time"),
+        ("export a b", "export takes one journal at a time"),
+        ("import a b", "import takes one table at a time"),
         (
             "check - - --members 3",
             "standard input (-) can be read only once",
@@ -68,9 +91,14 @@ fn what_is_wrong_is_said() {
 #[test]
 fn wrong_numbers_of_members_are_said() {
     let needs = "--members needs a number";
-    let missing = "check needs --members M, how many members the ledger has, 1 to 4096";
+    let missing = "needs --members M, how many members the ledger has, 1 to 4096";
     refused(&[
-        ("check a", missing),
+        ("check a", &format!("check {missing}")),
+        ("export a", &format!("export {missing}")),
+        (
+            "import a --members 3",
+            "import takes no --members: a table is judged without",
+        ),
         ("check a --members", &format!("{needs} behind it")),
         (
             "check a --members x",
@@ -102,10 +130,20 @@ fn an_empty_name_is_no_file() {
 
 #[test]
 fn help_names_every_option() {
-    for text in [HELP, CHECK_HELP, SHOW_HELP] {
+    for text in [HELP, CHECK_HELP, SHOW_HELP, EXPORT_HELP, IMPORT_HELP] {
         for option in ["members M", "help", "version"] {
-            assert!(text.contains(&format!("\n  --{option} ")), "{option}");
+            let there = text.contains(&format!("\n  --{option} "));
+            let taken = text != IMPORT_HELP || option != "members M";
+            assert_eq!(there, taken, "{option}");
         }
         assert!(text.lines().all(|line| line.len() <= 100));
+    }
+}
+
+#[test]
+fn help_names_every_command() {
+    for command in ["check", "show", "export", "import"] {
+        assert!(HELP.contains(&format!("ledger {command} ")), "{command}");
+        assert!(HELP.contains(&format!("\n  {command} ")), "{command}");
     }
 }

@@ -3,7 +3,8 @@
 //! It is drawn only where standard error is a terminal, and where no output comes into its midst:
 //! none into a pipe, whose reader may show it on the same terminal, and beside what is printed none
 //! on a terminal. Long is what takes more than half a second. A journal from disk takes
-//! milliseconds, so that the bar is for a slow pipe, or a table that goes to a slow disk.
+//! milliseconds, so that the bar is for a slow pipe, a table that goes to a slow disk, or one of
+//! millions of rows that comes back.
 
 use crate::words::grouped;
 use std::fs::File;
@@ -23,15 +24,16 @@ const PLACES: usize = 20;
 pub struct Bar<W: Write = Stderr> {
     out: Option<W>,
     what: &'static str,
-    most: usize,
+    most: Option<usize>,
     unit: &'static str,
     next: Instant,
     drawn: bool,
 }
 
 impl Bar {
-    /// A bar on standard error for so many of something, before anything is printed.
-    pub fn before_output(what: &'static str, most: usize, unit: &'static str) -> Bar {
+    /// A bar on standard error for so many of something, or where that isn't known for any number,
+    /// before anything is printed.
+    pub fn before_output(what: &'static str, most: Option<usize>, unit: &'static str) -> Bar {
         Bar::where_free(
             output_is_file() || io::stdout().is_terminal(),
             what,
@@ -42,10 +44,10 @@ impl Bar {
 
     /// A bar on standard error for so many of something that is printed.
     pub fn beside_output(what: &'static str, most: usize, unit: &'static str) -> Bar {
-        Bar::where_free(output_is_file(), what, most, unit)
+        Bar::where_free(output_is_file(), what, Some(most), unit)
     }
 
-    fn where_free(free: bool, what: &'static str, most: usize, unit: &'static str) -> Bar {
+    fn where_free(free: bool, what: &'static str, most: Option<usize>, unit: &'static str) -> Bar {
         let out = (io::stderr().is_terminal() && free).then(io::stderr);
         Bar::on(out, what, most, unit, Instant::now())
     }
@@ -55,7 +57,7 @@ impl<W: Write> Bar<W> {
     fn on(
         out: Option<W>,
         what: &'static str,
-        most: usize,
+        most: Option<usize>,
         unit: &'static str,
         now: Instant,
     ) -> Bar<W> {
@@ -88,11 +90,15 @@ impl<W: Write> Bar<W> {
     }
 
     fn line(&self, done: usize) -> String {
-        let full = PLACES * done.min(self.most) / self.most.max(1);
-        let places = format!("{}{}", "#".repeat(full), ".".repeat(PLACES - full));
-        let [done, most] = [done, self.most].map(|number| grouped(number as u64));
         let Bar { what, unit, .. } = self;
-        format!("{what} [{places}] {done} {unit} of at most {most}")
+        let shown = grouped(done as u64);
+        let Some(most) = self.most else {
+            return format!("{what} {shown} {unit}");
+        };
+        let full = PLACES * done.min(most) / most.max(1);
+        let places = format!("{}{}", "#".repeat(full), ".".repeat(PLACES - full));
+        let most = grouped(most as u64);
+        format!("{what} [{places}] {shown} {unit} of at most {most}")
     }
 }
 
@@ -117,8 +123,12 @@ mod tests {
 
     /// What a bar draws for a hundred lines of which these were done after so many milliseconds.
     fn drawn(steps: &[(u64, usize)]) -> String {
+        drawn_of(Some(100), steps)
+    }
+
+    fn drawn_of(most: Option<usize>, steps: &[(u64, usize)]) -> String {
         let (mut out, begun) = (Vec::new(), Instant::now());
-        let mut bar = Bar::on(Some(&mut out), "printing", 100, "lines", begun);
+        let mut bar = Bar::on(Some(&mut out), "printing", most, "lines", begun);
         for (after, done) in steps {
             bar.at_time(*done, begun + Duration::from_millis(*after));
         }
@@ -147,5 +157,11 @@ mod tests {
             line.contains(&format!("[{full}] 101 lines of at most 100")),
             "{line}"
         );
+    }
+
+    #[test]
+    fn what_has_no_known_end_is_counted() {
+        let line = drawn_of(None, &[(900, 12_345)]);
+        assert_eq!(line, "\rprinting 12,345 lines\x1b[K\r\x1b[K");
     }
 }

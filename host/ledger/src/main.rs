@@ -1,20 +1,27 @@
-//! `./ledger`: status 0 where every journal is good, 1 where one is bad, 2 where one can't be read
-//! or an option is wrong.
+//! `./ledger`: status 0 where every journal or table is good, 1 where one is bad, 2 where one can't
+//! be read or an option is wrong.
 
 use ledger::bar::Bar;
+use ledger::export::{export, Exported};
+use ledger::import::import;
 use ledger::words::count;
 use ledger::{check, input, table};
-use ledger_options::{print, read, Asked, Source};
+use ledger_options::{print, print_bytes, read, Asked, Source};
 use std::process::ExitCode;
 
 /// How many lines are printed at once.
 const PIECE: usize = 64;
+
+/// How many bytes of a table are printed at once.
+const BYTES: usize = 4096;
 
 fn main() -> ExitCode {
     let done = read(std::env::args_os().skip(1)).and_then(|asked| match asked {
         Asked::Say(text) => print(text).map(|()| 0),
         Asked::Check(files, members) => check(&files, members),
         Asked::Show(file, members) => show(&file, members),
+        Asked::Export(file, members) => export_to_output(&file, members),
+        Asked::Import(file) => import_and_tell(&file),
     });
     done.map_or_else(|why| fault(&why), ExitCode::from)
 }
@@ -74,4 +81,33 @@ fn print_lines(lines: &[String]) -> Result<(), String> {
         bar.at(done);
     }
     Ok(())
+}
+
+/// The entries of a good journal as a table, and nothing but that.
+fn export_to_output(file: &Source, members: u32) -> Result<u8, String> {
+    match export(file, members)? {
+        Exported::Table(table) => print_table(&table).map(|()| 0),
+        Exported::Bad(checked) => {
+            eprintln!("ledger: {checked}");
+            Ok(checked.verdict.status())
+        }
+    }
+}
+
+fn print_table(table: &[u8]) -> Result<(), String> {
+    let mut bar = Bar::beside_output("printing", table.len(), "bytes");
+    let mut done = 0;
+    for piece in table.chunks(BYTES) {
+        print_bytes(piece)?;
+        done += piece.len();
+        bar.at(done);
+    }
+    Ok(())
+}
+
+/// A line for a table.
+fn import_and_tell(file: &Source) -> Result<u8, String> {
+    let imported = import(file)?;
+    print(&format!("{imported}\n"))?;
+    Ok(imported.status())
 }

@@ -1,10 +1,11 @@
 //! The program itself: what it prints of journals, and its statuses.
 
 mod common;
+mod runs;
 
 use common::{frame, journal, with};
-use std::io::Write;
-use std::path::{Path, PathBuf};
+use runs::{fault, run, said, File};
+use std::path::Path;
 use std::process::{Command, Stdio};
 
 /// A journal of so many frames, each a fee of a cent for member 0.
@@ -12,50 +13,6 @@ fn cents(frames: u32) -> Vec<u8> {
     let ops = 1..=frames;
     let frames = ops.map(|op| frame(op, [1, op.into()], (1, 0, 1), (1, op.into())));
     frames.collect::<Vec<_>>().concat()
-}
-
-/// Runs it with these words and this standard input: its status, and what it wrote to its output
-/// and to its errors.
-fn run(words: &[&str], input: &[u8]) -> (Option<i32>, String, String) {
-    let mut child = Command::new(env!("CARGO_BIN_EXE_ledger"))
-        .args(words)
-        .stdin(Stdio::piped())
-        .stdout(Stdio::piped())
-        .stderr(Stdio::piped())
-        .spawn()
-        .expect("it starts");
-    // It may have ended, or read all that decides.
-    let _ = child.stdin.take().expect("a pipe").write_all(input);
-    let output = child.wait_with_output().expect("it ends");
-    let text = |bytes: Vec<u8>| String::from_utf8(bytes).expect("text");
-    let status = output.status.code();
-    (status, text(output.stdout), text(output.stderr))
-}
-
-/// A status and an output, and no errors.
-fn said(status: i32, output: &str) -> (Option<i32>, String, String) {
-    (Some(status), String::from(output), String::new())
-}
-
-/// A file for one test, which is removed in the end.
-struct File(PathBuf);
-
-impl File {
-    fn new(name: &str, content: &[u8]) -> File {
-        let path = Path::new(env!("CARGO_TARGET_TMPDIR")).join(name);
-        std::fs::write(&path, content).expect("written");
-        File(path)
-    }
-
-    fn path(&self) -> &str {
-        self.0.to_str().expect("a path in text")
-    }
-}
-
-impl Drop for File {
-    fn drop(&mut self) {
-        let _ = std::fs::remove_file(&self.0);
-    }
 }
 
 const CHECK: [&str; 4] = ["check", "-", "--members", "8"];
@@ -171,14 +128,6 @@ fn several_files_have_a_line_each_and_the_worst_status() {
     );
 }
 
-/// What it says with status 2 and nothing on its output.
-fn fault(words: &[&str]) -> String {
-    let (status, output, errors) = run(words, b"");
-    assert_eq!((status, output.as_str()), (Some(2), ""), "{words:?}");
-    let errors = errors.strip_prefix("ledger: ").expect("its name");
-    String::from(errors.trim_end())
-}
-
 #[test]
 fn what_cant_be_read_is_named() {
     let circle = Path::new(env!("CARGO_TARGET_TMPDIR")).join("circle");
@@ -190,7 +139,12 @@ fn what_cant_be_read_is_named() {
         (env!("CARGO_TARGET_TMPDIR"), "Is a directory"),
         (circle.path(), ""),
     ] {
-        for words in [&["check", path, "--members", "8"][..], &["show", path]] {
+        for words in [
+            &["check", path, "--members", "8"][..],
+            &["show", path],
+            &["export", path, "--members", "8"],
+            &["import", path],
+        ] {
             let said = fault(words);
             let expected = format!("{path} can't be read: {why}");
             assert!(said.starts_with(&expected), "{said}");
@@ -226,6 +180,8 @@ fn wrong_words_are_named() {
         format!("--members 4097 can't be: {members}")
     );
     assert!(fault(&["check", "x"]).starts_with("check needs --members M"));
+    assert!(fault(&["export", "x"]).starts_with("export needs --members M"));
+    assert!(fault(&["import", "x", "--members", "3"]).starts_with("import takes no --members"));
     assert_eq!(
         fault(&["check", "x", "--all"]),
         "\"--all\" is no option; --help lists them"
@@ -234,15 +190,22 @@ fn wrong_words_are_named() {
         fault(&["show", "x", "y"]),
         "show takes one journal at a time"
     );
-    assert_eq!(fault(&[]), "check or show? --help says more");
+    assert_eq!(
+        fault(&["import", "x", "y"]),
+        "import takes one table at a time"
+    );
+    let which = "check, show, export or import? --help says more";
+    assert_eq!(fault(&[]), which);
 }
 
 #[test]
 fn help_and_version_are_told() {
-    use ledger_options::{CHECK_HELP, HELP, SHOW_HELP, VERSION};
+    use ledger_options::{CHECK_HELP, EXPORT_HELP, HELP, IMPORT_HELP, SHOW_HELP, VERSION};
     assert_eq!(run(&["--help"], b""), said(0, HELP));
     assert_eq!(run(&["check", "--help"], b""), said(0, CHECK_HELP));
     assert_eq!(run(&["show", "--help"], b""), said(0, SHOW_HELP));
+    assert_eq!(run(&["export", "--help"], b""), said(0, EXPORT_HELP));
+    assert_eq!(run(&["import", "--help"], b""), said(0, IMPORT_HELP));
     assert_eq!(run(&["--version"], b""), said(0, VERSION));
 }
 

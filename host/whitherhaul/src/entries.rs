@@ -71,6 +71,15 @@ pub struct Entry {
 }
 
 impl Entry {
+    /// The Request that carries it to replica `to`, a frame. Client and number are the entry's own,
+    /// so that a primary that has it doesn't take it again.
+    pub fn request(&self, to: u8) -> [u8; 39] {
+        let mut frame = [0; 39];
+        frame[..7].copy_from_slice(&[0, 0, 0, 35, 1, 1, to]);
+        frame[7..].copy_from_slice(&self.bytes());
+        frame
+    }
+
     /// The entry of these 32 bytes. Its operation is Ask for any number but 1 and 2.
     pub(crate) fn of(bytes: &[u8]) -> Entry {
         Entry {

@@ -12,9 +12,10 @@
 //! Three replicas and a desk that charges 45.00 to member 3. The network here is a list of frames:
 //!
 //! ```
+//! # #[cfg(feature = "replica")]
+//! # fn main() -> Result<(), whitherhaul::Refusal> {
 //! use whitherhaul::{Client, Frames, Operation, Outcome, Replica, Setup};
 //!
-//! # fn main() -> Result<(), whitherhaul::Refusal> {
 //! let replica = |id| {
 //!     let timeout = whitherhaul::DEFAULT_TIMEOUT;
 //!     Replica::new(&Setup { replicas: 3, id, timeout, room: 8, members: 8 })
@@ -38,6 +39,8 @@
 //! assert_eq!((replicas[0].total(3), replicas[0].takings()?), (4_500, 4_500));
 //! # Ok(())
 //! # }
+//! # #[cfg(not(feature = "replica"))]
+//! # fn main() {}
 //! ```
 //!
 //! Where the desk is in the same process, [`Sent::replies`] hands it each [`Reply`] by value.
@@ -50,6 +53,8 @@
 //! which byte is wrong, counted from 0, so that its line in a log is enough to find it:
 //!
 //! ```
+//! # #[cfg(feature = "replica")]
+//! # {
 //! use whitherhaul::{Refusal, Replica, Setup};
 //!
 //! let setup = Setup { replicas: 3, id: 0, timeout: 3, room: 8, members: 8 };
@@ -63,6 +68,7 @@
 //!
 //! let two = Setup { replicas: 2, ..setup };
 //! assert_eq!(Replica::new(&two).unwrap_err().number(), 1);
+//! # }
 //! ```
 //!
 //! # A crash
@@ -71,6 +77,8 @@
 //! replica asks the others is there at once:
 //!
 //! ```
+//! # #[cfg(feature = "replica")]
+//! # {
 //! use whitherhaul::{Replica, Setup, Status};
 //!
 //! let setup = Setup { replicas: 3, id: 1, timeout: 3, room: 8, members: 8 };
@@ -79,6 +87,7 @@
 //!
 //! let asked: Vec<u8> = replica.sent().messages().map(|(to, _)| to).collect();
 //! assert_eq!(asked, [0, 2]);
+//! # }
 //! ```
 //!
 //! # A journal
@@ -90,9 +99,10 @@
 //! replica holds too:
 //!
 //! ```
+//! # #[cfg(feature = "replica")]
+//! # fn main() -> Result<(), whitherhaul::Refusal> {
 //! use whitherhaul::{Client, Journal, Operation, Replica, Setup};
 //!
-//! # fn main() -> Result<(), whitherhaul::Refusal> {
 //! let setup = Setup { replicas: 3, id: 0, timeout: 3, room: 8, members: 8 };
 //! let mut replica = Replica::new(&setup)?;
 //! let mut desk = Client::new(3, 7)?;
@@ -107,19 +117,56 @@
 //! assert_eq!((journal.total(3), journal.takings()), (4_500, 4_500));
 //! # Ok(())
 //! # }
+//! # #[cfg(not(feature = "replica"))]
+//! # fn main() {}
 //! ```
+//!
+//! # A spreadsheet
+//!
+//! Entries go to a treasurer's spreadsheet and back as CSV ([`csv`]). A row that was imported can be
+//! sent as a Request ([`Entry::request`]). Client and number are those of the row, so that a row
+//! that is sent again isn't taken again:
+//!
+//! ```
+//! # #[cfg(feature = "replica")]
+//! # fn main() -> Result<(), whitherhaul::Refusal> {
+//! use whitherhaul::{csv, Entry, Operation, Replica, Setup};
+//!
+//! let fee = Entry { client: 7, request: 0, operation: Operation::Fee, member: 3, cents: 4_500 };
+//! let refund = Entry { request: 1, operation: Operation::Refund, cents: 500, ..fee };
+//! let table = csv::export(&[fee, refund])?;
+//! let rows = csv::import(&table)?;
+//! assert_eq!(rows, [fee, refund]);
+//!
+//! let setup = Setup { replicas: 3, id: 0, timeout: 3, room: 8, members: 8 };
+//! let mut primary = Replica::new(&setup)?;
+//! for row in [rows[0], rows[1], rows[1]] {
+//!     primary.on_message(&row.request(0))?;
+//! }
+//! assert_eq!(primary.op_number(), 2);
+//! assert_eq!([primary.entry(1), primary.entry(2)], [fee, refund]);
+//! # Ok(())
+//! # }
+//! # #[cfg(not(feature = "replica"))]
+//! # fn main() {}
+//! ```
+//!
+//! A table that isn't one is refused at its first bad row ([`Refusal::BadRow`]), which says which
+//! field of it is bad and where in the file that begins.
 //!
 //! # What is linked
 //!
-//! The proved library is two archives, which `tools/native-archive whitherhaul` and
-//! `tools/native-archive whitherhaul_journal` write to `target/staticlib/native` of the repository:
-//! `libwhitherhaul.a`, and for journals `libwhitherhaul_journal.a`. The build takes them from there,
-//! or from the folder that the environment variable `WHITHERHAUL_ARCHIVE_DIR` names by an absolute
-//! path. `cargo check` and `cargo doc` work without them, with a warning; a build fails.
+//! The proved library is three archives, which `tools/native-archive whitherhaul`,
+//! `tools/native-archive whitherhaul_journal` and `tools/native-archive whitherhaul_csv` write to
+//! `target/staticlib/native` of the repository: `libwhitherhaul.a`, for journals
+//! `libwhitherhaul_journal.a`, and for tables `libwhitherhaul_csv.a`. The build takes them from
+//! there, or from the folder that the environment variable `WHITHERHAUL_ARCHIVE_DIR` names by an
+//! absolute path. `cargo check` and `cargo doc` work without them, with a warning; a build fails.
 //!
-//! A program that has to do with journals alone takes this crate with `default-features = false`.
-//! Then [`Journal`], [`journal`] and the journal's calls in [`raw`] are there, and only the second
-//! archive is linked. Everything else is of the feature `replica`.
+//! A program that has to do with journals and tables alone takes this crate with
+//! `default-features = false`. Then [`Journal`], [`journal`], [`csv`] and their calls in [`raw`] are
+//! there, and only the second and the third archive are linked. Everything else is of the feature
+//! `replica`.
 //!
 //! # Where the rules are
 //!
@@ -134,6 +181,7 @@
 
 #[cfg(feature = "replica")]
 mod client;
+pub mod csv;
 mod entries;
 mod fault;
 #[cfg(feature = "replica")]

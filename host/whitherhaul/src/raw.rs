@@ -3,16 +3,20 @@
 //!
 //! A call asks nothing of its caller but that what it is lent is there: wrong lengths and bytes
 //! without meaning are refusal 1. So every function here is safe. Owners use [`Replica`],
-//! [`Client`] and [`Journal`]; this is for those who keep the memory themselves, and for tests.
+//! [`Client`], [`Journal`] and [`csv`]; this is for those who keep the memory themselves, and for
+//! tests.
 //!
 //! [`Replica`]: crate::Replica
 //! [`Client`]: crate::Client
 //! [`Journal`]: crate::Journal
+//! [`csv`]: crate::csv
 
+mod csv;
 mod journal;
 #[cfg(feature = "replica")]
 mod replica;
 
+pub use csv::{csv_export, csv_import};
 pub use journal::{journal_append, journal_frame, journal_read, journal_takings, journal_write};
 #[cfg(feature = "replica")]
 pub(crate) use replica::Bytes;

@@ -1,15 +1,16 @@
 //! Why a call was refused.
 
+use crate::csv::{Column, FieldFault};
 use crate::journal::FRAME_LENGTH;
 use crate::Fault;
 use std::fmt;
 
-/// Why a call was refused: document 01's refusals, and the journal's. A refused call left the
-/// replica, or the client, and every lent byte as they were.
+/// Why a call was refused: document 01's refusals, the journal's, and the table's. A refused call
+/// left the replica, or the client, and every lent byte as they were.
 ///
 /// Each has a number ([`Refusal::number`]), and 2 is two of them: a frame that is malformed, which
-/// says where, and an entry outside the entry rules that a client or the writer of a journal was
-/// given, where there is no frame.
+/// says where, and an entry outside the entry rules that a client or the writer of a journal or of a
+/// table was given, where there is no frame.
 ///
 /// A later release may add numbers, so a `match` outside this crate needs an arm for those that it
 /// doesn't name:
@@ -39,6 +40,8 @@ pub enum Refusal {
     /// A desk's line for its log, with the byte itself:
     ///
     /// ```
+    /// # #[cfg(feature = "replica")]
+    /// # {
     /// use whitherhaul::{Client, Refusal};
     ///
     /// fn line(refusal: Refusal, frame: &[u8]) -> String {
@@ -57,6 +60,7 @@ pub enum Refusal {
     ///     line(refusal, &frame),
     ///     "refusal 2: malformed frame: byte 4 of 7 is wrong: 0x02"
     /// );
+    /// # }
     /// ```
     Malformed {
         /// Which byte is wrong, counted from 0: the first at which no well-formed frame begins with
@@ -66,8 +70,8 @@ pub enum Refusal {
         /// How many bytes were handed over as the frame.
         length: usize,
     },
-    /// 2 of a client's request, or of an entry for a journal: operation or cents outside the entry
-    /// rules.
+    /// 2 of a client's request, or of an entry for a journal or a table: operation or cents outside
+    /// the entry rules.
     OutsideEntryRules,
     /// 3: the frame is for another replica, or its sender isn't below n.
     WrongReplica,
@@ -83,7 +87,7 @@ pub enum Refusal {
     CommittedAltered,
     /// 8: a tick would move past the last view, 4,294,967,295.
     PastLastView,
-    /// 9: the messages don't fit their area, or what a journal's call writes doesn't.
+    /// 9: the messages don't fit their area, or what a call of a journal or a table writes doesn't.
     MessagesDontFit,
     /// 10: the replies don't fit their area.
     RepliesDontFit,
@@ -96,10 +100,21 @@ pub enum Refusal {
         /// What is wrong with it.
         fault: Fault,
     },
+    /// 13: a row of a table is bad, the first that is.
+    BadRow {
+        /// Its number; the header is row 1.
+        row: usize,
+        /// Its first bad field.
+        column: Column,
+        /// What is wrong with that.
+        fault: FieldFault,
+        /// Where the field's first byte stands in the file.
+        offset: usize,
+    },
 }
 
 impl Refusal {
-    /// Its number: 1 to 12 in this release.
+    /// Its number: 1 to 13 in this release.
     pub fn number(self) -> u8 {
         match self {
             Refusal::OutsideSizes => 1,
@@ -114,12 +129,13 @@ impl Refusal {
             Refusal::RepliesDontFit => 10,
             Refusal::NumbersUsedUp => 11,
             Refusal::BadFrame { .. } => 12,
+            Refusal::BadRow { .. } => 13,
         }
     }
 
     /// What a number alone says; none where this release has no such number. The refusal itself
-    /// says more of 2: which of its two cases it is, and where in the frame; and of 12: where in the
-    /// file, and what is wrong there.
+    /// says more of 2: which of its two cases it is, and where in the frame; and of 12 and 13: where
+    /// in the file, and what is wrong there.
     pub fn words(number: u8) -> Option<&'static str> {
         Some(match number {
             1 => "setup or state outside the sizes, or a lent run of another length",
@@ -130,10 +146,11 @@ impl Refusal {
             6 => "request numbers of a client that don't rise along the log",
             7 => "committed entries would be shortened or altered",
             8 => "past the last view, 4294967295",
-            9 => "the messages, or a journal's bytes, don't fit their area",
+            9 => "the messages, or the bytes of a journal or a table, don't fit their area",
             10 => "the replies don't fit their area",
             11 => "the next request number is 2^64-1",
             12 => "bad journal frame",
+            13 => "bad row",
             _ => return None,
         })
     }
@@ -159,6 +176,21 @@ impl Refusal {
     pub(crate) fn check_journal(number: u8, offset: usize, fault: u8) -> Result<(), Refusal> {
         match (number, Fault::from_number(fault)) {
             (12, Some(fault)) => Err(Refusal::BadFrame { offset, fault }),
+            _ => Refusal::check(number),
+        }
+    }
+
+    /// The same of a call that reads a table, with what it answered.
+    pub(crate) fn check_table(number: u8, answers: [u64; 5]) -> Result<(), Refusal> {
+        let [_, row, column, fault, offset] = answers;
+        let column = Column::from_number(column as u8);
+        match (number, column, FieldFault::from_number(fault as u8)) {
+            (13, Some(column), Some(fault)) => Err(Refusal::BadRow {
+                row: row as usize,
+                column,
+                fault,
+                offset: offset as usize,
+            }),
             _ => Refusal::check(number),
         }
     }
@@ -214,6 +246,12 @@ impl fmt::Display for Refusal {
                 let op = offset / FRAME_LENGTH + 1;
                 write!(f, "bad journal frame at byte {offset} (op {op}): {fault}")
             }
+            Refusal::BadRow {
+                row,
+                column,
+                fault,
+                offset,
+            } => write!(f, "bad row {row}: {column} (byte {offset}): {fault}"),
             _ => f.write_str(Refusal::words(number).expect("a refusal's number")),
         }
     }

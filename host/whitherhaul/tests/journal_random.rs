@@ -4,6 +4,7 @@ mod common;
 
 use common::lent::{read, write, Read};
 use common::model::{self, entry};
+use common::random::Random;
 use whitherhaul::{Entry, Journal, Refusal};
 
 /// How many journals are tried, each whole and with five damages.
@@ -13,21 +14,7 @@ const JOURNALS: usize = 3000;
 /// of 64, and these are at the groups' edges.
 const OFTEN: [u32; 7] = [0, 62, 63, 64, 65, 127, 128];
 
-/// Numbers by xorshift, the same in every run.
-struct Random(u64);
-
 impl Random {
-    fn below(&mut self, bound: usize) -> usize {
-        self.0 ^= self.0 << 13;
-        self.0 ^= self.0 >> 7;
-        self.0 ^= self.0 << 17;
-        (self.0 >> 16) as usize % bound
-    }
-
-    fn of<T: Copy>(&mut self, choices: &[T]) -> T {
-        choices[self.below(choices.len())]
-    }
-
     /// An entry that keeps the rules, of a member who often is there.
     fn entry(&mut self, members: u32) -> Vec<u8> {
         let (client, request) = (self.0, self.below(3) as u64);

@@ -5,7 +5,7 @@ mod common;
 
 use common::lent::{self, Read};
 use common::model;
-use std::path::Path;
+use common::vectors::{self, entries, hex, shortened, shown};
 
 /// The calls of the vectors: of writing, and of reading. Fewer mean that some were lost.
 const CALLS: [usize; 2] = [125, 274];
@@ -17,26 +17,13 @@ const LONGEST: usize = 300_000;
 /// `host/check` leaves this one out, and says so, where the vectors aren't there.
 #[test]
 fn shared_journal_calls_answer_the_same() {
-    let path = Path::new(env!("CARGO_MANIFEST_DIR"))
-        .join("../../../shared/vectors/orders/order03-journal.txt");
-    let text = std::fs::read_to_string(&path).unwrap_or_else(|fault| panic!("{path:?}: {fault}"));
-    let said = |line: &&str| !line.is_empty() && !line.starts_with('#');
-    let lines: Vec<&str> = text.lines().filter(said).collect();
     let mut calls = [0; 2];
-    for pair in lines.chunks(2) {
-        let [call, answer] = pair else {
-            panic!("no answer: {}", shortened(pair[0]));
-        };
+    for (call, answer) in vectors::calls(&vectors::text("order03-journal.txt")) {
         let (kind, given) = answered(call);
-        assert_eq!(given, *answer, "{}", shortened(call));
+        assert_eq!(given, answer, "{}", shortened(call));
         calls[kind] += 1;
     }
     assert!(calls[0] >= CALLS[0] && calls[1] >= CALLS[1], "{calls:?}");
-}
-
-/// The front of a line, to be shown.
-fn shortened(line: &str) -> &str {
-    &line[..line.len().min(300)]
 }
 
 /// Which of the two kinds a call is, and what the library answers to it.
@@ -79,15 +66,6 @@ fn reading(members: u32, room: usize, file: &str) -> String {
     format!("= {number} {offset} {} {totals}", shown(&entries))
 }
 
-/// The bytes of a list of entries.
-fn entries(list: &str) -> Vec<u8> {
-    let part = |part: &str| match part.split_once('*') {
-        Some((run, times)) => hex(run).repeat(times.parse().expect("a count")),
-        None => hex(part),
-    };
-    list.split(',').flat_map(part).collect()
-}
-
 /// The bytes of a file.
 fn file(given: &str) -> Vec<u8> {
     let (parts, over) = match given.split_once('@') {
@@ -109,27 +87,4 @@ fn part(part: &str) -> Vec<u8> {
     };
     let (members, list) = journal.split_once(':').expect("M:list");
     model::write(members.parse().expect("M"), &entries(list))
-}
-
-/// The bytes of a run in hexadecimal, `-` where it is empty.
-fn hex(run: &str) -> Vec<u8> {
-    let digits = run.trim_matches('-').as_bytes().chunks(2);
-    let byte = |pair| u8::from_str_radix(std::str::from_utf8(pair).expect("ASCII"), 16);
-    digits.map(|pair| byte(pair).expect("two digits")).collect()
-}
-
-/// A run of an answer: in hexadecimal, or where it is long its length and digest.
-fn shown(run: &[u8]) -> String {
-    match run.len() {
-        0 => String::from("-"),
-        1..=4000 => run.iter().map(|byte| format!("{byte:02x}")).collect(),
-        length => format!("#{length}:{:016x}", digest(run)),
-    }
-}
-
-/// FNV-1a of 64 bits.
-fn digest(run: &[u8]) -> u64 {
-    run.iter().fold(0xcbf2_9ce4_8422_2325, |digest, byte| {
-        (digest ^ u64::from(*byte)).wrapping_mul(0x100_0000_01b3)
-    })
 }

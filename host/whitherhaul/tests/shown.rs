@@ -1,6 +1,7 @@
 //! What is shown to people: refusals in words, and all else in a line, however long the log is.
 
 use std::fmt::Debug;
+use whitherhaul::csv::{Column, FieldFault};
 use whitherhaul::DEFAULT_TIMEOUT;
 use whitherhaul::{journal, Client, Fault, Frames, Journal, Operation, Refusal, Replica, Setup};
 
@@ -30,7 +31,7 @@ fn charged() -> Replica {
 }
 
 /// One of each refusal, in the order of their numbers; 2 is two of them.
-const REFUSALS: [Refusal; 13] = [
+const REFUSALS: [Refusal; 14] = [
     Refusal::OutsideSizes,
     Refusal::Malformed {
         offset: 14,
@@ -47,6 +48,7 @@ const REFUSALS: [Refusal; 13] = [
     Refusal::RepliesDontFit,
     Refusal::NumbersUsedUp,
     BAD,
+    BAD_ROW,
 ];
 
 /// The second frame of a journal with a wrong total.
@@ -55,17 +57,25 @@ const BAD: Refusal = Refusal::BadFrame {
     fault: Fault::Total,
 };
 
+/// The fourth row behind a table's header, with a wrong client.
+const BAD_ROW: Refusal = Refusal::BadRow {
+    row: 5,
+    column: Column::Client,
+    fault: FieldFault::Value,
+    offset: 97,
+};
+
 #[test]
 fn refusals_have_numbers_and_words() {
     let numbers = REFUSALS.map(Refusal::number);
-    assert_eq!(numbers, [1, 2, 2, 3, 4, 5, 6, 7, 8, 9, 10, 11, 12]);
-    let by_number = |refusal: &Refusal| ![2, 12].contains(&refusal.number());
+    assert_eq!(numbers, [1, 2, 2, 3, 4, 5, 6, 7, 8, 9, 10, 11, 12, 13]);
+    let by_number = |refusal: &Refusal| ![2, 12, 13].contains(&refusal.number());
     for refusal in REFUSALS.into_iter().filter(by_number) {
         let number = refusal.number();
         let words = Refusal::words(number).unwrap();
         assert_eq!(refusal.to_string(), format!("refusal {number}: {words}"));
     }
-    assert_eq!((Refusal::words(0), Refusal::words(13)), (None, None));
+    assert_eq!((Refusal::words(0), Refusal::words(14)), (None, None));
 }
 
 /// A bad frame in words: where it is, and each fault.
@@ -95,6 +105,26 @@ fn refusals_with_number_12() {
     assert!(past
         .to_string()
         .contains(" at byte 204800 (op 4097): it is past the last op number"));
+}
+
+/// A bad row in words: which it is, its field and where that begins, and each fault.
+#[test]
+fn refusals_with_number_13() {
+    let words = Refusal::words(13).unwrap();
+    assert_eq!(
+        BAD_ROW.to_string(),
+        format!("refusal 13: {words} 5: client (byte 97): it isn't what belongs there")
+    );
+    for fault in (1..=4).filter_map(FieldFault::from_number) {
+        let refusal = Refusal::BadRow {
+            row: 1,
+            column: Column::Op,
+            fault,
+            offset: 0,
+        };
+        let line = format!("refusal 13: bad row 1: op (byte 0): {fault}");
+        assert_eq!(refusal.to_string(), line);
+    }
 }
 
 /// Both refusals with the number 2 in words, and where in the frame.
@@ -132,7 +162,8 @@ fn a_later_refusal_breaks_no_caller() {
         | Refusal::MessagesDontFit
         | Refusal::RepliesDontFit
         | Refusal::NumbersUsedUp
-        | Refusal::BadFrame { .. } => Some(refusal.number()),
+        | Refusal::BadFrame { .. }
+        | Refusal::BadRow { .. } => Some(refusal.number()),
         _ => None,
     };
     assert!(REFUSALS

@@ -85,3 +85,51 @@ pub fn read_with(members: u32, file: &[u8], room: usize, run: usize) -> Read {
 pub fn read(members: u32, file: &[u8], room: usize) -> Read {
     read_with(members, file, room, 8 * members.min(4096) as usize)
 }
+
+/// Export, with an area of so many bytes: the number, and what was written.
+pub fn export(run: &[u8], room: usize) -> (u8, Vec<u8>) {
+    written(room, |area| raw::csv_export(run, area))
+}
+
+/// What import answers and leaves.
+#[derive(Debug, PartialEq)]
+pub struct Imported {
+    pub number: u8,
+    /// The first bad row, its first bad field, what is wrong with that, and where it begins.
+    pub bad: [usize; 4],
+    pub entries: Vec<u8>,
+}
+
+impl Imported {
+    /// Refused by this number, with this bad row.
+    pub fn refused(number: u8, bad: [usize; 4]) -> Imported {
+        Imported {
+            number,
+            bad,
+            entries: Vec::new(),
+        }
+    }
+
+    /// Done, with these entries.
+    pub fn done(entries: Vec<u8>) -> Imported {
+        Imported {
+            entries,
+            ..Imported::refused(0, [0; 4])
+        }
+    }
+}
+
+/// Import, with an area of so many bytes for entries.
+pub fn import(file: &[u8], room: usize) -> Imported {
+    let mut bad = [0; 4];
+    let (number, entries) = written(room, |area| {
+        let (number, [entries, said @ ..]) = raw::csv_import(file, area);
+        bad = said.map(|number| number as usize);
+        (number, 32 * entries as usize)
+    });
+    Imported {
+        number,
+        bad,
+        entries,
+    }
+}

@@ -4,3 +4,6 @@
 pub mod frames;
 pub mod lent;
 pub mod model;
+pub mod random;
+pub mod table;
+pub mod vectors;

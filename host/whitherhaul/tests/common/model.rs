@@ -24,7 +24,7 @@ fn apply(totals: &mut [u64], entry: &[u8]) -> (u8, u64) {
 }
 
 /// Whether 32 bytes are an entry.
-fn is_entry(entry: &[u8]) -> bool {
+pub fn is_entry(entry: &[u8]) -> bool {
     let cents = number(&entry[24..]);
     let fits = match entry[16] {
         1 | 2 => (1..=1_000_000).contains(&cents),

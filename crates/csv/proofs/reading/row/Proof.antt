@@ -5,7 +5,7 @@ use Prim.Native.Nat.{_-_, _≤_}
 use native.Mathlib.Omega.{arith}
 use borrow.Author.Needs.{needs}
 use lib.ListN.{length, drop}
-use Rattle.csv.specs.declared.Row.{Row}
+use Rattle.csv.specs.declared.RowRead.{RowRead}
 use Rattle.csv.specs.Reading.{rowFrom, rowIn}
 use Rattle.csv.proofs.ReadingLaws.{Values, values-none, values-next, row-start, row-end, turn-fits, turn-good, turn-bad}
 use Rattle.csv.proofs.reading.row.Statement.{statement}
@@ -29,7 +29,7 @@ returns c =
     let t = c .before .before .before .told in
     let h = c .before .before .before .before .before .loop-test .taken in
     let b = turn-bad (l .k) (a .i) (l .values) (l .p) (a .s .now) (t .result) (t .ensures) h (c .before .if1 .taken) in
-    let u : c .bad-row .result .used ≡ 0 = ap (λ (r : Row). r .used) (c .bad-row .ensures) in
+    let u : c .bad-row .result .used ≡ 0 = ap (λ (r : RowRead). r .used) (c .bad-row .ensures) in
     (c .bad-row .ensures ∙ b ∙ sym (l .inv .3), omega arith)
 
 add-p : tie.Need-add-p Inv-loop μ-loop
