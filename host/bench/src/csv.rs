@@ -15,12 +15,14 @@ enum Call {
     Import,
 }
 
-/// What a case is: a run of entries and its table, and whether plain Rust can read that.
+/// What a case is: a run of entries and its table, the room that is lent, and whether plain Rust can
+/// read that table.
 struct Case {
     name: String,
     call: Call,
     run: Vec<u8>,
     file: Vec<u8>,
+    room: usize,
     plain: bool,
 }
 
@@ -86,8 +88,20 @@ impl Case {
             name: format!("{word}, {grouped} rows{of}"),
             call,
             file: exported(&run),
+            // What an owner lends, so that no row is measured.
+            room: 37 + 113 * rows,
             run,
             plain: true,
+        }
+    }
+
+    /// The same export with not a byte more than its table has.
+    fn in_just_its_room(rows: usize) -> Case {
+        let case = Case::of(Call::Export, rows, false);
+        Case {
+            name: format!("{}, in just their room", case.name),
+            room: case.file.len(),
+            ..case
         }
     }
 
@@ -96,6 +110,7 @@ impl Case {
         Case {
             name: String::from(name),
             call: Call::Import,
+            room: run.len(),
             run,
             file,
             plain: false,
@@ -143,7 +158,7 @@ impl Case {
 
     fn areas(&self) -> Areas {
         Areas {
-            ours: vec![0; self.file.len().max(self.run.len())],
+            ours: vec![0; self.room],
             ..Areas::default()
         }
     }
@@ -187,6 +202,9 @@ fn cases() -> Vec<Case> {
         let rows = [256, 1_024, 4_096, 16_384];
         cases.extend(rows.map(|rows| Case::of(call, rows, false)));
         cases.push(Case::of(call, 4_096, true));
+        if let Call::Export = call {
+            cases.push(Case::in_just_its_room(4_096));
+        }
     }
     let run = day(4_096, false);
     let file = quoted(&exported(&run));

@@ -1,0 +1,4 @@
+pub mod Short
+pub mod Open
+pub mod ExportsHold
+pub mod ImportsHold
