@@ -14,10 +14,11 @@ use Rattle.csv.specs.Table.{headerWords, kindWord}
 use Rattle.csv.specs.declared.Field.{Field}
 use Rattle.csv.specs.declared.FieldTold.{FieldTold}
 
--- how many bytes stand before the first quote, comma, CR or LF
+-- a byte that ends a content: a quote, a comma, CR or LF
 unfoldable pub stops : ℕ → Bool
 stops b = eqb b quote or eqb b comma or eqb b 13 or eqb b 10
 
+-- how many bytes stand before the first of them
 unfoldable pub stretch : List ℕ → ℕ
 stretch [] = 0
 stretch (b ∷ s) = if stops b then 0 else suc (stretch s)

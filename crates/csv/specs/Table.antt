@@ -50,14 +50,7 @@ joinedFields (f ∷ g ∷ fs) = f ++ comma ∷ joinedFields (g ∷ fs)
 unfoldable pub plainRow : List (List ℕ) → List ℕ
 plainRow fs = joinedFields fs ++ crlf
 
--- the row of an entry in two halves: op, client and request, each with its comma; kind, member and cents with commas between them, and CRLF
-unfoldable pub frontOf : (op : ℕ) → Entry → List ℕ
-frontOf op e = decimal op ++ comma ∷ decimal (e .client) ++ comma ∷ decimal (e .request) ++ comma ∷ []
-
-unfoldable pub backOf : Entry → List ℕ
-backOf e = kindWord (e .operation) ++ comma ∷ decimal (e .member) ++ comma ∷ decimal (e .cents) ++ crlf
-
--- the whole of it
+-- the whole table as export writes it
 unfoldable pub exported : List Entry → List ℕ
 exported es = packed plainRow (table es)
 
@@ -65,3 +58,10 @@ exported es = packed plainRow (table es)
 pub record IsTable (es : List Entry) (file : List ℕ) : Type 0 where
   pub text : FileText (table es) file
   pub sendable : All Sendable es
+
+-- The code's own: the row of an entry in two halves, op, client and request, each with its comma; kind, member and cents with commas between them, and CRLF.
+unfoldable pub frontOf : (op : ℕ) → Entry → List ℕ
+frontOf op e = decimal op ++ comma ∷ decimal (e .client) ++ comma ∷ decimal (e .request) ++ comma ∷ []
+
+unfoldable pub backOf : Entry → List ℕ
+backOf e = kindWord (e .operation) ++ comma ∷ decimal (e .member) ++ comma ∷ decimal (e .cents) ++ crlf

@@ -18,7 +18,7 @@ unfoldable pub figures : (most n : ℕ) → List ℕ
 figures zero n = []
 figures (suc k) n = if ltb n 10 then figure n ∷ [] else figures k (n / 10) ++ figure (n % 10) ∷ []
 
--- a number in decimal: it has no more figures than its successor counts
+-- a number in decimal; n + 1 figures are always enough
 unfoldable pub decimal : ℕ → List ℕ
 decimal n = figures (suc n) n
 
