@@ -7,8 +7,9 @@ use crate::teller::Teller;
 use crate::words::money;
 use demo_options::{Asked, Options};
 use ledger::check::judge;
+use ledger::import;
 use ledger::table::table;
-use whitherhaul::Journal;
+use whitherhaul::{csv, Journal};
 use wire::random::Random;
 
 /// A folder for one test, which isn't there yet and is removed in the end.
@@ -156,6 +157,19 @@ fn a_journal_that_isnt_as_it_has_to_be_is_noticed() {
     assert!(!journals.checked(list.members));
 }
 
+/// What `ledger import` says of a journal's table, and of that with amounts in euros.
+fn imported(members: u32, file: &[u8]) -> [String; 2] {
+    let journal = Journal::read(members, file).expect("good");
+    let table = csv::export(journal.entries()).expect("inside the rules");
+    let spoilt = String::from_utf8(table.clone()).expect("ASCII");
+    let spoilt = spoilt.replace(",18000", ",180.00");
+    let judged = |file: &[u8]| import::judge(file).expect("room");
+    [
+        format!("fees.csv: {}", judged(&table)),
+        format!("standard input: {}", judged(spoilt.as_bytes())),
+    ]
+}
+
 /// The README's lines under its heading for a treasurer, of the usual day.
 #[test]
 fn the_readme_shows_what_is_printed() {
@@ -179,6 +193,7 @@ fn the_readme_shows_what_is_printed() {
         format!("fees/replica-0.journal: {}", judged(&file)),
         format!("standard input: {}", judged(&file[..170])),
     ]);
+    printed.extend(imported(list.members, &file));
     assert_eq!(shown, printed);
     let members = format!("--members {}\n", list.members);
     assert_eq!(section.matches(&members).count(), 2);
