@@ -196,8 +196,6 @@ extern "C" {
 #define WHITHERHAUL_STORED_BYTES(L, n) (32 * (size_t)(L) * (size_t)(n))
 /* Rows: client 8, request 8, mark 1, total 8. */
 #define WHITHERHAUL_TABLE_BYTES(L) (25 * (size_t)(L))
-/* Where a rebuild keeps the rows that it replaces. */
-#define WHITHERHAUL_OLD_BYTES(L) (25 * (size_t)(L))
 /* A client's record. */
 #define WHITHERHAUL_CLIENT_BYTES 54
 
@@ -295,7 +293,7 @@ struct whitherhaul_said {
 
 /*
  * A replica for the first time: Normal, in view 0, with an empty log. Totals, acks and table are
- * zeroed, the state is written; log, results, stored and old stay as they were. 0 or 1.
+ * zeroed, the state is written; log, results and stored stay as they were. 0 or 1.
  */
 uint8_t whitherhaul_create(uint32_t n, uint32_t id, uint32_t timeout, uint32_t room, uint32_t members,
                            uint8_t *state, size_t state_length,
@@ -304,8 +302,7 @@ uint8_t whitherhaul_create(uint32_t n, uint32_t id, uint32_t timeout, uint32_t r
                            uint8_t *totals, size_t totals_length,
                            uint8_t *acks, size_t acks_length,
                            const uint8_t *stored, size_t stored_length,
-                           uint8_t *table, size_t table_length,
-                           const uint8_t *old, size_t old_length);
+                           uint8_t *table, size_t table_length);
 
 /*
  * A replica that lost its memory in a crash: Recovering, in the view that its owner kept, with a
@@ -321,7 +318,6 @@ uint8_t whitherhaul_recover(uint32_t n, uint32_t id, uint32_t timeout, uint32_t 
                             uint8_t *acks, size_t acks_length,
                             const uint8_t *stored, size_t stored_length,
                             uint8_t *table, size_t table_length,
-                            const uint8_t *old, size_t old_length,
                             uint8_t *out, size_t out_length,
                             struct whitherhaul_counts *counts);
 
@@ -337,7 +333,6 @@ uint8_t whitherhaul_on_message(uint8_t *state, size_t state_length,
                                uint8_t *acks, size_t acks_length,
                                uint8_t *stored, size_t stored_length,
                                uint8_t *table, size_t table_length,
-                               uint8_t *old, size_t old_length,
                                uint8_t *out, size_t out_length,
                                uint8_t *reps, size_t reps_length,
                                struct whitherhaul_counts *counts, uint64_t *offset);
@@ -353,7 +348,6 @@ uint8_t whitherhaul_on_idle(uint8_t *state, size_t state_length,
                             uint8_t *acks, size_t acks_length,
                             uint8_t *stored, size_t stored_length,
                             uint8_t *table, size_t table_length,
-                            uint8_t *old, size_t old_length,
                             uint8_t *out, size_t out_length,
                             uint8_t *reps, size_t reps_length,
                             struct whitherhaul_counts *counts);
@@ -504,7 +498,6 @@ struct whitherhaul_replica {
     struct whitherhaul_run acks;
     struct whitherhaul_run stored;
     struct whitherhaul_run table;
-    struct whitherhaul_run old;
     struct whitherhaul_run out;
     struct whitherhaul_run reps;
     struct whitherhaul_counts counts;
@@ -515,15 +508,13 @@ struct whitherhaul_replica {
 #define WHITHERHAUL_RUN(run) (run).bytes, (run).length
 #define WHITHERHAUL_RUNS(r)                                                                     \
     WHITHERHAUL_RUN((r)->log), WHITHERHAUL_RUN((r)->results), WHITHERHAUL_RUN((r)->totals),     \
-        WHITHERHAUL_RUN((r)->acks), WHITHERHAUL_RUN((r)->stored), WHITHERHAUL_RUN((r)->table),  \
-        WHITHERHAUL_RUN((r)->old)
+        WHITHERHAUL_RUN((r)->acks), WHITHERHAUL_RUN((r)->stored), WHITHERHAUL_RUN((r)->table)
 
 /* How long a replica's block is, for numbers inside the sizes: for blocks in static memory. */
 #define WHITHERHAUL_REPLICA_BYTES(n, L, M)                                                      \
     (WHITHERHAUL_STATE_BYTES + WHITHERHAUL_LOG_BYTES(L) + WHITHERHAUL_RESULTS_BYTES(L) +        \
      WHITHERHAUL_TOTALS_BYTES(M) + WHITHERHAUL_ACKS_BYTES(L) + WHITHERHAUL_STORED_BYTES(L, n) + \
-     WHITHERHAUL_TABLE_BYTES(L) + WHITHERHAUL_OLD_BYTES(L) + WHITHERHAUL_OUT_BYTES(L, n) +      \
-     WHITHERHAUL_REPS_BYTES(L))
+     WHITHERHAUL_TABLE_BYTES(L) + WHITHERHAUL_OUT_BYTES(L, n) + WHITHERHAUL_REPS_BYTES(L))
 
 /* How long a replica's block is, runs and both areas at their longest; 0 outside the sizes. */
 static inline size_t whitherhaul_replica_bytes(uint32_t n, uint32_t room, uint32_t members)
@@ -566,7 +557,6 @@ static inline struct whitherhaul_replica whitherhaul_lay_out(uint32_t n, uint32_
     r.acks = whitherhaul_take(&rest, WHITHERHAUL_ACKS_BYTES(room));
     r.stored = whitherhaul_take(&rest, WHITHERHAUL_STORED_BYTES(room, n));
     r.table = whitherhaul_take(&rest, WHITHERHAUL_TABLE_BYTES(room));
-    r.old = whitherhaul_take(&rest, WHITHERHAUL_OLD_BYTES(room));
     r.out = whitherhaul_take(&rest, WHITHERHAUL_OUT_BYTES(room, n));
     r.reps = whitherhaul_take(&rest, WHITHERHAUL_REPS_BYTES(room));
     r.counts.messages = 0;

@@ -76,7 +76,7 @@ static int same(const struct owned *before, const struct owned *o)
 #define RUN(run) (run).bytes, (run).length
 #define LENT(r)                                                                              \
     RUN((r)->log), RUN((r)->results), RUN((r)->totals), RUN((r)->acks), RUN((r)->stored),    \
-        RUN((r)->table), RUN((r)->old)
+        RUN((r)->table)
 #define RUNS(r) RUN((r)->state), LENT(r)
 
 static uint8_t bare_create(struct owned *o, uint32_t n, uint32_t id, uint32_t timeout)
@@ -261,7 +261,7 @@ static void short_runs(void)
 {
     static struct owned o, before;
     struct whitherhaul_run *runs[] = {&o.r.state, &o.r.log,    &o.r.results, &o.r.totals,
-                                      &o.r.acks,  &o.r.stored, &o.r.table,   &o.r.old};
+                                      &o.r.acks,  &o.r.stored, &o.r.table};
     size_t i;
     fresh(&o, 0);
     for (i = 0; i < sizeof runs / sizeof runs[0]; i++) {

@@ -4,7 +4,8 @@ A run is a list of lines, each split into words: its creation with the answer an
 Lines that not every trace has are the end of the line before them here: `+`, and `$` with the takings, behind a state (host/README.md),
 and `@` with the offset behind an answer (../shared/vectors/orders/FORMAT.md)."""
 KINDS = range(1, 12)
-START_VIEW_CHANGE = 7
+REQUEST, PREPARE, NEW_STATE, START_VIEW_CHANGE = 1, 2, 6, 7
+ENTRIES_AT = {1: 7, 2: 19, 6: 23, 8: 24, 9: 19, 11: 29}  # where the entries of a frame begin, by its kind
 SMALL_ROOM = 8                             # the greatest L of the Rust's own record
 VIEW_CHANGE, RECOVERING = "2", "3"         # statuses of a state line
 PAST_FRAME = ("0", "7", "9", "10")         # answers to a StartViewChange that isn't refused for its frame alone
@@ -81,10 +82,18 @@ def kind_of(call):
     return kind if kind in KINDS else -1
 
 
-def meets_exception(own, state, call, answer):
-    """Whether a call to a replica with this id, in the state of this line, meets the exception to document 01: a StartViewChange that names
-    the replica itself as its sender, in a view for which senders are counted. A replica's own id never joins that set. Where document 01
-    refuses such a call by 7, 9 or 10, it may be for what goes out because the own id counts."""
+def fnv(data):
+    """The digest of bytes, as a state line has it."""
+    digest = 0xCBF29CE484222325
+    for byte in data:
+        digest = (digest ^ byte) * 0x100000001B3 % 2**64
+    return f"{digest:016x}"
+
+
+def counts_own(own, state, call, answer):
+    """Whether a call to a replica with this id, in the state of this line, is a StartViewChange that names the replica itself as its
+    sender, in a view for which senders are counted: a replica's own id never joins that set. Where document 01 refuses such a call by 7,
+    9 or 10, it may be for what goes out because the own id counts."""
     if kind_of(call) != START_VIEW_CHANGE or answer[1] not in PAST_FRAME:
         return False
     view, sender = int(call[3][14:22], 16), int(call[3][22:24], 16)
@@ -93,13 +102,44 @@ def meets_exception(own, state, call, answer):
     return sender == own and status != RECOVERING and counts
 
 
+def made_logs(log, commit, call):
+    """The logs that a call can make of a log, or store for later, each a tuple of entries in hex digits."""
+    kind = kind_of(call)
+    if kind not in ENTRIES_AT:
+        return []
+    digits = call[3][2 * ENTRIES_AT[kind]:]
+    carried = tuple(digits[at:at + 64] for at in range(0, len(digits), 64))
+    if kind in (REQUEST, PREPARE):
+        return [log + carried]
+    if kind == NEW_STATE:
+        start = int(call[3][22:30], 16)
+        return [log + carried[max(len(log) - start, 0):], log[:commit] + carried]
+    return [carried]
+
+
+def forgets(before, commit, log):
+    """Whether an install of this log in place of that before it, so many of its entries committed, forgets a reply by document 01: a
+    client has a committed entry, a later one is dropped, and the new log has no later one."""
+    committed, dropped, later = ({entry[:16] for entry in part} for part in (before[:commit], before[commit:], log[commit:]))
+    return bool(committed & (dropped - later))
+
+
 def before_exception(run):
-    """A replica's run up to its first call that meets the exception; all of it where none does."""
-    calls = calls_of(run)
-    for place, (call, answer, _) in enumerate(calls):
+    """A replica's run up to its first call that meets one of the exceptions to document 01; all of it where none does. The log after a call
+    is that with the digest of its state line among those that the frames so far can have made."""
+    calls, log = calls_of(run), ()
+    known = {fnv(b""): log}
+    for place, (call, answer, after) in enumerate(calls):
         state = calls[place - 1][2] if place else run[2]
-        if meets_exception(int(run[0][2]), state, call, answer):
+        if counts_own(int(run[0][2]), state, call, answer):
             return front(run, place)
+        if answer[1] != "0":
+            continue
+        commit = int(state[5])
+        known.update((fnv(bytes.fromhex("".join(made))), made) for made in made_logs(log, commit, call))
+        if forgets(log, commit, known[after[15]]):
+            return front(run, place)
+        log = known[after[15]]
     return run
 
 

@@ -19,7 +19,7 @@ use Rattle.client_table.specs.declared.Goal.the-variants.{Client, End}
 use Rattle.client_table.specs.Search.{span, midOf}
 use Rattle.client_table.specs.Shape.{Shape, rowAt}
 use Rattle.client_table.specs.Rows.{seekFrom, seek, spotOf, isThere, stored, endOf, inserted, putRow, appended, isLatest, replied, rowsCommitted}
-use Rattle.client_table.specs.Rows.{keptRow, rebuilt, renewed, followed}
+use Rattle.client_table.specs.Rows.{rebuilt, followed}
 
 -- each is an outcome that the fee rules can give
 abbrev pub Coded : List Outcome → Type 0
@@ -35,7 +35,6 @@ module _ {R Q : Type 0} (h : Shape R) (g : Shape Q) (Is : R → Q → Type 0) wh
     pub blank : Is (h .blank) (g .blank)
     pub fresh : (e : Entry) → Is (h .fresh e) (g .fresh e)
     pub answered : (e : Entry) (o : Outcome) → 1 ≤ o .code → o .code ≤ 6 → Is (h .answered e o) (g .answered e o)
-    pub again : (e : Entry) (x : R) (y : Q) → Is x y → Is (h .again e x) (g .again e y)
 
   abbrev pub Both : List R → List Q → Type 0
   Both [] [] = Unit
@@ -146,12 +145,6 @@ module _ {R Q : Type 0} (h : Shape R) (g : Shape Q) (Is : R → Q → Type 0) wh
           let at = spot-alike (e .client) (e .client) refl in
           split₂ Both _ _ _ _ _ _ (latest-alike e) (λ _. stored-alike _ _ _ _ _ _ at at (law .answered e o l m)) (λ _. b)
 
-      kept-alike : (left : ℕ) (e : Entry) → Is (keptRow h xs left e) (keptRow g ys left e)
-      unfolding keptRow
-      kept-alike left e =
-          split₂ Is _ _ _ _ _ _ refl (λ _. law .fresh e) λ _.
-          split₂ Is _ _ _ _ _ _ (latest-alike e) (λ _. law .again e _ _ (spot-row (e .client) (e .client) refl)) (λ _. law .fresh e)
-
     -- ---- all that a call changes
 
     appended-alike : (xs : List R) (ys : List Q) (es : List Entry) → Both xs ys → Both (appended h xs es) (appended g ys es)
@@ -166,23 +159,24 @@ module _ {R Q : Type 0} (h : Shape R) (g : Shape Q) (Is : R → Q → Type 0) wh
     committed-alike xs ys (e ∷ es) [] c b = b
     committed-alike xs ys (e ∷ es) (o ∷ os) c b = committed-alike _ _ es os (c .1) (replied-alike xs ys b e o (c .0 .0) (c .0 .1))
 
-    rebuilt-alike : (old : List R) (old′ : List Q) → Both old old′ → (left : ℕ) (xs : List R) (ys : List Q) (es : List Entry) → Both xs ys
-        → Both (rebuilt h old left xs es) (rebuilt g old′ left ys es)
+    rebuilt-alike : (xs : List R) (ys : List Q) (es : List Entry) (os : List Outcome) → Coded os → Both xs ys → Both (rebuilt h xs es os) (rebuilt g ys es os)
     unfolding rebuilt
-    rebuilt-alike old old′ d left xs ys [] b = b
-    rebuilt-alike old old′ d left xs ys (e ∷ es) b =
-        rebuilt-alike old old′ d (left - 1) _ _ es (put-alike xs ys b _ _ (kept-alike old old′ d left e))
+    rebuilt-alike xs ys [] os c b = b
+    rebuilt-alike xs ys (e ∷ es) [] c b = rebuilt-alike _ _ es [] c (put-alike xs ys b _ _ (law .fresh e))
+    rebuilt-alike xs ys (e ∷ es) (o ∷ os) c b =
+        rebuilt-alike _ _ es os (c .1) (put-alike xs ys b _ _ (law .answered e o (c .0 .0) (c .0 .1)))
 
-    module _ (k : Change) (xs : List R) (ys : List Q) (b : Both xs ys) (log : List Entry) where
-      renewed-alike : Both (renewed h k xs log) (renewed g k ys log)
-      unfolding renewed
-      renewed-alike =
-          split₂ Both _ _ _ _ _ _ refl
-          (λ _.
-          rebuilt-alike xs ys b (k .commit .0) _ _ log
-          (rw (both-length xs ys b) (both-same (length ys) (h .blank) (g .blank) (law .blank))))
-          (λ _. appended-alike xs ys (drop (k .op .0) log) b)
+    coded-drop : (n : ℕ) (os : List Outcome) → Coded os → Coded (drop n os)
+    coded-drop zero os c = c
+    coded-drop (suc n) [] c = c
+    coded-drop (suc n) (o ∷ os) c = coded-drop n os (c .1)
 
-      pub followed-alike : (os : List Outcome) → Coded (drop (k .commit .0) os) → Both (followed h k xs log os) (followed g k ys log os)
-      unfolding followed
-      followed-alike os c = committed-alike _ _ (drop (k .commit .0) log) (drop (k .commit .0) os) c renewed-alike
+    pub followed-alike : (k : Change) (xs : List R) (ys : List Q) → Both xs ys → (log : List Entry) (os : List Outcome) → Coded os
+        → Both (followed h k xs log os) (followed g k ys log os)
+    unfolding followed
+    followed-alike k xs ys b log os c =
+        split₂ Both _ _ _ _ _ _ refl
+        (λ _. rebuilt-alike _ _ log os c (rw (both-length xs ys b) (both-same (length ys) (h .blank) (g .blank) (law .blank))))
+        (λ _.
+        committed-alike _ _ (drop (k .commit .0) log) (drop (k .commit .0) os) (coded-drop (k .commit .0) os c)
+        (appended-alike xs ys (drop (k .op .0) log) b))

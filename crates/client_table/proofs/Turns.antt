@@ -1,14 +1,15 @@
 -- What each function of the table shows of the lists, one law for each way out; on any form of row, so that bytes and structs share them.
 --     put-there, put-new, insert-full, insert-room                 a row that becomes its client's
 --     append-turn, reply-none, reply-other, reply-same, commit-turn  the table follows a log
---     kept-new, kept-none, kept-other, kept-same, rebuild-turn     the table of a new log
+--     rebuild-turn, rebuild-none, rebuild-append                   the table of a log
 --     commit-take, commit-nothing                                  entries past the outcomes change nothing
---     renew-installed, renew-appended, renew-none, follow-renewed, follow-committed    the whole change of a call
+--     follow-installed, follow-appended, follow-committed          the whole change of a call
 -- Assumes nothing.
-use mathlib.Core.Path.{_≡_, refl, sym, ap, _∙_}
+use mathlib.Core.Path.{_≡_, refl, sym, _∙_}
 use mathlib.Core.Bool.{Bool, true, false, not}
-use mathlib.Core.List.{List, [], _∷_}
-use Prim.Native.Nat.{ℕ, _-_, _≤_, _<_}
+use mathlib.Core.List.{List, [], _∷_, _++_}
+use Prim.Native.Nat.{ℕ, _≤_, _<_}
+use native.Mathlib.Omega.{arith}
 use lib.ListN.{length, take, drop, replicate}
 use borrow.Author.Tests.{lt-leb, le-leb, eq-eqb, ne-eqb, not-true, not-false}
 use Rattle.numbers.specs.Words.{_and_}
@@ -19,7 +20,7 @@ use Rattle.client_table.specs.declared.Change.{Change}
 use Rattle.client_table.specs.declared.Goal.the-variants.{End}
 use Rattle.client_table.specs.Rows.{seek, spotOf, isThere, stored, endOf, inserted, putRow, appended, isLatest, replied, rowsCommitted}
 use Rattle.client_table.specs.Shape.{Shape, rowAt}
-use Rattle.client_table.specs.Rows.{keptRow, rebuilt, renewed, followed}
+use Rattle.client_table.specs.Rows.{rebuilt, followed}
 
 module _ {R : Type 0} (h : Shape R) where
   -- ---- a row that becomes its client's
@@ -79,23 +80,6 @@ module _ {R : Type 0} (h : Shape R) where
     unfolding replied
     reply-same o s n = rw p (sym (if-true _ _ _ (latest (not-false there s) n)))
 
-    module _ (left : ℕ) (l : left ≡ 0 → ⊥) where
-      pub kept-none : not there ≡ true → h .fresh e ≡ keptRow h xs left e
-      unfolding keptRow
-      kept-none s = sym (if-false _ _ _ (ne-eqb left 0 l) ∙ if-false _ _ _ (missing s))
-
-      pub kept-other : (h .request x ≡ e .request → ⊥) → h .fresh e ≡ keptRow h xs left e
-      unfolding keptRow
-      kept-other n = sym (if-false _ _ _ (ne-eqb left 0 l) ∙ if-false _ _ _ (older n))
-
-      pub kept-same : not there ≡ false → h .request x ≡ e .request → h .again e x ≡ keptRow h xs left e
-      unfolding keptRow
-      kept-same s n = sym (if-false _ _ _ (ne-eqb left 0 l) ∙ if-true _ _ _ (latest (not-false there s) n) ∙ ap (h .again e) (sym q))
-
-  pub kept-new : (old : List R) (left : ℕ) (e : Entry) → left ≡ 0 → h .fresh e ≡ keptRow h old left e
-  unfolding keptRow
-  kept-new old left e l = sym (if-true _ _ _ (eq-eqb left 0 l))
-
   pub commit-turn : (xs xs′ : List R) (e : Entry) (o : Outcome) (es es′ : List Entry) (os os′ : List Outcome) → es ≡ e ∷ es′ → os ≡ o ∷ os′
       → xs′ ≡ replied h xs e o → rowsCommitted h xs es os ≡ rowsCommitted h xs′ es′ os′
   unfolding rowsCommitted
@@ -113,37 +97,42 @@ module _ {R : Type 0} (h : Shape R) where
   commit-take xs (e ∷ es) [] = refl
   commit-take xs (e ∷ es) (o ∷ os) = commit-take (replied h xs e o) es os
 
-  -- ---- the table of a new log
+  -- ---- the table of a log
 
-  pub rebuild-turn : (old xs xs′ : List R) (left left′ : ℕ) (e : Entry) (r : R) (es es′ : List Entry) → es ≡ e ∷ es′ → left - 1 ≡ left′
-      → r ≡ keptRow h old left e → xs′ ≡ putRow h xs r → rebuilt h old left xs es ≡ rebuilt h old left′ xs′ es′
+  pub rebuild-turn : (xs xs′ : List R) (e : Entry) (o : Outcome) (r : R) (es es′ : List Entry) (os os′ : List Outcome) → es ≡ e ∷ es′ → os ≡ o ∷ os′
+      → r ≡ h .answered e o → xs′ ≡ putRow h xs r → rebuilt h xs es os ≡ rebuilt h xs′ es′ os′
   unfolding rebuilt
-  rebuild-turn old xs xs′ left left′ e r es es′ n d p q = rw (n, ← d, q, p)
+  rebuild-turn xs xs′ e o r es es′ os os′ n m p q = rw (n, m, q, p)
 
-  pub rebuild-none : (old xs : List R) (left : ℕ) (es : List Entry) → es ≡ [] → rebuilt h old left xs es ≡ xs
+  pub rebuild-none : (xs : List R) (es : List Entry) (os : List Outcome) → es ≡ [] → rebuilt h xs es os ≡ xs
   unfolding rebuilt
-  rebuild-none old xs left es n = rw n
+  rebuild-none xs es os n = rw n
+
+  -- entries past the outcomes are appended
+  pub rebuild-append : (xs : List R) (es fs : List Entry) (os : List Outcome) → length es ≡ length os
+      → rebuilt h xs (es ++ fs) os ≡ appended h (rebuilt h xs es os) fs
+  unfolding rebuilt appended
+  rebuild-append xs [] [] [] l = refl
+  rebuild-append xs [] (f ∷ fs) [] l = rebuild-append (putRow h xs (h .fresh f)) [] fs [] l
+  rebuild-append xs [] fs (o ∷ os) l = absurd (omega arith)
+  rebuild-append xs (e ∷ es) fs [] l = absurd (omega arith)
+  rebuild-append xs (e ∷ es) fs (o ∷ os) l = rebuild-append (putRow h xs (h .answered e o)) es fs os (omega arith)
 
   -- ---- the whole change of a call
 
-  module _ (k : Change) (xs : List R) (log : List Entry) where
-    pub renew-installed : (n : ℕ) → length xs ≡ n → k .installed ≡ true
-        → rebuilt h xs (k .commit .0) (replicate n (h .blank)) log ≡ renewed h k xs log
-    unfolding renewed
-    renew-installed n e i = rw (← e) (sym (if-true _ _ _ i))
-
-    pub renew-appended : (es : List Entry) → drop (k .op .0) log ≡ es → k .installed ≡ false → appended h xs es ≡ renewed h k xs log
-    unfolding renewed
-    renew-appended es e i = rw (← e) (sym (if-false _ _ _ i))
-
-    pub renew-none : drop (k .op .0) log ≡ [] → k .installed ≡ false → xs ≡ renewed h k xs log
-    renew-none e i = sym (append-none xs [] refl) ∙ renew-appended [] e i
-
-    pub follow-renewed : (os : List Outcome) → drop (k .commit .0) os ≡ [] → renewed h k xs log ≡ followed h k xs log os
+  module _ (k : Change) (xs : List R) (log : List Entry) (os : List Outcome) where
+    pub follow-installed : (n : ℕ) → length xs ≡ n → k .installed ≡ true → rebuilt h (replicate n (h .blank)) log os ≡ followed h k xs log os
     unfolding followed
-    follow-renewed os e = sym (commit-nothing (renewed h k xs log) (drop (k .commit .0) log) (drop (k .commit .0) os) e)
+    follow-installed n e i = rw (← e) (sym (if-true _ _ _ i))
 
-    pub follow-committed : (os : List Outcome) (ys : List R) (es : List Entry) (qs : List Outcome) → ys ≡ renewed h k xs log
-        → drop (k .commit .0) os ≡ qs → take (length qs) (drop (k .commit .0) log) ≡ es → rowsCommitted h ys es qs ≡ followed h k xs log os
-    unfolding followed
-    follow-committed os ys es qs y q e = rw (q, y, ← e) (sym (commit-take (renewed h k xs log) (drop (k .commit .0) log) qs))
+    module _ (i : k .installed ≡ false) (ys : List R) (y : ys ≡ appended h xs (drop (k .op .0) log)) where
+      pub follow-appended : drop (k .commit .0) os ≡ [] → ys ≡ followed h k xs log os
+      unfolding followed
+      follow-appended e =
+          y ∙ sym (commit-nothing (appended h xs (drop (k .op .0) log)) (drop (k .commit .0) log) (drop (k .commit .0) os) e) ∙ sym (if-false _ _ _ i)
+
+      pub follow-committed : (es : List Entry) (qs : List Outcome) → drop (k .commit .0) os ≡ qs → take (length qs) (drop (k .commit .0) log) ≡ es
+          → rowsCommitted h ys es qs ≡ followed h k xs log os
+      unfolding followed
+      follow-committed es qs q e =
+          rw (q, y, ← e) (sym (commit-take (appended h xs (drop (k .op .0) log)) (drop (k .commit .0) log) qs)) ∙ sym (if-false _ _ _ i)

@@ -20,4 +20,3 @@ module _ {R : Type 0} (h : Shape R) where
     pub blank : h .used (h .blank) ≡ false
     pub fresh : (e : Entry) → HoldsEntry (h .fresh e) e none
     pub answered : (e : Entry) (o : Outcome) → 1 ≤ o .code → o .code ≤ 6 → HoldsEntry (h .answered e o) e (some o)
-    pub again : (e : Entry) (x : R) → h .used x ≡ true → HoldsEntry (h .again e x) e (h .kept x)

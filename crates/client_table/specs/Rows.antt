@@ -76,24 +76,16 @@ module _ {R : Type 0} (h : Shape R) where
   rowsCommitted xs (e ∷ es) [] = xs
   rowsCommitted xs (e ∷ es) (o ∷ os) = rowsCommitted (replied xs e o) es os
 
-  -- install_log: the row of an entry of the new log, by the old rows; a reply is kept for a rowsCommitted entry whose number equals the old row's
-  unfoldable pub keptRow : (old : List R) (left : ℕ) → Entry → R
-  keptRow old left e =
-      if eqb left 0 then h .fresh e else
-      if isLatest old e then h .again e (rowAt h old (spotOf old (e .client))) else
-      h .fresh e
+  -- install_log: the rows of a log's entries in order, each with what the entry gave, as far as there are outcomes; a later entry of a client
+  -- overwrites its row
+  unfoldable pub rebuilt : (new : List R) → List Entry → List Outcome → List R
+  rebuilt new [] os = new
+  rebuilt new (e ∷ es) [] = rebuilt (putRow new (h .fresh e)) es []
+  rebuilt new (e ∷ es) (o ∷ os) = rebuilt (putRow new (h .answered e o)) es os
 
-  -- install_log: the rows of the new log's entries in order, the first `left` of them rowsCommitted; a later entry of a client overwrites its row
-  unfoldable pub rebuilt : (old : List R) (left : ℕ) (new : List R) → List Entry → List R
-  rebuilt old left new [] = new
-  rebuilt old left new (e ∷ es) = rebuilt old (left - 1) (putRow new (keptRow old left e)) es
-
-  -- the rows brought up to a log that a call installed anew, or appended to; `log` is all of it
-  unfoldable pub renewed : Change → List R → (log : List Entry) → List R
-  renewed k xs log =
-      if k .installed then rebuilt xs (k .commit .0) (replicate (length xs) (h .blank)) log else
-      appended xs (drop (k .op .0) log)
-
-  -- and then to what it rowsCommitted; `os` is what each rowsCommitted entry gave, from the first on
+  -- the rows brought up to what a call did: a log that it installed, or entries that it appended and then those that it committed. `log` is all of
+  -- the log after it, `os` what each committed entry gave, from the first on
   unfoldable pub followed : Change → List R → (log : List Entry) (os : List Outcome) → List R
-  followed k xs log os = rowsCommitted (renewed k xs log) (drop (k .commit .0) log) (drop (k .commit .0) os)
+  followed k xs log os =
+      if k .installed then rebuilt (replicate (length xs) (h .blank)) log os else
+      rowsCommitted (appended xs (drop (k .op .0) log)) (drop (k .commit .0) log) (drop (k .commit .0) os)

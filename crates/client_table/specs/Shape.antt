@@ -8,7 +8,7 @@ use Rattle.entries.specs.declared.Entry.{Entry}
 use Rattle.fees.specs.declared.Outcome.{Outcome}
 
 -- What the table asks of a form of row: is it in use; whose latest request it holds, and the reply kept for it; an unused row; the row of an
--- entry that has no reply yet; with its reply; with the reply that another row holds.
+-- entry that has no reply yet; with its reply.
 pub record Shape (R : Type 0) : Type 0 where
   pub used : R → Bool
   pub client : R → ℕ
@@ -17,7 +17,6 @@ pub record Shape (R : Type 0) : Type 0 where
   pub blank : R
   pub fresh : Entry → R
   pub answered : Entry → Outcome → R
-  pub again : Entry → R → R
 
 module _ {R : Type 0} (h : Shape R) where
   -- the row at a place; past the end an unused one

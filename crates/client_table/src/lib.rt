@@ -94,13 +94,3 @@ pub fn is_new(latest: Latest, number: u64) -> bool
         Latest::Answered { request, .. } => request < number,
     }
 }
-
-// What a commit number leaves after k entries.
-pub fn left_of(commit: usize, k: usize) -> usize
-    ensures { λ r. ⌜ r ≡ commit - k ⌝ }
-{
-    if commit < k {
-        return 0;
-    }
-    commit - k
-}

@@ -5,7 +5,7 @@
 --     left-size                             the run's length is as it was
 --     left-stored, shift-write              a row stored at a place: the laws that look at bytes
 --     found-at, found-there, found-row, found-inside    what find answers, field by field
---     left-cleared, rows-copy               all rows unused; the rows of a copy
+--     left-cleared                          all rows unused
 --     one-content                           what is left is fixed to the last byte
 --     byte-lawful                           a row in bytes is a lawful form of row
 --     answered-outcome                      a reply that is told has an outcome of 1 to 6, whatever the bytes are
@@ -25,7 +25,7 @@ use Rattle.numbers.specs.Numbers.{big, num, over, putAt, within, Bytes}
 use Rattle.numbers.specs.Cells.{packed, Codec}
 use Rattle.numbers.proofs.NumberLaws.{be-big, big-num, num-drop, num-front, drop-bytes, both-within}
 use Rattle.numbers.proofs.WordLaws.{if-true, if-false}
-use Rattle.numbers.proofs.CellLaws.{cells-length, cells-drop, cells-take, cells-join, cells-front, cells-taken, cells-one, cells-same}
+use Rattle.numbers.proofs.CellLaws.{cells-length, cells-drop, cells-take, cells-join, cells-taken, cells-one, cells-same}
 use Rattle.numbers.proofs.CellLaws.{packed-append, packed-length, packed-cells}
 use Rattle.entries.specs.declared.Entry.{Entry}
 use Rattle.fees.specs.declared.Outcome.{Outcome}
@@ -242,7 +242,7 @@ module _ (xs : List MarkedRow) (c : ℕ) {f : Found} (p : f ≡ foundIn xs c) wh
   pub found-inside : isThere byteRow xs c ≡ true → f .at < length xs
   found-inside t = rw found-at (there-inside byteRow xs c refl t)
 
--- ---- all rows unused, and a copy
+-- ---- all rows unused
 
 no-fits : RowFits noRow
 no-fits = record { client = omega arith; request = omega arith; mark = omega arith; total = omega arith }
@@ -259,10 +259,6 @@ unfolding over
 left-cleared n {s} {u} p =
     let q : u ≡ packed encodeRow (replicate n noRow) ++ drop (25 * n) s = p ∙ rw (length-replicate {A = ℕ} (25 * n) 0, zeros n) in
     record { bytes = q; rows = rw q (cells-same 25 rowOf encodeRow RowFits row-codec n noRow (drop (25 * n) s) no-fits) }
-
-pub rows-copy : (n : ℕ) (s o : List ℕ) → 25 * n ≤ length s → rowsOf n (over (take (25 * n) s) o) ≡ rowsOf n s
-unfolding over
-rows-copy n s o l = cells-front 25 rowOf encodeRow RowFits row-codec n s (drop (length (take (25 * n) s)) o) l
 
 -- ---- a row in bytes is a lawful form of row
 
@@ -282,13 +278,7 @@ unfolding keptOf within _and_
 fresh-is e = record { used = refl; client = refl; request = refl; kept = if-false _ _ _ refl }
 
 pub byte-lawful : Lawful byteRow
-byte-lawful =
-    record {
-      blank = refl;
-      fresh = fresh-is;
-      answered = answered-is;
-      again = λ e x u. record { used = u; client = refl; request = refl; kept = refl };
-    }
+byte-lawful = record { blank = refl; fresh = fresh-is; answered = answered-is }
 
 -- ---- a reply that is told, whatever the bytes are
 

@@ -36,7 +36,6 @@ byteRow =
       blank = noRow;
       fresh = freshOf;
       answered = λ e o. rowWith e (o .code) (o .total);
-      again = λ e x. rowWith e (x .mark) (x .total);
     }
 
 -- the row that the first 25 bytes stand for

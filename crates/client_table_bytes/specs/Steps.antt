@@ -1,11 +1,9 @@
--- What the functions of the byte table promise: rows written over a run, a client found, the rows that a rebuild replaced. Assumes nothing.
+-- What the functions of the byte table promise: rows written over a run, a client found. Assumes nothing.
 use mathlib.Core.Path.{_≡_}
 use mathlib.Core.Bool.{false}
 use mathlib.Core.List.{List, _++_}
 use Prim.Native.Nat.{ℕ, _+_, _*_, _^_, _≤_, _<_}
-use lib.ListN.{take, drop}
-use Rattle.numbers.specs.Words.{if_then_else_}
-use Rattle.numbers.specs.Numbers.{over}
+use lib.ListN.{drop}
 use Rattle.numbers.specs.Cells.{packed}
 use Rattle.entries.specs.Places.{entryIn}
 use Rattle.client_table.specs.Rows.{spotOf, isThere}
@@ -42,7 +40,3 @@ pub record AppendsFor (n : ℕ) (k : Change) (f : Found) (table log : List ℕ) 
 -- what was found, as the core is told it
 abbrev pub latestOf : Found → Latest
 latestOf f = latestBy (f .there) (f .row .request) (keptOf (f .row .mark) (f .row .total))
-
--- the second run after a call: a rebuild leaves there the rows that it replaced
-unfoldable pub oldAfter : ℕ → Change → (table old : List ℕ) → List ℕ
-oldAfter n k table old = if k .installed then over (take (25 * n) table) old else old

@@ -6,10 +6,11 @@ ghost use lib.Dec.{eqb};
 ghost use lib.ListN.{length, drop};
 ghost use Rattle.numbers.specs.Numbers.{over};
 ghost use Rattle.numbers.specs.Words.{_and_};
-ghost use Rattle.client_table_bytes.specs.Layout.{noRow, freshOf, rowOf, encodeRow};
+ghost use Rattle.client_table_bytes.specs.Layout.{noRow, rowWith, freshOf, rowOf, encodeRow};
 ghost use Rattle.numbers.specs.Lending.{was, last};
 use crate::MarkedRow;
 use entries::Entry;
+use fees::Outcome;
 
 // The row at byte p.
 pub fn row_at(table: &[u8], p: usize) -> MarkedRow
@@ -55,6 +56,18 @@ pub fn fresh(e: Entry) -> MarkedRow
         request: e.request,
         mark: 255,
         total: 0,
+    }
+}
+
+// With its reply.
+pub fn answered(e: Entry, o: Outcome) -> MarkedRow
+    ensures { λ r. ⌜ r ≡ rowWith e (o .code) (o .total) ⌝ }
+{
+    MarkedRow {
+        client: e.client,
+        request: e.request,
+        mark: o.code,
+        total: o.total,
     }
 }
 

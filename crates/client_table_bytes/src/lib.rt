@@ -1,14 +1,13 @@
 // The client table in lent bytes: 25 a row, in rising order of client id, unused rows last.
 ghost use mathlib.Core.Path.{_≡_};
 ghost use Prim.Native.Nat.{_-_, _*_, _≤_};
-ghost use lib.ListN.{length, take, drop, replicate};
-ghost use Rattle.numbers.specs.Numbers.{over};
+ghost use lib.ListN.{length, drop, replicate};
 ghost use Rattle.entries.specs.Entries.{entries};
 ghost use Rattle.entries.specs.Places.{entryPlace, resultPlace};
 ghost use Rattle.fees.specs.Results.{outcomes};
-ghost use Rattle.client_table.specs.Rows.{spotOf, inserted, putRow, appended, replied, rowsCommitted, keptRow, rebuilt, renewed, followed};
+ghost use Rattle.client_table.specs.Rows.{spotOf, inserted, putRow, appended, replied, rowsCommitted, rebuilt, followed};
 ghost use Rattle.client_table_bytes.specs.Layout.{noRow, byteRow, rowsOf};
-ghost use Rattle.client_table_bytes.specs.Steps.{foundIn, latestOf, oldAfter, RowsLeft, AppendsFor};
+ghost use Rattle.client_table_bytes.specs.Steps.{foundIn, latestOf, RowsLeft, AppendsFor};
 ghost use Rattle.numbers.specs.Lending.{was, last};
 use client_table::Change;
 use client_table::Goal;
@@ -115,13 +114,7 @@ fn reply(table: &mut [u8], n: usize, e: Entry, o: Outcome)
     if f.row.request != e.request {
         return;
     }
-    let row = MarkedRow {
-        client: e.client,
-        request: e.request,
-        mark: o.code,
-        total: o.total,
-    };
-    place::store(table, n, f.at, f.at, row);
+    place::store(table, n, f.at, f.at, cell::answered(e, o));
 }
 
 // The entries from .. to were executed, and gave these results.
@@ -138,38 +131,16 @@ pub fn follow_commit(table: &mut [u8], n: usize, log: &[u8], results: &[u8], fro
     }
 }
 
-// The row of an entry of a new log, `left` entries from it on being committed, by the old rows.
-fn kept(old: &[u8], n: usize, left: usize, e: Entry) -> MarkedRow
-    requires { ⌜ 25 * n ≤ length (now old) ⌝ }
-    ensures { λ r. ⌜ r ≡ keptRow byteRow (rowsOf n (was old)) left e ⌝ }
-{
-    if left == 0 {
-        return cell::fresh(e);
-    }
-    let was = find(old, n, e.client);
-    if !was.there {
-        return cell::fresh(e);
-    }
-    if was.row.request != e.request {
-        return cell::fresh(e);
-    }
-    MarkedRow {
-        client: e.client,
-        request: e.request,
-        mark: was.row.mark,
-        total: was.row.total,
-    }
-}
-
-// The first `op` entries of the log become their clients' rows, in order, by the old rows.
-fn refill(table: &mut [u8], n: usize, old: &[u8], log: &[u8], op: usize, commit: usize)
-    requires { ⌜ (25 * n ≤ length (now table)) × ((25 * n ≤ length (now old)) × (32 * op ≤ length (now log))) ⌝ }
-    ensures { λ r. ⌜ RowsLeft n (was table) (last table) (rebuilt byteRow (rowsOf n (was old)) commit (rowsOf n (was table)) (entries op (was log))) ⌝ }
+// The first `done` entries of the log become their clients' rows, in order, each with what it gave.
+fn refill(table: &mut [u8], n: usize, log: &[u8], results: &[u8], done: usize)
+    requires { ⌜ (25 * n ≤ length (now table)) × ((32 * done ≤ length (now log)) × (9 * done ≤ length (now results))) ⌝ }
+    ensures { λ r. ⌜ RowsLeft n (was table) (last table) (rebuilt byteRow (rowsOf n (was table)) (entries done (was log)) (outcomes done (was results))) ⌝ }
 {
     let mut k = 0;
-    while k < op {
+    while k < done {
         let e = entries::entry_in(log, k);
-        put(table, n, kept(old, n, client_table::left_of(commit, k), e));
+        let o = fees::result_in(results, k);
+        put(table, n, cell::answered(e, o));
         k += 1;
     }
 }
@@ -182,56 +153,42 @@ pub fn clear(table: &mut [u8], n: usize)
     numbers::fill(table, 25 * n, 0);
 }
 
-// The table of a new log of `op` entries, `commit` of them committed; `old` gets the rows that were there.
-pub fn rebuild(table: &mut [u8], n: usize, old: &mut [u8], log: &[u8], op: usize, commit: usize)
-    requires { ⌜ (25 * n ≤ length (now table)) × ((25 * n ≤ length (now old)) × (32 * op ≤ length (now log))) ⌝ }
-    ensures { λ r. ⌜ (RowsLeft n (was table) (last table) (rebuilt byteRow (rowsOf n (was table)) commit (replicate n noRow) (entries op (was log)))) × (last old ≡ over (take (25 * n) (was table)) (was old)) ⌝ }
+// The table of a log of `op` entries, the first `done` of them committed, which gave these results; whatever was there before.
+pub fn rebuild(table: &mut [u8], n: usize, log: &[u8], results: &[u8], op: usize, done: usize)
+    requires { ⌜ (25 * n ≤ length (now table)) × ((32 * op ≤ length (now log)) × ((9 * done ≤ length (now results)) × (done ≤ op))) ⌝ }
+    ensures { λ r. ⌜ RowsLeft n (was table) (last table) (rebuilt byteRow (replicate n noRow) (entries op (was log)) (outcomes done (was results))) ⌝ }
 {
-    numbers::copy(old, table, 25 * n);
     clear(table, n);
-    refill(table, n, old, log, op, commit);
+    refill(table, n, log, results, done);
+    follow_append(table, n, log, done, op);
 }
 
-// The rows brought up to a log that was installed anew, or appended to.
-fn renew(table: &mut [u8], n: usize, old: &mut [u8], log: &[u8], change: Change)
-    requires { ⌜ (25 * n ≤ length (now table)) × ((25 * n ≤ length (now old)) × (32 * change .to .0 ≤ length (now log))) ⌝ }
-    ensures { λ r. ⌜ RowsLeft n (was table) (last table) (renewed byteRow change (rowsOf n (was table)) (entries (change .to .0) (was log))) × (last old ≡ oldAfter n change (was table) (was old)) ⌝ }
+// The rows brought up to what was appended to the log.
+fn follow_more(table: &mut [u8], n: usize, log: &[u8], change: Change)
+    requires { ⌜ (25 * n ≤ length (now table)) × (32 * change .to .0 ≤ length (now log)) ⌝ }
+    ensures { λ r. ⌜ RowsLeft n (was table) (last table) (appended byteRow (rowsOf n (was table)) (drop (change .op .0) (entries (change .to .0) (was log)))) ⌝ }
 {
-    let to = change.to.0 as usize;
-    if change.installed {
-        rebuild(table, n, old, log, to, change.commit.0 as usize);
-        return;
-    }
     if change.to.0 <= change.op.0 {
         return;
     }
-    follow_append(table, n, log, change.op.0 as usize, to);
+    follow_append(table, n, log, change.op.0 as usize, change.to.0 as usize);
 }
 
-// The table brought up to what a call did to the log; `old` gets the rows that a rebuild replaces.
-pub fn follow(
-    table: &mut [u8],
-    n: usize,
-    old: &mut [u8],
-    log: &[u8],
-    results: &[u8],
-    change: Change,
-)
-    requires { ⌜ (25 * n ≤ length (now table)) × ((25 * n ≤ length (now old)) × ((32 * change .to .0 ≤ length (now log)) × ((9 * change .done .0 ≤ length (now results)) × (change .done .0 ≤ change .to .0)))) ⌝ }
-    ensures { λ r. ⌜ RowsLeft n (was table) (last table) (followed byteRow change (rowsOf n (was table)) (entries (change .to .0) (was log)) (outcomes (change .done .0) (was results))) × (last old ≡ oldAfter n change (was table) (was old)) ⌝ }
+// The table brought up to what a call did to the log.
+pub fn follow(table: &mut [u8], n: usize, log: &[u8], results: &[u8], change: Change)
+    requires { ⌜ (25 * n ≤ length (now table)) × ((32 * change .to .0 ≤ length (now log)) × ((9 * change .done .0 ≤ length (now results)) × (change .done .0 ≤ change .to .0))) ⌝ }
+    ensures { λ r. ⌜ RowsLeft n (was table) (last table) (followed byteRow change (rowsOf n (was table)) (entries (change .to .0) (was log)) (outcomes (change .done .0) (was results))) ⌝ }
 {
-    renew(table, n, old, log, change);
+    let done = change.done.0 as usize;
+    if change.installed {
+        rebuild(table, n, log, results, change.to.0 as usize, done);
+        return;
+    }
+    follow_more(table, n, log, change);
     if change.done.0 <= change.commit.0 {
         return;
     }
-    follow_commit(
-        table,
-        n,
-        log,
-        results,
-        change.commit.0 as usize,
-        change.done.0 as usize,
-    );
+    follow_commit(table, n, log, results, change.commit.0 as usize, done);
 }
 
 // The same where no more than one entry was appended, and f is what was found of its client before the call.

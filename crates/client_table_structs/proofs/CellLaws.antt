@@ -2,21 +2,20 @@
 --     found-unused, found-used                 what the row at a client's place tells
 --     end-there, end-new                       up to where rows go up
 --     latest-missing, latest-there             whether an entry is its client's latest request
---     again-none, again-other, again-same      the row of an entry of a new log
 --     answered-outcome                         a reply that is told has an outcome of 1 to 6, whatever the rows are
 -- Assumes nothing.
-use mathlib.Core.Path.{_≡_, sym, ap, _∙_}
+use mathlib.Core.Path.{_≡_, sym, ap}
 use mathlib.Core.Bool.{Bool, true, false, not}
 use Prim.Native.Nat.{ℕ, _≤_}
 use lib.Dec.{eqb}
-use borrow.Author.Tests.{eq-eqb, ne-eqb, not-true, not-false}
+use borrow.Author.Tests.{not-true, not-false}
 use Rattle.numbers.specs.Words.{_and_}
 use Rattle.numbers.proofs.WordLaws.{if-true, if-false}
 use Rattle.entries.specs.declared.Entry.{Entry}
 use Rattle.fees.specs.declared.Outcome.{Outcome}
 use Rattle.client_table.specs.declared.Latest.the-variants.{Answered}
 use Rattle.client_table.proofs.LatestLaws.{Ruled, kept-ruled, reply-ruled}
-use Rattle.client_table_structs.specs.Shape.{rowHolding, isUsed, replyIn, foundAt, endAt, latestAt, keptAt, latestOfRow}
+use Rattle.client_table_structs.specs.Shape.{isUsed, replyIn, foundAt, endAt, latestAt, latestOfRow}
 use Rattle.client_table_structs.specs.declared.Row.{Row}
 use Rattle.client_table_structs.specs.declared.KeptReply.{KeptReply}
 use Rattle.client_table_structs.specs.declared.KeptReply.the-variants.{Unused, Waiting, Kept}
@@ -55,19 +54,6 @@ module _ (f : FoundRow) where
     pub latest-there : not (f .there) ≡ false → eqb (f .row .request) (e .request) ≡ latestAt f e
     unfolding latestAt _and_ same
     latest-there t = sym (ap (λ (b : Bool). b and same) (not-false (f .there) t))
-
-    pub again-none : (left : ℕ) (r : Row) → left ≡ 0 → r ≡ rowHolding e Waiting → r ≡ keptAt f left e
-    unfolding keptAt
-    again-none left r l p = p ∙ sym (if-true _ _ _ (eq-eqb left 0 l))
-
-    module _ (left : ℕ) (l : left ≡ 0 → ⊥) (b : Bool) (q : b ≡ latestAt f e) where
-      pub again-other : (r : Row) → not b ≡ true → r ≡ rowHolding e Waiting → r ≡ keptAt f left e
-      unfolding keptAt
-      again-other r t p = p ∙ sym (if-false _ _ _ (ne-eqb left 0 l) ∙ if-false _ _ _ (sym q ∙ not-true b t))
-
-      pub again-same : not b ≡ false → rowHolding e (f .row .reply) ≡ keptAt f left e
-      unfolding keptAt
-      again-same t = sym (if-false _ _ _ (ne-eqb left 0 l) ∙ if-true _ _ _ (sym q ∙ not-false b t))
 
 -- a reply that is told
 in-ruled : (k : KeptReply) → Ruled (replyIn k)

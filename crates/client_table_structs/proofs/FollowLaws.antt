@@ -1,46 +1,38 @@
 -- What the walks that follow a log show of the rows, on plain variables.
---     clear-set, clear-turn, clear-end             row by row the rows become unused
---     aside-turn, aside-end                        and go to the old ones
---     kept-found                                   the row of an entry of a new log, by what was found of its client in the old rows
---     new-in, done-in                              what a call appended and rowsCommitted starts within the log, or where it ends
---     renew-rebuilt, renew-grown, follow-done      the whole change of a call
+--     clear-set, clear-end             row by row the rows become unused
+--     rebuild-done                     the table of a log: its committed entries with what they gave, then the others
+--     new-in, done-in                  what a call appended and committed starts within the log, or where it ends
+--     follow-done                      the whole change of a call that appended and committed
 -- Assumes nothing.
-use mathlib.Core.Path.{_≡_, refl, sym, ap, _∙_}
-use mathlib.Core.Bool.{true, false}
+use mathlib.Core.Path.{_≡_, sym, ap, _∙_}
+use mathlib.Core.Bool.{false}
 use mathlib.Core.List.{List, [], _∷_, _++_, append-nil}
 use Prim.Native.Nat.{ℕ, suc, _+_, _-_, _*_, _≤_, _<_}
 use native.Mathlib.Omega.{arith}
 use native.Mathlib.Numerals.{add-one}
 use lib.Dec.{ltb}
-use lib.ListN.{length, getD, set, take, drop, replicate, length-replicate, replicate-append-replicate, drop-of-length-le}
-use lib.Seq.{append-snoc, drop-cons, set-at, getD-at, take-suc, take-all, length-take-le}
+use lib.ListN.{length, getD, set, take, drop, replicate, length-replicate, replicate-append-replicate, drop-of-length-le, take-append-drop}
+use lib.Seq.{append-snoc, drop-cons, set-at}
 use borrow.Author.Tests.{ltb-true, ltb-false}
 use Rattle.numbers.specs.Words.{if_then_else_}
 use Rattle.numbers.specs.Cells.{cells}
-use Rattle.numbers.proofs.WordLaws.{if-true, if-false, split}
+use Rattle.numbers.proofs.WordLaws.{split}
 use Rattle.numbers.proofs.CellLaws.{cells-length, cells-drop, cells-take, cells-none}
 use Rattle.entries.specs.declared.Entry.{Entry}
 use Rattle.entries.specs.Entries.{entryOf, entries}
 use Rattle.fees.specs.Results.{resultOf, outcomes}
 use Rattle.client_table.specs.declared.Change.{Change}
-use Rattle.client_table.specs.Rows.{stored, appended, rowsCommitted, isLatest, keptRow, rebuilt, renewed, followed}
-use Rattle.client_table.specs.Shape.{rowAt}
-use Rattle.client_table.proofs.StoreLaws.{stored-here}
-use Rattle.client_table.proofs.Turns.{renew-installed, renew-appended, follow-committed}
+use Rattle.client_table.specs.Rows.{appended, rowsCommitted, rebuilt, followed}
+use Rattle.client_table.proofs.Turns.{rebuild-append, follow-committed}
 use Rattle.client_table_structs.specs.declared.Row.{Row}
-use Rattle.client_table_structs.specs.declared.FoundRow.{FoundRow}
-use Rattle.client_table_structs.specs.Shape.{unusedRow, structRow, foundAmong, latestAt, keptAt, firstNew, firstDone, oldRowsAfter}
+use Rattle.client_table_structs.specs.Shape.{unusedRow, structRow, firstNew, firstDone}
 
 -- ---- a front p of k rows, and the rest of xs
 
-module _ (p xs : List Row) (k : ℕ) (w : length p ≡ k) (l : k < length xs) where
-  at-seam : getD (p ++ drop k xs) k unusedRow ≡ getD xs k unusedRow
-  at-seam = rw (drop-cons xs k unusedRow l) (getD-at p (getD xs k unusedRow) (drop (suc k) xs) unusedRow k w)
-
-  set-seam : (y : Row) → set (p ++ drop k xs) k y ≡ (p ++ y ∷ []) ++ drop (k + 1) xs
-  set-seam y =
-      rw (drop-cons xs k unusedRow l, add-one k)
-      (set-at p (getD xs k unusedRow) (drop (suc k) xs) y k w ∙ sym (append-snoc p y (drop (suc k) xs)))
+set-seam : (p xs : List Row) (k : ℕ) → length p ≡ k → k < length xs → (y : Row) → set (p ++ drop k xs) k y ≡ (p ++ y ∷ []) ++ drop (k + 1) xs
+set-seam p xs k w l y =
+    rw (drop-cons xs k unusedRow l, add-one k)
+    (set-at p (getD xs k unusedRow) (drop (suc k) xs) y k w ∙ sym (append-snoc p y (drop (suc k) xs)))
 
 module _ (ys : List Row) (k : ℕ) (zs : List Row) (is : zs ≡ replicate k unusedRow ++ drop k ys) where
   pub clear-set : k < length ys → (zs′ : List Row) → zs′ ≡ set zs k unusedRow → zs′ ≡ replicate (k + 1) unusedRow ++ drop (k + 1) ys
@@ -48,36 +40,29 @@ module _ (ys : List Row) (k : ℕ) (zs : List Row) (is : zs ≡ replicate k unus
       e ∙ ap (λ (ws : List Row). set ws k unusedRow) is ∙ set-seam (replicate k unusedRow) ys k (length-replicate k unusedRow) l unusedRow
       ∙ ap (λ (ws : List Row). ws ++ drop (k + 1) ys) (replicate-append-replicate k 1 unusedRow)
 
-  pub clear-turn : k < length ys → k < length zs → (zs′ : List Row) → zs′ ≡ stored structRow k k unusedRow zs
-      → zs′ ≡ replicate (k + 1) unusedRow ++ drop (k + 1) ys
-  clear-turn l l′ zs′ e = clear-set l zs′ (e ∙ sym (stored-here structRow unusedRow unusedRow k zs l′))
-
   pub clear-end : length ys ≤ k → k ≤ length ys → zs ≡ replicate (length ys) unusedRow
   clear-end l l′ =
       let e : k ≡ length ys = omega arith in
       is ∙ ap (λ (ws : List Row). replicate k unusedRow ++ ws) (drop-of-length-le ys l) ∙ append-nil (replicate k unusedRow)
       ∙ ap (λ (j : ℕ). replicate j unusedRow) e
 
-  module _ (os xs : List Row) (was : xs ≡ take k ys ++ drop k os) (same : length os ≡ length ys) where
-    pub aside-turn : k < length ys → k < length xs → (y : Row) (xs′ : List Row) → y ≡ rowAt structRow zs k
-        → xs′ ≡ stored structRow k k y xs → xs′ ≡ take (k + 1) ys ++ drop (k + 1) os
-    aside-turn l l′ y xs′ q e =
-        let at : y ≡ getD ys k unusedRow = q ∙ ap (λ (ws : List Row). getD ws k unusedRow) is
-        ∙ at-seam (replicate k unusedRow) ys k (length-replicate k unusedRow) l in
-        e ∙ sym (stored-here structRow y unusedRow k xs l′) ∙ ap (λ (ws : List Row). set ws k y) was
-        ∙ set-seam (take k ys) os k (length-take-le k ys (omega arith)) (omega arith) y
-        ∙ ap (λ (z : Row). (take k ys ++ z ∷ []) ++ drop (k + 1) os) at
-        ∙ ap (λ (ws : List Row). ws ++ drop (k + 1) os) (sym (take-suc ys k unusedRow l) ∙ ap (λ (j : ℕ). take j ys) (sym (add-one k)))
+-- ---- the table of a log of n entries, d of them committed
 
-    pub aside-end : length ys ≤ k → xs ≡ ys
-    aside-end l =
-        was ∙ ap (λ (ws : List Row). take k ys ++ ws) (drop-of-length-le os {i = k} (omega arith)) ∙ append-nil (take k ys)
-        ∙ take-all k ys l
+module _ (ls rs : List ℕ) (n d : ℕ) (h : d ≤ n) where
+  abbrev behind : List Entry
+  behind = entries (n - d) (drop (32 * d) ls)
 
-pub kept-found : (old : List Row) (e : Entry) (f : FoundRow) (left : ℕ) (y : Row) → f ≡ foundAmong old (e .client) → y ≡ keptAt f left e
-    → y ≡ keptRow structRow old left e
-unfolding foundAmong latestAt keptAt isLatest keptRow
-kept-found old e f left y p q = rw (q, p)
+  parted : entries d ls ++ behind ≡ entries n ls
+  parted =
+      ap (λ (es : List Entry). es ++ behind) (sym (cells-take 32 entryOf n ls d h))
+      ∙ ap (λ (es : List Entry). take d (entries n ls) ++ es) (sym (cells-drop 32 entryOf n ls d)) ∙ take-append-drop d (entries n ls)
+
+  pub rebuild-done : (new xs zs fin : List Row) → xs ≡ new → zs ≡ rebuilt structRow xs (entries d ls) (outcomes d rs)
+      → fin ≡ appended structRow zs behind → fin ≡ rebuilt structRow new (entries n ls) (outcomes d rs)
+  rebuild-done new xs zs fin p q r =
+      r ∙ ap (λ (us : List Row). appended structRow us behind) (q ∙ ap (λ (us : List Row). rebuilt structRow us (entries d ls) (outcomes d rs)) p)
+      ∙ sym (rebuild-append structRow new (entries d ls) behind (outcomes d rs) (cells-length 32 entryOf d ls ∙ sym (cells-length 9 resultOf d rs)))
+      ∙ ap (λ (es : List Entry). rebuilt structRow new es (outcomes d rs)) parted
 
 -- ---- what is left of n cells from place i on, and from the first of n and i on
 
@@ -117,41 +102,31 @@ module _ (k : Change) where
   unfolding firstDone
   done-in = low-in (k .done .0) (k .commit .0)
 
-  module _ (ys os : List Row) (ls : List ℕ) where
+  module _ (ys : List Row) (ls rs : List ℕ) where
     abbrev log : List Entry
     log = entries (k .to .0) ls
 
-    pub renew-rebuilt : k .installed ≡ true → (zs xs : List Row)
-        → zs ≡ rebuilt structRow ys (k .commit .0) (replicate (length ys) unusedRow) log → xs ≡ ys
-        → (zs ≡ renewed structRow k ys log) × (xs ≡ oldRowsAfter k ys os)
-    unfolding oldRowsAfter
-    renew-rebuilt i zs xs p q = (p ∙ renew-installed structRow k ys log (length ys) refl i, q ∙ sym (if-true _ _ _ i))
+    -- what is appended from entry f on, and what is committed
+    abbrev new-from : ℕ → List Row
+    new-from f = appended structRow ys (entries (k .to .0 - f) (drop (32 * f) ls))
 
-    pub renew-grown : k .installed ≡ false → (f : ℕ) (zs : List Row) → f ≡ firstNew k
-        → zs ≡ appended structRow ys (entries (k .to .0 - f) (drop (32 * f) ls))
-        → (zs ≡ renewed structRow k ys log) × (os ≡ oldRowsAfter k ys os)
-    unfolding oldRowsAfter firstNew
-    renew-grown i f zs e p = (
-      p ∙ ap (λ (j : ℕ). appended structRow ys (entries (k .to .0 - j) (drop (32 * j) ls))) e
-          ∙ renew-appended structRow k ys log _ (past-low 32 entryOf (k .to .0) (k .op .0) ls) i,
-      sym (if-false _ _ _ i),
-    )
+    abbrev done-from : List Row → ℕ → List Row
+    done-from zs f =
+        rowsCommitted structRow zs (entries (k .done .0 - f) (drop (32 * f) ls)) (outcomes (k .done .0 - f) (drop (9 * f) rs))
 
-    module _ (rs : List ℕ) where
-      -- what is rowsCommitted from entry f on
-      abbrev done-from : List Row → ℕ → List Row
-      done-from zs f =
-          rowsCommitted structRow zs (entries (k .done .0 - f) (drop (32 * f) ls)) (outcomes (k .done .0 - f) (drop (9 * f) rs))
+    grown : (f : ℕ) (zs : List Row) → f ≡ firstNew k → zs ≡ new-from f → zs ≡ appended structRow ys (drop (k .op .0) log)
+    unfolding firstNew
+    grown f zs e p = p ∙ ap new-from e ∙ ap (appended structRow ys) (sym (past-low 32 entryOf (k .to .0) (k .op .0) ls))
 
-      pub follow-done : k .done .0 ≤ k .to .0 → (f : ℕ) (zs fin : List Row) → f ≡ firstDone k → zs ≡ renewed structRow k ys log
-          → fin ≡ done-from zs f → fin ≡ followed structRow k ys log (outcomes (k .done .0) rs)
-      unfolding firstDone
-      follow-done h f zs fin e p q =
-          let g : ℕ = low (k .done .0) (k .commit .0) in
-          let m : ℕ = k .done .0 - g in
-          let es : take (length (outcomes m (drop (9 * g) rs))) (drop (k .commit .0) log) ≡ entries m (drop (32 * g) ls) =
-          ap (λ (j : ℕ). take j (drop (k .commit .0) log)) (cells-length 9 resultOf m (drop (9 * g) rs))
-          ∙ past-low-of 32 entryOf (k .done .0) (k .commit .0) ls (k .to .0) h in
-          q ∙ ap (done-from zs) e
-          ∙ follow-committed structRow k ys log (outcomes (k .done .0) rs) zs (entries m (drop (32 * g) ls))
-          (outcomes m (drop (9 * g) rs)) p (past-low 9 resultOf (k .done .0) (k .commit .0) rs) es
+    pub follow-done : k .installed ≡ false → k .done .0 ≤ k .to .0 → (f j : ℕ) (zs fin : List Row) → f ≡ firstNew k → zs ≡ new-from f
+        → j ≡ firstDone k → fin ≡ done-from zs j → fin ≡ followed structRow k ys log (outcomes (k .done .0) rs)
+    unfolding firstDone
+    follow-done i h f j zs fin e p e′ q =
+        let g : ℕ = low (k .done .0) (k .commit .0) in
+        let m : ℕ = k .done .0 - g in
+        let es : take (length (outcomes m (drop (9 * g) rs))) (drop (k .commit .0) log) ≡ entries m (drop (32 * g) ls) =
+        ap (λ (c : ℕ). take c (drop (k .commit .0) log)) (cells-length 9 resultOf m (drop (9 * g) rs))
+        ∙ past-low-of 32 entryOf (k .done .0) (k .commit .0) ls (k .to .0) h in
+        q ∙ ap (done-from zs) e′
+        ∙ follow-committed structRow k ys log (outcomes (k .done .0) rs) i zs (grown f zs e p) (entries m (drop (32 * g) ls))
+        (outcomes m (drop (9 * g) rs)) (past-low 9 resultOf (k .done .0) (k .commit .0) rs) es

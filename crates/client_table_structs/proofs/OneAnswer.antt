@@ -15,7 +15,7 @@ use Rattle.client_table.specs.declared.Change.{Change}
 use Rattle.client_table.specs.declared.Goal.{Goal}
 use Rattle.client_table.specs.declared.Latest.{Latest}
 use Rattle.client_table.specs.declared.Span.{Span}
-use Rattle.client_table_structs.specs.Shape.{unusedRow, structRow, isUsed, foundAmong, foundAt, endAt, latestAt, keptAt, firstNew, firstDone, latestOfRow, latestAmong, oldRowsAfter}
+use Rattle.client_table_structs.specs.Shape.{unusedRow, structRow, isUsed, foundAmong, foundAt, endAt, latestAt, firstNew, firstDone, latestOfRow, latestAmong}
 use Rattle.client_table_structs.specs.declared.Row.{Row}
 use Rattle.client_table_structs.specs.declared.FoundRow.{FoundRow}
 
@@ -39,13 +39,12 @@ pub latest-one : (table : List Row) (client : ℕ) (r t : Latest) → r ≡ late
 latest-one table client r t p q = p ∙ sym q
 
 -- follow
-module _ (table old : List Row) (log results : List ℕ) (change : Change) where
-  abbrev Followed : (x a : List Row) → Type 0
-  Followed x a =
-      (x ≡ followed structRow change table (entries (change .to .0) log) (outcomes (change .done .0) results)) × (a ≡ oldRowsAfter change table old)
+module _ (table : List Row) (log results : List ℕ) (change : Change) where
+  abbrev Followed : List Row → Type 0
+  Followed x = x ≡ followed structRow change table (entries (change .to .0) log) (outcomes (change .done .0) results)
 
-  pub follow-one : (x y a b : List Row) → Followed x a → Followed y b → (x ≡ y) × (a ≡ b)
-  follow-one x y a b p q = (p .0 ∙ sym (q .0), p .1 ∙ sym (q .1))
+  pub follow-one : (x y : List Row) → Followed x → Followed y → x ≡ y
+  follow-one x y p q = p ∙ sym q
 
 -- ---- what a row says
 
@@ -81,10 +80,6 @@ end-of-one f unused r t p q = p ∙ sym q
 -- is_latest
 pub is-latest-one : (f : FoundRow) (e : Entry) (r t : Bool) → r ≡ latestAt f e → t ≡ latestAt f e → r ≡ t
 is-latest-one f e r t p q = p ∙ sym q
-
--- kept
-pub kept-one : (f : FoundRow) (left : ℕ) (e : Entry) (r t : Row) → r ≡ keptAt f left e → t ≡ keptAt f left e → r ≡ t
-kept-one f left e r t p q = p ∙ sym q
 
 -- first_new
 pub first-new-one : (k : Change) (r t : ℕ) → r ≡ firstNew k → t ≡ firstNew k → r ≡ t

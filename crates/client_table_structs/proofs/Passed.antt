@@ -5,26 +5,16 @@ use denote.Laws.{Is}
 use denote.Struct.Laws as LL
 use Rattle.walks.proofs.Open.{Elem}
 use Rattle.walks.proofs.Handing.{elem-of}
-use Rattle.entries.specs.declared.Entry.{Entry}
 use Rattle.client_table.specs.declared.Change.{Change}
-use Rattle.entries.proofs.Entry as E
-use Rattle.entries.proofs.Entry.Laws as E′
 use Rattle.numbers.proofs.Op as N
 use Rattle.numbers.proofs.Op.Laws as N′
 use Rattle.client_table.proofs.Change as C
 use Rattle.client_table.proofs.Change.Laws as C′
-use Rattle.client_table_structs.proofs.Rowed.{entryE}
 
 abbrev pub changeE : Elem
 changeE = elem-of C.the-type C′.the-laws C′.lowers C′.the-copy C′.the-plain
 
-pub client-fits : (e : Entry) → Is (entryE .R) e (entryE .val e ∷ []) → e .client < 2 ^ 64
-client-fits e g = LL.owed E.the-type E′.the-laws e _ g .0 .1
-
 module _ (k : Change) (g : Is (changeE .R) k (changeE .val k ∷ [])) where
-  pub commit-fits : k .commit .0 < 2 ^ 32
-  commit-fits = LL.owed N.the-type N′.the-laws (k .commit) _ (LL.owed C.the-type C′.the-laws k _ g .1 .1 .0) .0 .1
-
   pub to-fits : k .to .0 < 2 ^ 32
   to-fits = LL.owed N.the-type N′.the-laws (k .to) _ (LL.owed C.the-type C′.the-laws k _ g .1 .1 .1 .0) .0 .1
 

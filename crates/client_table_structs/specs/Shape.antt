@@ -48,7 +48,6 @@ structRow =
       blank = unusedRow;
       fresh = λ e. rowHolding e Waiting;
       answered = λ e o. rowHolding e (Kept (o .code) (o .total));
-      again = λ e x. rowHolding e (x .reply);
     }
 
 -- what is found of a client
@@ -68,13 +67,6 @@ endAt f unused = if f .there then f .at else unused
 unfoldable pub latestAt : FoundRow → Entry → Bool
 latestAt f e = f .there and eqb (f .row .request) (e .request)
 
--- the row of an entry of a new log, by what was found of its client in the old rows
-unfoldable pub keptAt : FoundRow → (left : ℕ) → Entry → Row
-keptAt f left e =
-    if eqb left 0 then rowHolding e Waiting else
-    if latestAt f e then rowHolding e (f .row .reply) else
-    rowHolding e Waiting
-
 -- the first entry that a call appended, and the first that it committed
 unfoldable pub firstNew : Change → ℕ
 firstNew k = if ltb (k .to .0) (k .op .0) then k .to .0 else k .op .0
@@ -89,7 +81,3 @@ latestOfRow f = latestBy (f .there) (f .row .request) (replyIn (f .row .reply))
 -- what the table has of a client
 abbrev pub latestAmong : List Row → ℕ → Latest
 latestAmong xs c = latestOfRow (foundAmong xs c)
-
--- the second slice after a call: a rebuild leaves there the rows that it replaced
-unfoldable pub oldRowsAfter : Change → (table old : List Row) → List Row
-oldRowsAfter k table old = if k .installed then table else old

@@ -4,7 +4,7 @@ ghost use mathlib.Core.Bool.{true};
 ghost use Prim.Native.Nat.{_<_};
 ghost use Rattle.client_table.specs.Latest.{latestBy};
 ghost use Rattle.client_table.specs.Search.{halved, isBefore};
-ghost use Rattle.client_table_structs.specs.Shape.{unusedRow, structRow, isUsed, replyIn, foundAt, latestOfRow, endAt, latestAt, keptAt, firstNew, firstDone};
+ghost use Rattle.client_table_structs.specs.Shape.{unusedRow, structRow, isUsed, replyIn, foundAt, latestOfRow, endAt, latestAt, firstNew, firstDone};
 use crate::FoundRow;
 use crate::KeptReply;
 use crate::Row;
@@ -130,25 +130,6 @@ pub fn is_latest(f: FoundRow, e: Entry) -> bool
         return false;
     }
     f.row.request == e.request
-}
-
-// The row of an entry of a new log, by the old one of its client, `left` entries from it on being committed.
-pub fn kept(f: FoundRow, left: usize, e: Entry) -> Row
-    ensures { λ r. ⌜ r ≡ keptAt f left e ⌝ }
-{
-    if left == 0 {
-        return fresh(e);
-    }
-    if !is_latest(f, e) {
-        return fresh(e);
-    }
-    let x = f.row;
-    let reply = x.reply;
-    Row {
-        client: e.client,
-        request: e.request,
-        reply,
-    }
 }
 
 // The first entry that a call appended, and the first that it committed: those before it have their rows.

@@ -1,15 +1,14 @@
 // The client table as a slice of row structs, for callers in Rattle: rows in rising order of client id, unused rows last. The functions are thin:
 // they find, store and rebuild rows, and hand whole rows to `cell`, where what a row says is decided.
 ghost use mathlib.Core.Path.{_≡_};
-ghost use mathlib.Core.Bool.{true};
 ghost use Prim.Native.Nat.{_-_, _*_, _≤_, _<_};
 ghost use lib.ListN.{length, drop, replicate};
 ghost use Rattle.entries.specs.Entries.{entries};
 ghost use Rattle.entries.specs.Places.{entryPlace, resultPlace};
 ghost use Rattle.fees.specs.Results.{outcomes};
-ghost use Rattle.client_table.specs.Rows.{seek, stored, putRow, appended, replied, rowsCommitted, rebuilt, renewed, followed};
+ghost use Rattle.client_table.specs.Rows.{seek, stored, putRow, appended, replied, rowsCommitted, rebuilt, followed};
 ghost use Rattle.client_table.specs.Shape.{rowAt};
-ghost use Rattle.client_table_structs.specs.Shape.{unusedRow, structRow, foundAmong, latestAmong, oldRowsAfter};
+ghost use Rattle.client_table_structs.specs.Shape.{unusedRow, structRow, foundAmong, latestAmong};
 ghost use Rattle.numbers.specs.Lending.{was, last};
 use client_table::Change;
 use client_table::Goal;
@@ -137,42 +136,19 @@ fn commit(table: &mut [Row], log: &[u8], results: &[u8], from: usize, to: usize)
     }
 }
 
-// All rows go to `old`, and become unused.
-fn set_aside(table: &mut [Row], old: &mut [Row])
-    requires { ⌜ length (now old) ≡ length (now table) ⌝ }
-    ensures { λ r. ⌜ (last table ≡ replicate (length (was table)) unusedRow) × (last old ≡ was table) ⌝ }
-{
-    let mut i = 0;
-    while i < table.len() {
-        store(old, i, i, peek(table, i));
-        store(table, i, i, cell::no_row());
-        i += 1;
-    }
-}
-
-// The first `op` entries of the log become their clients' rows, in order, by the old rows; the first `commit` of them are committed.
-fn refill(table: &mut [Row], old: &[Row], log: &[u8], op: usize, commit: usize)
-    requires { ⌜ 32 * op ≤ length (now log) ⌝ }
-    ensures { λ r. ⌜ last table ≡ rebuilt structRow (was old) commit (was table) (entries op (was log)) ⌝ }
+// The first `done` entries of the log become their clients' rows, in order, each with what it gave.
+fn refill(table: &mut [Row], log: &[u8], results: &[u8], done: usize)
+    requires { ⌜ (32 * done ≤ length (now log)) × (9 * done ≤ length (now results)) ⌝ }
+    ensures { λ r. ⌜ last table ≡ rebuilt structRow (was table) (entries done (was log)) (outcomes done (was results)) ⌝ }
 {
     let mut k = 0;
-    while k < op {
-        let e = entries::entry_in(log, k);
+    while k < done {
         put(
             table,
-            cell::kept(find(old, e.client), client_table::left_of(commit, k), e),
+            cell::answered(entries::entry_in(log, k), fees::result_in(results, k)),
         );
         k += 1;
     }
-}
-
-// The table of a new log of `op` entries, `commit` of them committed; `old` gets the rows that were there.
-fn rebuild(table: &mut [Row], old: &mut [Row], log: &[u8], op: usize, commit: usize)
-    requires { ⌜ (length (now old) ≡ length (now table)) × (32 * op ≤ length (now log)) ⌝ }
-    ensures { λ r. ⌜ (last table ≡ rebuilt structRow (was table) commit (replicate (length (was table)) unusedRow) (entries op (was log))) × (last old ≡ was table) ⌝ }
-{
-    set_aside(table, old);
-    refill(table, old, log, op, commit);
 }
 
 // All rows become unused.
@@ -186,6 +162,16 @@ pub fn clear(table: &mut [Row])
     }
 }
 
+// The table of a log of `op` entries, the first `done` of them committed, which gave these results; whatever was there before.
+fn rebuild(table: &mut [Row], log: &[u8], results: &[u8], op: usize, done: usize)
+    requires { ⌜ (32 * op ≤ length (now log)) × ((9 * done ≤ length (now results)) × (done ≤ op)) ⌝ }
+    ensures { λ r. ⌜ last table ≡ rebuilt structRow (replicate (length (was table)) unusedRow) (entries op (was log)) (outcomes done (was results)) ⌝ }
+{
+    clear(table);
+    refill(table, log, results, done);
+    append(table, log, done, op);
+}
+
 // What the table has of a client.
 pub fn latest(table: &[Row], client: u64) -> Latest
     ensures { λ r. ⌜ r ≡ latestAmong (was table) client ⌝ }
@@ -193,30 +179,22 @@ pub fn latest(table: &[Row], client: u64) -> Latest
     cell::latest(find(table, client))
 }
 
-// The rows brought up to a log that was installed anew, or appended to.
-fn renew(table: &mut [Row], old: &mut [Row], log: &[u8], change: Change)
-    requires { ⌜ (change .installed ≡ true → length (now old) ≡ length (now table)) × (32 * change .to .0 ≤ length (now log)) ⌝ }
-    ensures { λ r. ⌜ (last table ≡ renewed structRow change (was table) (entries (change .to .0) (was log))) × (last old ≡ oldRowsAfter change (was table) (was old)) ⌝ }
+// The table brought up to what a call did to the log.
+pub fn follow(table: &mut [Row], log: &[u8], results: &[u8], change: Change)
+    requires { ⌜ (32 * change .to .0 ≤ length (now log)) × ((9 * change .done .0 ≤ length (now results)) × (change .done .0 ≤ change .to .0)) ⌝ }
+    ensures { λ r. ⌜ last table ≡ followed structRow change (was table) (entries (change .to .0) (was log)) (outcomes (change .done .0) (was results)) ⌝ }
 {
     if change.installed {
         rebuild(
             table,
-            old,
             log,
+            results,
             change.to.0 as usize,
-            change.commit.0 as usize,
+            change.done.0 as usize,
         );
         return;
     }
     append(table, log, cell::first_new(change), change.to.0 as usize);
-}
-
-// The table brought up to what a call did to the log; `old` gets the rows that a rebuild replaces.
-pub fn follow(table: &mut [Row], old: &mut [Row], log: &[u8], results: &[u8], change: Change)
-    requires { ⌜ (change .installed ≡ true → length (now old) ≡ length (now table)) × ((32 * change .to .0 ≤ length (now log)) × ((9 * change .done .0 ≤ length (now results)) × (change .done .0 ≤ change .to .0))) ⌝ }
-    ensures { λ r. ⌜ (last table ≡ followed structRow change (was table) (entries (change .to .0) (was log)) (outcomes (change .done .0) (was results))) × (last old ≡ oldRowsAfter change (was table) (was old)) ⌝ }
-{
-    renew(table, old, log, change);
     commit(
         table,
         log,

@@ -75,7 +75,7 @@ module _ (h room i : ℕ) (d : Report) (mem : List ℕ) where
 
   pub report-some : (a r : ℕ) → d .there ≡ true
       → a ≡ digestAfter (digestAfter (digestAfter (digestAfter h (i ∷ oneIf (d .full) ∷ [])) (big 4 (d .view .0))) (big 4 (d .op .0))) (big 4 (d .commit .0))
-      → r ≡ digestAfter a (partAt (800 + storedPlace room i) (32 * d .op .0) mem) → r ≡ digestAfter h (reportText room i d mem)
+      → r ≡ digestAfter a (partAt (600 + storedPlace room i) (32 * d .op .0) mem) → r ≡ digestAfter h (reportText room i d mem)
   unfolding reportText if_then_else_
   report-some a r e p q = rw (e, digest-append, digest-append, digest-append, digest-append, ← p) q
 

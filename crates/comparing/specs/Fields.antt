@@ -79,11 +79,11 @@ unfoldable pub firstDiffering : (line : List ℕ) (k : ℕ) → List ℕ → ℕ
 firstDiffering line k [] = k
 firstDiffering line k (x ∷ xs) = if eqb (fieldIn k line) x then firstDiffering line (k + 1) xs else k
 
--- a report as it is digested: the replica's id, whether it has a log, view, op, commit, and the log's entries, which lie behind 800
+-- a report as it is digested: the replica's id, whether it has a log, view, op, commit, and the log's entries, which lie behind 600
 unfoldable pub reportText : (room i : ℕ) → Report → List ℕ → List ℕ
 reportText room i d mem =
     if d .there
-    then (i ∷ oneIf (d .full) ∷ []) ++ (big 4 (d .view .0) ++ (big 4 (d .op .0) ++ (big 4 (d .commit .0) ++ partAt (800 + storedPlace room i) (32 * d .op .0) mem)))
+    then (i ∷ oneIf (d .full) ∷ []) ++ (big 4 (d .view .0) ++ (big 4 (d .op .0) ++ (big 4 (d .commit .0) ++ partAt (600 + storedPlace room i) (32 * d .op .0) mem)))
     else []
 
 -- those of the first n, by rising id

@@ -13,9 +13,7 @@ pub const ACKS: usize = 392;
 
 pub const TABLE: usize = 400;
 
-pub const OLD: usize = 600;
-
-pub const STORED: usize = 800;
+pub const STORED: usize = 600;
 
 // The run at a place, copied out.
 pub fn fetch(memory: &[u8], at: usize, area: &mut [u8])

@@ -92,7 +92,7 @@ module _ (s : Replica) (x : Lent) (applied : List Entry) (k : Kept s x applied) 
       subst (Safe (s .setup)) (sym (r .is)) (demand3 (s .setup) (r .first) (r .created) (r .calls) [] .safe)
 
   whole : Sound s (x .core .runs)
-  whole = sound-is s (x .core) (length (x .table)) (length (x .old)) (k .sound) .gathering .sound
+  whole = sound-is s (x .core) (length (x .table)) (k .sound) .gathering .sound
 
   applied-are : applied ≡ entries c log
   unfolding modelOf bookOf
@@ -146,7 +146,7 @@ goes-journal s x applied s′ x′ k g =
     subst (λ (u : Setup). journal (u .members) applied ++ framesOf n (s′ .commit .0) x′ ≡ journal (u .members) (g .applied′)) (g .setup) v
 
 handed-same : (x : Lent) → HandedBack x x
-handed-same x = record { runs = refl; acks = refl; stored = refl; table = refl; old = refl }
+handed-same x = record { runs = refl; acks = refl; stored = refl; table = refl }
 
 -- ---- any calls
 

@@ -1,5 +1,5 @@
--- The table follows a step: where the step shows the model's answer, and the rows are the model's table before it, the rows brought up to
--- the step's change are the model's table after it. So the core needs no table. Assumes nothing.
+-- The table follows a step: where the step shows the model's answer, the rows are the model's table before it, and the book after it has the
+-- table of its log, the rows brought up to the step's change are the model's table after it. So the core needs no table. Assumes nothing.
 use Prim.Native.Nat.{ℕ, _≤_}
 use native.Mathlib.Omega.{arith}
 use mathlib.Core.Path.{_≡_, refl, sym, ap, _∙_, subst}
@@ -17,7 +17,7 @@ use Rattle.layout.specs.Layout.{bookOf, modelOf}
 use Rattle.layout.specs.Shown.{Given, Step, Grew, Did, changeOf}
 use Rattle.layout.specs.Shown.Grew.{more, anew}
 use Rattle.layout.proofs.RowLift.{Means}
-use Rattle.layout.proofs.TableLift.{Reads, follow-append, follow-install}
+use Rattle.layout.proofs.TableLift.{Reads, Settled, follow-append, follow-install}
 
 module _ (c : Given) (d : Step) (table : List ClientEntry) (applied : List Entry) (m′ : State) (ms : List Sent) (rs : List Reply)
     (did : Did c d (modelOf (c .state) (c .runs) table applied .book) m′ ms rs) where
@@ -47,7 +47,7 @@ module _ (c : Given) (d : Step) (table : List ClientEntry) (applied : List Entry
       }
 
   module _ {R : Type 0} (h : Shape R) (law : Lawful h) (n : ℕ) (xs : List R) (means : Means h n table xs)
-      (fits : length table ≤ c .state .op .0) (room : d .answer .state .op .0 ≤ n) where
+      (fits : length table ≤ c .state .op .0) (room : d .answer .state .op .0 ≤ n) (settled : Settled (m′ .book)) where
     before : Means h n (b .table) xs
     unfolding modelOf bookOf
     before = means
@@ -67,8 +67,7 @@ module _ (c : Given) (d : Step) (table : List ClientEntry) (applied : List Entry
         subst (λ (a : Book). Means h n (a .table) rows) (sym q)
         (follow-append h law n (changeOf c d) b es j xs log _ p (reads _ q) before before-fits after-fits)
     by-growth (anew new j p q) =
-        subst (λ (a : Book). Means h n (a .table) rows) (sym q)
-        (follow-install h law n (changeOf c d) b new j xs log _ p (reads _ q) before after-fits)
+        follow-install h law n (changeOf c d) (m′ .book) xs log _ p log-is results-are settled (means .long) after-fits
 
     pub follow-shown : Means h n (m′ .book .table)
         (followed h (changeOf c d) xs (entries (d .answer .state .op .0) (d .runs .log)) (outcomes (d .answer .state .commit .0) (d .runs .results)))

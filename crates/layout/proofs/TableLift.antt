@@ -1,36 +1,37 @@
 -- Rows that stand for the model's table do what the model does to it: append, commit, install, and all that a call changes.
 --     put-entry, append-lift                 append_to_log, for each entry
 --     reply-lift, commit-lift                commit_op, for each entry
---     rebuild-lift, blank-means              install_log, and the unused rows that it begins with
+--     rebuild-lift, blank-means              the table of a log, and the unused rows that it begins with
+--     Reads, Settled, answers-coded          what a call changed; a book whose table is that of its log
 --     follow-append, follow-install          the rows brought up to what a call did to the log
 -- Assumes nothing.
 use Prim.Native.Nat.{ℕ, zero, suc, _+_, _-_, _≤_, _<_}
-use native.Mathlib.Numerals.{sub-one}
 use native.Mathlib.Omega.{arith}
 use mathlib.Core.Path.{_≡_, refl, sym, ap, _∙_}
-use mathlib.Core.Bool.{Bool, true, false, false≢true}
+use mathlib.Core.Bool.{Bool, true, false}
 use mathlib.Core.List.{List, [], _∷_, _++_}
 use mathlib.Core.Option.{Option, none, some}
 use lib.Dec.{eqb}
 use lib.ListN.{length, take, drop, replicate, length-replicate, length-append}
-use lib.Seq.{drop-at, drop-append-seam}
-use borrow.Author.Tests.{eqb-true, eqb-false, eq-eqb}
-use Rattle.numbers.specs.Words.{if_then_else_, _and_}
-use Rattle.numbers.proofs.WordLaws.{split, split₂, if-true, if-false, and-true, and-left, and-right}
+use lib.Seq.{drop-at, drop-append-seam, take-all}
+use borrow.Author.Tests.{eqb-true}
+use Rattle.numbers.specs.Words.{_and_}
+use Rattle.numbers.proofs.WordLaws.{split₂, if-true, if-false, and-left, and-right}
 use Rattle.entries.specs.declared.Entry.{Entry}
 use Rattle.fees.specs.declared.Outcome.{Outcome}
 use Rattle.client_table.specs.declared.Change.{Change}
-use Rattle.client_table.specs.Rows.{spotOf, isThere, putRow, appended, isLatest, replied, rowsCommitted, keptRow, rebuilt, renewed, followed}
+use Rattle.client_table.specs.Rows.{spotOf, isThere, putRow, appended, isLatest, replied, rowsCommitted, rebuilt, followed}
 use Rattle.client_table.specs.Shape.{Shape, rowAt}
 use Rattle.client_table.specs.Lawful.{HoldsEntry, Lawful}
+use Rattle.client_table.proofs.AlikeLaws.{Coded}
 use Rattle.model.specs.State.{ClientEntry, Book}
-use Rattle.model.specs.Book.{outcome, totalsAfter, resultsOf, Seen, find, put, entryRow, append, appendAll, keep, keptFor, install}
+use Rattle.model.specs.Book.{outcome, totalsAfter, resultsOf, find, put, entryRow, append, appendAll, keep, tableOf}
 use Rattle.model.specs.Book.{commitOne, commitAll, dueEntries, commitUpTo}
 use Rattle.model.specs.Book as M
-use Rattle.layout.specs.Layout.{meant, tableOf}
+use Rattle.layout.specs.Layout.{meant, tableIn}
 use Rattle.model.proofs.BookLaws.{outcome-code, commitAll-log, commitAll-results, appendAll-log, appendAll-rest}
 use Rattle.model.proofs.TableLaws.{put-length}
-use Rattle.layout.proofs.RowLift.{Means, unused, find-there, find-row, find-none, replace-lift, put-lift}
+use Rattle.layout.proofs.RowLift.{Means, unused, find-there, find-row, replace-lift, put-lift}
 
 -- What a call changed, b being the book before it and a the book after: log and os are read from what it left, its log and its results.
 pub record Reads (k : Change) (b a : Book) (log : List Entry) (os : List Outcome) : Type 0 where
@@ -39,6 +40,18 @@ pub record Reads (k : Change) (b a : Book) (log : List Entry) (os : List Outcome
   pub results : length (b .results) ≡ b .commit
   pub log-is : log ≡ a .log
   pub results-are : os ≡ a .results
+
+-- a book whose table is that of its log, its results and its commit number, each result being one that the fee rules can give
+pub record Settled (b : Book) : Type 0 where
+  pub table : b .table ≡ tableOf (b .log) (b .results) (b .commit)
+  pub count : length (b .results) ≡ b .commit
+  pub coded : Coded (b .results)
+
+-- what the fee rules give
+pub answers-coded : (ts : List ℕ) (es : List Entry) → Coded (resultsOf ts es)
+unfolding resultsOf
+answers-coded ts [] = tt
+answers-coded ts (e ∷ es) = (outcome-code ts e, answers-coded _ es)
 
 until-log : (b : Book) (j : ℕ) → commitUpTo b j .log ≡ b .log
 unfolding commitUpTo
@@ -54,24 +67,14 @@ module _ {R : Type 0} (h : Shape R) where
   unfolding isLatest
   latest-there xs e l = (and-left _ _ l, eqb-true _ _ (and-right _ _ l))
 
-  there-used : (xs : List R) (c : ℕ) → isThere h xs c ≡ true → h .used (rowAt h xs (spotOf h xs c)) ≡ true
-  unfolding isThere
-  there-used xs c p = and-left _ _ p
-
   -- ---- what the rows have of an entry's client
 
   module _ (law : Lawful h) (w : ℕ) (old : List R) (t : List ClientEntry) (m : Means h w t old) (e : Entry) where
-    same : find (tableOf h old) (e .client) ≡ find t (e .client)
+    same : find (tableIn h old) (e .client) ≡ find t (e .client)
     same = ap (λ (l : List ClientEntry). find l (e .client)) (m .table)
 
-    seen : isThere h old (e .client) ≡ true
-        → (find t (e .client) .request ≡ h .request (rowAt h old (spotOf h old (e .client))))
-        × (find t (e .client) .kept ≡ h .kept (rowAt h old (spotOf h old (e .client))))
-    seen p = rw (← same) (find-row h old (m .ordered) law (e .client) p)
-
-    unseen : isThere h old (e .client) ≡ false → find t (e .client) .kept ≡ none
-    unfolding find
-    unseen p = rw (← same) (ap (λ (z : Seen). z .kept) (find-none h old (m .ordered) law (e .client) p))
+    seen : isThere h old (e .client) ≡ true → find t (e .client) .request ≡ h .request (rowAt h old (spotOf h old (e .client)))
+    seen p = rw (← same) (find-row h old (m .ordered) law (e .client) p .0)
 
     -- the test of commit_op
     latest-is : isLatest h old e ≡ (find t (e .client) .there and eqb (find t (e .client) .request) (e .request))
@@ -84,40 +87,8 @@ module _ {R : Type 0} (h : Shape R) where
         go : (b : Bool) → isThere h old (e .client) ≡ b
             → (isThere h old (e .client) and eqb (h .request (rowAt h old (spotOf h old (e .client)))) (e .request))
             ≡ (find t (e .client) .there and eqb (find t (e .client) .request) (e .request))
-        go true p = cc (there, seen p .0)
+        go true p = cc (there, seen p)
         go false p = cc (there, p)
-
-    kept-latest : isLatest h old e ≡ true → h .kept (rowAt h old (spotOf h old (e .client))) ≡ keptFor t e
-    unfolding keptFor
-    kept-latest l =
-        let p = latest-there old e l in
-        let q = seen (p .0) in
-        sym (if-true _ _ _ (eq-eqb _ _ (q .0 ∙ p .1)) ∙ q .1)
-
-    kept-none : isLatest h old e ≡ false → none ≡ keptFor t e
-    unfolding keptFor isLatest
-    kept-none l = go (isThere h old (e .client)) refl
-      where
-        go : (b : Bool) → isThere h old (e .client) ≡ b
-            → none ≡ (if eqb (find t (e .client) .request) (e .request) then find t (e .client) .kept else none)
-        go true p =
-            split (λ (k : Option Outcome). none ≡ k) _ _ _
-            (λ eq. absurd (false≢true (sym l ∙ and-true _ _ p (ap (λ (r : ℕ). eqb r (e .request)) (sym (seen p .0)) ∙ eq)))) (λ _. refl)
-        go false p = split (λ (k : Option Outcome). none ≡ k) _ _ _ (λ _. sym (unseen p)) (λ _. refl)
-
-    -- the row of an uncommitted entry, and of a rowsCommitted one
-    kept-open : HoldsEntry h (keptRow h old 0 e) e none
-    unfolding keptRow
-    kept-open = split (λ (x : R). HoldsEntry h x e none) _ _ _ (λ _. law .fresh e) (λ ne. absurd (eqb-false 0 0 ne refl))
-
-    kept-done : (left : ℕ) → HoldsEntry h (keptRow h old (suc left) e) e (keptFor t e)
-    unfolding keptRow
-    kept-done left =
-        let x : R = rowAt h old (spotOf h old (e .client)) in
-        split (λ (y : R). HoldsEntry h y e (keptFor t e)) _ _ _ (λ eq. let z : suc left ≡ 0 = eqb-true _ _ eq in absurd (omega arith)) λ _.
-        split (λ (y : R). HoldsEntry h y e (keptFor t e)) (isLatest h old e) (h .again e x) (h .fresh e)
-        (λ l. rw (← kept-latest l) (law .again e x (there-used old (e .client) (latest-there old e l .0))))
-        (λ l. rw (← kept-none l) (law .fresh e))
 
   module _ (law : Lawful h) (n : ℕ) where
     -- ---- append
@@ -157,19 +128,15 @@ module _ {R : Type 0} (h : Shape R) where
 
     -- ---- install
 
-    pub rebuild-lift : (w : ℕ) (old : List R) (t : List ClientEntry) (left : ℕ) (new : List R) (s : List ClientEntry) (es : List Entry) → Means h w t old
-        → Means h n s new → length s + length es ≤ n → Means h n (M.rebuilt t left s es) (rebuilt h old left new es)
+    pub rebuild-lift : (s : List ClientEntry) (new : List R) (es : List Entry) (os : List Outcome) → Coded os → Means h n s new → length s + length es ≤ n
+        → Means h n (M.rebuilt s es os) (rebuilt h new es os)
     unfolding M.rebuilt rebuilt
-    rebuild-lift w old t zero new s [] m m′ l = m′
-    rebuild-lift w old t (suc left) new s [] m m′ l = m′
-    rebuild-lift w old t zero new s (e ∷ es) m m′ l =
-        rebuild-lift w old t zero _ _ es m (put-entry s new (keptRow h old 0 e) e none (kept-open law w old t m e) m′ (omega arith))
-        (omega (arith, put-length s (entryRow e none)))
-    rebuild-lift w old t (suc left) new s (e ∷ es) m m′ l =
-        rw sub-one
-        (rebuild-lift w old t left _ _ es m
-        (put-entry s new (keptRow h old (suc left) e) e (keptFor t e) (kept-done law w old t m e left) m′ (omega arith))
-        (omega (arith, put-length s (entryRow e (keptFor t e)))))
+    rebuild-lift s new [] os c m l = m
+    rebuild-lift s new (e ∷ es) [] c m l =
+        rebuild-lift _ _ es [] c (put-entry s new (h .fresh e) e none (law .fresh e) m (omega arith)) (omega (arith, put-length s (entryRow e none)))
+    rebuild-lift s new (e ∷ es) (o ∷ os) c m l =
+        rebuild-lift _ _ es os (c .1) (put-entry s new (h .answered e o) e (some o) (law .answered e o (c .0 .0) (c .0 .1)) m (omega arith))
+        (omega (arith, put-length s (entryRow e (some o))))
 
     pub blank-means : Means h n [] (replicate n (h .blank))
     blank-means =
@@ -184,7 +151,7 @@ module _ {R : Type 0} (h : Shape R) where
         blank-row (suc k) zero = law .blank
         blank-row (suc k) (suc i) = blank-row k i
 
-        blank-table : (k : ℕ) → tableOf h (replicate k (h .blank)) ≡ []
+        blank-table : (k : ℕ) → tableIn h (replicate k (h .blank)) ≡ []
         blank-table k = unused h (replicate k (h .blank)) (blank-row k 0)
 
     -- ---- all that a call changes
@@ -210,26 +177,23 @@ module _ {R : Type 0} (h : Shape R) where
     pub follow-append : (k : Change) (b : Book) (es : List Entry) (j : ℕ) (xs : List R) (log : List Entry) (os : List Outcome)
         → k .installed ≡ false → Reads k b (commitUpTo (appendAll b es) j) log os → Means h n (b .table) xs
         → length (b .table) ≤ length (b .log) → length log ≤ n → Means h n (commitUpTo (appendAll b es) j .table) (followed h k xs log os)
-    unfolding followed renewed
-    follow-append k b es j xs log os anew p m fits room =
+    unfolding followed
+    follow-append k b es j xs log os more p m fits room =
         let w : log ≡ b .log ++ es = p .log-is ∙ until-log (appendAll b es) j ∙ appendAll-log b es in
         let l : length log ≡ length (b .log) + length es = rw w (length-append (b .log) es) in
         let d : drop (k .op .0) log ≡ es = rw (p .op, w) (drop-append-seam (b .log) es) in
         let q = appendAll-rest b es in
-        rw (if-false (k .installed) (rebuilt h xs (k .commit .0) (replicate (length xs) (h .blank)) log) (appended h xs (drop (k .op .0) log)) anew, d)
+        rw (if-false (k .installed) (rebuilt h (replicate (length xs) (h .blank)) log os) _ more, d)
         (settle-lift (appendAll b es) j (k .commit .0) (appended h xs es) log os (append-lift b xs es m (omega arith))
         (p .commit ∙ sym (q .commit)) (cc (q .commit, q .results, p .results)) (p .log-is) (p .results-are))
 
-    -- the log was installed anew, and then rowsCommitted up to j
-    pub follow-install : (k : Change) (b : Book) (new : List Entry) (j : ℕ) (xs : List R) (log : List Entry) (os : List Outcome)
-        → k .installed ≡ true → Reads k b (commitUpTo (install b new) j) log os → Means h n (b .table) xs
-        → length log ≤ n → Means h n (commitUpTo (install b new) j .table) (followed h k xs log os)
-    unfolding followed renewed install
-    follow-install k b new j xs log os anew p m room =
-        let w : log ≡ new = p .log-is ∙ until-log (install b new) j in
-        let e : rebuilt h xs (k .commit .0) (replicate (length xs) (h .blank)) log ≡ rebuilt h xs (b .commit) (replicate n (h .blank)) new =
-        cc (p .commit, m .long, w) in
-        rw (if-true (k .installed) _ (appended h xs (drop (k .op .0) log)) anew, e)
-        (settle-lift (install b new) j (k .commit .0) _ log os
-        (rebuild-lift n xs (b .table) (b .commit) (replicate n (h .blank)) [] new m blank-means (rw (← w) (omega arith)))
-        (p .commit) (p .results) (p .log-is) (p .results-are))
+    -- the log was installed anew: nothing is taken of the rows but how many they are
+    pub follow-install : (k : Change) (a : Book) (xs : List R) (log : List Entry) (os : List Outcome)
+        → k .installed ≡ true → log ≡ a .log → os ≡ a .results → Settled a → length xs ≡ n → length log ≤ n
+        → Means h n (a .table) (followed h k xs log os)
+    unfolding followed tableOf
+    follow-install k a xs log os anew p q t long room =
+        let w : a .table ≡ M.rebuilt [] log os =
+        t .table ∙ ap (M.rebuilt [] (a .log)) (take-all (a .commit) (a .results) (omega (arith, t .count))) ∙ cc (p, q) in
+        rw (w, if-true (k .installed) _ _ anew, long)
+        (rebuild-lift [] (replicate n (h .blank)) log os (rw q (t .coded)) blank-means (omega arith))

@@ -45,14 +45,14 @@ module _ {R : Type 0} (h : Shape R) where
   meant x = record { client = h .client x; request = h .request x; kept = h .kept x }
 
   -- the rows before the first unused one
-  unfoldable pub tableOf : List R → List M.ClientEntry
-  tableOf [] = []
-  tableOf (x ∷ xs) = if h .used x then meant x ∷ tableOf xs else []
+  unfoldable pub tableIn : List R → List M.ClientEntry
+  tableIn [] = []
+  tableIn (x ∷ xs) = if h .used x then meant x ∷ tableIn xs else []
 
   -- rows as calls leave them: client ids rise, unused rows stand last
   pub record Ordered (xs : List R) : Type 0 where
-    pub rises : Rises (tableOf xs)
-    pub unused-last : (i : ℕ) → length (tableOf xs) ≤ i → h .used (rowAt h xs i) ≡ false
+    pub rises : Rises (tableIn xs)
+    pub unused-last : (i : ℕ) → length (tableIn xs) ≤ i → h .used (rowAt h xs i) ≡ false
 
 -- a total, 8 bytes
 abbrev pub totalOf : List ℕ → ℕ

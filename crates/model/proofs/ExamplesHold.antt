@@ -4,7 +4,7 @@ use mathlib.Core.List.{[], _∷_, _++_}
 use mathlib.Core.Option.{none, some}
 use Rattle.fees.specs.Fees.{gives}
 use Rattle.model.specs.State.Answer.{done}
-use Rattle.model.specs.Book.{rebuilt}
+use Rattle.model.specs.Book.{tableOf}
 use Rattle.model.specs.Normal.{onPrepareOk}
 use Rattle.model.specs.Examples.{AllHold, setup, tableRow, answer, answerSeen}
 use Rattle.model.specs.Marked.{marked, askedOnce, once, firstAck}
@@ -23,16 +23,16 @@ marked-hold = (refl, (refl, (refl, (refl, (refl, (refl, (refl, tt)))))))
 -- the directed ones
 pub misread-hold : AllRun misread
 unfolding open-misread
-misread-hold = (refl, (refl, (refl, (refl, (refl, (refl, (refl, (refl, (refl, (refl, (refl, (refl, (refl, (refl, (refl, tt)))))))))))))))
+misread-hold = (refl, (refl, (refl, (refl, (refl, (refl, (refl, (refl, (refl, (refl, (refl, (refl, (refl, (refl, tt))))))))))))))
 
 pub surprises-hold : AllRun surprises
 unfolding open-surprises
-surprises-hold = (refl, (refl, (refl, (refl, (refl, (refl, (refl, (refl, (refl, (refl, (refl, (refl, (refl, (refl, (refl, (refl, (refl, tt)))))))))))))))))
+surprises-hold = (refl, (refl, (refl, (refl, (refl, (refl, (refl, (refl, (refl, (refl, (refl, (refl, (refl, (refl, (refl, (refl, (refl, (refl, tt))))))))))))))))))
 
--- install_log keeps a reply only where the number equals the old row's. No call leads to such an old tableRow, so it is said of the table alone.
-pub other-number : rebuilt (tableRow 1 6 (some (gives 1 10)) ∷ []) 1 [] (fee 1 5 10 ∷ []) ≡ tableRow 1 5 none ∷ []
+-- The table of a log: a later entry of a client overwrites its row, and the reply with it, though the earlier one is committed.
+pub later-entry : tableOf (fee 1 5 10 ∷ fee 2 0 20 ∷ fee 1 6 7 ∷ []) (gives 1 10 ∷ gives 1 30 ∷ []) 2 ≡ tableRow 1 6 none ∷ tableRow 2 0 (some (gives 1 30)) ∷ []
 unfolding open-misread
-other-number = refl
+later-entry = refl
 
 -- An ack fires only when the count reaches the quorum exactly: the fifth of five is kept and commits nothing. No call leads to four acks of an op
 -- that isn't committed, so it is said of the handler alone.
@@ -40,8 +40,8 @@ pub past-quorum : onPrepareOk (setup 5 0 3 8) (fourAcked 15) 0 1 4 ≡ done (fou
 unfolding open-misread
 past-quorum = refl
 
--- It keeps one for a committed entry only.
-pub uncommitted-entry : rebuilt (tableRow 1 5 (some (gives 1 10)) ∷ []) 0 [] (fee 1 5 10 ∷ []) ≡ tableRow 1 5 none ∷ []
+-- A reply is one to a committed entry. No call leads to more results than there are committed entries, so it is said of the table alone.
+pub uncommitted-entry : tableOf (fee 1 5 10 ∷ []) (gives 1 10 ∷ []) 0 ≡ tableRow 1 5 none ∷ []
 unfolding open-misread
 uncommitted-entry = refl
 

@@ -1,8 +1,7 @@
 -- Whether the log still rises with one entry more, by the client table alone: so a Request needs no look over the log.
 --     find-put, find-other                   what is found after a row was put
 --     Latest, latest-none, latest-more       the table has each client's latest request of the log; each append keeps this
---     latest-same                            replies don't matter to it
---     unbroken                               two entries that do not break
+--     unbroken, risen                        two entries that do not break
 --     latest-lift                            what the table then says of one entry more
 -- Assumes nothing.
 use Prim.Native.Nat.{ℕ, _≤_, _<_}
@@ -74,16 +73,6 @@ pub latest-none : Latest [] []
 unfolding find
 latest-none = record { known = tt; among = λ c p. absurd (false≢true p) }
 
--- by what is found of each client, replies aside
-pub latest-same : (t t′ : List ClientEntry) (es : List Entry) → ((c : ℕ) → find t c .there ≡ find t′ c .there)
-    → ((c : ℕ) → find t c .request ≡ find t′ c .request) → Latest t es → Latest t′ es
-latest-same t t′ es p q l =
-    record { known = go es (l .known); among = λ c h. rw (← q c) (l .among c (p c ∙ h)) }
-  where
-    go : (xs : List Entry) → AllKnown t xs → AllKnown t′ xs
-    go [] k = tt
-    go (x ∷ xs) k = ((sym (p (x .client)) ∙ k .0 .0, omega (arith, q (x .client), k .0 .1)), go xs (k .1))
-
 -- ---- one entry more
 
 among-front : (c r : ℕ) (es fs : List Entry) → Among c r es → Among c r (es ++ fs)
@@ -106,7 +95,7 @@ module _ (e : Entry) where
   unfolding breaksAt
   broken x p h = and-true _ _ (eq-eqb (x .client) (e .client) p) (le-leb (e .request) (x .request) h)
 
-  risen : (x : Entry) → breaksAt x e ≡ false → x .client ≡ e .client → x .request < e .request
+  pub risen : (x : Entry) → breaksAt x e ≡ false → x .client ≡ e .client → x .request < e .request
   unfolding breaksAt _and_
   risen x b p = leb-false (e .request) (x .request) (rw (eq-eqb (x .client) (e .client) p) at b)
 

@@ -3,6 +3,7 @@ pub mod TableLaws
 pub mod StepLaws
 pub mod LogLift
 pub mod LatestLaws
+pub mod TableOf
 pub mod AskedLaws
 pub mod ExamplesHold
 pub mod Open

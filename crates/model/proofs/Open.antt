@@ -6,7 +6,7 @@ use Rattle.entries.specs.Entries.{operationOf, encodeEntry, operationOk, entryO
 use Rattle.entries.specs.Rising.{breaksAt, follows, rising}
 use Rattle.fees.specs.Takings.{takingsAfter}
 use Rattle.fees.specs.Fees.{rule}
-use Rattle.model.specs.Book.{outcome, totalsAfter, through, resultsOf, find, put, entryRow, append, appendAll, keep, commitOne, commitAll, dueEntries, commitUpTo, repliesOf, commitReplies, keptFor, rebuilt, install, sameEntry, agree, emptyBook}
+use Rattle.model.specs.Book.{outcome, totalsAfter, through, resultsOf, find, put, entryRow, append, appendAll, keep, commitOne, commitAll, dueEntries, commitUpTo, repliesOf, commitReplies, rebuilt, tableOf, install, sameEntry, agree, emptyBook}
 use Rattle.numbers.specs.Numbers.{big, num, within}
 use Rattle.numbers.specs.Cells.{packed, cells}
 use Rattle.config.specs.Setup.{primaryOf, setupOk}
@@ -26,15 +26,15 @@ use Rattle.model.specs.Examples.{saw, sawRefused, answerSeen, answer, se
 use Rattle.model.specs.ExampleFrames.{heartbeats, request70, request71, request80, prepares, prepare1, prepare2, prepareOk1, prepareOk2, prepareOk3, theReply, callsFor1, callsFor2, callsFor3, callsFor4}
 use Rattle.model.specs.Marked.{e70, zeros8, paid8, bare3, onItsOwn, askedOnce, firstAck, paid, first, ticksOnly, badFrames, two, full, again, short, marked}
 use Rattle.model.specs.Directed.{step, told, answers, ends, ranFrom, fee, A, B, C, entriesBytes, requestFrameTo, prepareTo, prepareOkTo, commitTo, getStateTo, newStateTo, callTo, reportFrameTo, startViewTo, recoveryTo, bareResponseTo, responseTo, paidReply, totals3, untouched, noneStored, acks2}
-use Rattle.model.specs.Misread.{fourAcked, tie, tieBack, viewFirst, greatest, heardInNormal, excess, catchesUp, resentAgain, lostReply, keptReply, oldAcks, exactly, transferTicks, doubled, halfAsks, misread}
-use Rattle.model.specs.Surprises.{bad, pastChosen, acksForAnother, notOwn, recovers, shortens, roomFor, lastView, noOwnAcks, lowerView, latest, laterRecovery, ownAgain, noGetState, unheard, fromCatchingUp, onTheFrame, charge, fiveSorts, atAGlance, surprises}
+use Rattle.model.specs.Misread.{fourAcked, tie, tieBack, viewFirst, greatest, heardInNormal, excess, catchesUp, resentAgain, keptReply, oldAcks, exactly, transferTicks, doubled, halfAsks, misread}
+use Rattle.model.specs.Surprises.{bad, pastChosen, acksForAnother, notOwn, recovers, shortens, roomFor, lastView, noOwnAcks, lowerView, latest, laterRecovery, ownAgain, noGetState, unheard, fromCatchingUp, onTheFrame, charge, fiveSorts, atAGlance, request5, reply5, dropsSix, surprises}
 
 unfoldable pub open-state : Unit {0}
 unfolding isNormal isTransfer isChanging after ignored setPlace setBook setVotes setStore setClock setStatus setAcks opOf
 open-state = tt
 
 unfoldable pub open-book : Unit {0}
-unfolding if_then_else_ _and_ _or_ operationOf breaksAt follows rising rule takingsAfter outcome totalsAfter through resultsOf find put entryRow append appendAll keep commitOne commitAll dueEntries commitUpTo repliesOf commitReplies keptFor rebuilt install sameEntry agree emptyBook
+unfolding if_then_else_ _and_ _or_ operationOf breaksAt follows rising rule takingsAfter outcome totalsAfter through resultsOf find put entryRow append appendAll keep commitOne commitAll dueEntries commitUpTo repliesOf commitReplies rebuilt tableOf install sameEntry agree emptyBook
 open-book = tt
 
 unfoldable pub open-sending : Unit {0}
@@ -78,9 +78,9 @@ unfolding open-examples step told answers ends ranFrom fee A B C entriesBytes re
 open-directed = tt
 
 unfoldable pub open-misread : Unit {0}
-unfolding open-directed fourAcked tie tieBack viewFirst greatest heardInNormal excess catchesUp resentAgain lostReply keptReply oldAcks exactly transferTicks doubled halfAsks misread
+unfolding open-directed fourAcked tie tieBack viewFirst greatest heardInNormal excess catchesUp resentAgain keptReply oldAcks exactly transferTicks doubled halfAsks misread
 open-misread = tt
 
 unfoldable pub open-surprises : Unit {0}
-unfolding open-directed bad pastChosen acksForAnother notOwn recovers shortens roomFor lastView noOwnAcks lowerView latest laterRecovery ownAgain noGetState unheard fromCatchingUp onTheFrame charge fiveSorts atAGlance surprises
+unfolding open-directed bad pastChosen acksForAnother notOwn recovers shortens roomFor lastView noOwnAcks lowerView latest laterRecovery ownAgain noGetState unheard fromCatchingUp onTheFrame charge fiveSorts atAGlance request5 reply5 dropsSix surprises
 open-surprises = tt

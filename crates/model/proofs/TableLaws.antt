@@ -1,5 +1,5 @@
 -- The model's client table.
---     put-rises, keep-rises, rebuilt-rises    client ids stay in rising order
+--     put-rises, keep-rises, table-rises      client ids stay in rising order
 --     put-length, absent                      how many rows, and a client that has none
 --     below, below-le, below-low, below-high  how many rows stand before a client's
 --     find-past, put-there, put-new           find and put by what stands from there on
@@ -20,7 +20,7 @@ use Rattle.numbers.proofs.WordLaws.{split, if-true, if-false, and-left}
 use Rattle.entries.specs.declared.Entry.{Entry}
 use Rattle.fees.specs.declared.Outcome.{Outcome}
 use Rattle.model.specs.State.{ClientEntry, Book}
-use Rattle.model.specs.Book.{Seen, find, put, entryRow, append, appendAll, keep, commitOne, commitAll, dueEntries, commitUpTo, rebuilt, install}
+use Rattle.model.specs.Book.{Seen, find, put, entryRow, append, appendAll, keep, commitOne, commitAll, dueEntries, commitUpTo, rebuilt, tableOf, install}
 use Rattle.model.specs.Book.{Above, Rises}
 use Rattle.model.proofs.BookLaws.{commitAll-log, appendAll-length}
 
@@ -183,12 +183,15 @@ pub keep-rises : (t : List ClientEntry) (e : Entry) (o : Outcome) → Rises t �
 unfolding keep
 keep-rises t e o p = split Rises _ _ _ (λ _. put-rises t _ p) (λ _. p)
 
-pub rebuilt-rises : (old : List ClientEntry) (left : ℕ) (new : List ClientEntry) (es : List Entry) → Rises new → Rises (rebuilt old left new es)
+pub rebuilt-rises : (new : List ClientEntry) (es : List Entry) (os : List Outcome) → Rises new → Rises (rebuilt new es os)
 unfolding rebuilt
-rebuilt-rises old zero new [] p = p
-rebuilt-rises old (suc left) new [] p = p
-rebuilt-rises old zero new (e ∷ es) p = rebuilt-rises old zero _ es (put-rises new _ p)
-rebuilt-rises old (suc left) new (e ∷ es) p = rebuilt-rises old left _ es (put-rises new _ p)
+rebuilt-rises new [] os p = p
+rebuilt-rises new (e ∷ es) [] p = rebuilt-rises _ es [] (put-rises new _ p)
+rebuilt-rises new (e ∷ es) (o ∷ os) p = rebuilt-rises _ es os (put-rises new _ p)
+
+pub table-rises : (log : List Entry) (results : List Outcome) (commit : ℕ) → Rises (tableOf log results commit)
+unfolding tableOf
+table-rises log results commit = rebuilt-rises [] log (take commit results) tt
 
 keep-length : (t : List ClientEntry) (e : Entry) (o : Outcome) → Rises t → length (keep t e o) ≡ length t
 unfolding keep entryRow
@@ -213,12 +216,15 @@ appendAll-table b (e ∷ es) s =
     let r = appendAll-table (append b e) es (put-rises (b .table) (entryRow e none) s) in
     (r .0, one-more (b .table) (entryRow e none) (length es) _ (r .1))
 
-rebuilt-length : (old : List ClientEntry) (left : ℕ) (new : List ClientEntry) (es : List Entry) → length (rebuilt old left new es) ≤ length new + length es
+rebuilt-length : (new : List ClientEntry) (es : List Entry) (os : List Outcome) → length (rebuilt new es os) ≤ length new + length es
 unfolding rebuilt
-rebuilt-length old zero new [] = omega arith
-rebuilt-length old (suc left) new [] = omega arith
-rebuilt-length old zero new (e ∷ es) = one-more new _ (length es) _ (rebuilt-length old zero _ es)
-rebuilt-length old (suc left) new (e ∷ es) = one-more new _ (length es) _ (rebuilt-length old left _ es)
+rebuilt-length new [] os = omega arith
+rebuilt-length new (e ∷ es) [] = one-more new _ (length es) _ (rebuilt-length _ es [])
+rebuilt-length new (e ∷ es) (o ∷ os) = one-more new _ (length es) _ (rebuilt-length _ es os)
+
+pub table-length : (log : List Entry) (results : List Outcome) (commit : ℕ) → length (tableOf log results commit) ≤ length log
+unfolding tableOf
+table-length log results commit = omega (arith, rebuilt-length [] log (take commit results))
 
 commitAll-length : (b : Book) (es : List Entry) → Rises (b .table) → length (commitAll b es .table) ≡ length (b .table)
 unfolding commitAll commitOne
@@ -238,5 +244,5 @@ pub install-fits : (b : Book) (log : List Entry) (j : ℕ)
     → length (commitUpTo (install b log) j .table) ≤ length (commitUpTo (install b log) j .log)
 unfolding commitUpTo install
 install-fits b log j =
-    rw (commitAll-length (install b log) (dueEntries (install b log) j) (rebuilt-rises (b .table) (b .commit) [] log tt), commitAll-log)
-    (omega (arith, rebuilt-length (b .table) (b .commit) [] log))
+    rw (commitAll-length (install b log) (dueEntries (install b log) j) (table-rises log (b .results) (b .commit)), commitAll-log)
+    (table-length log (b .results) (b .commit))

@@ -131,16 +131,17 @@ repliesOf v (e ∷ es) (o ∷ os) = record { view = v; client = e .client; reque
 unfoldable pub commitReplies : ℕ → Book → ℕ → List Reply
 commitReplies v b k = repliesOf v (dueEntries b k) (resultsOf (b .totals) (dueEntries b k))
 
--- The reply that install_log keeps for a committed entry: the old row's, where its number equals.
-unfoldable pub keptFor : List ClientEntry → Entry → Option Outcome
-keptFor old e = if eqb (find old (e .client) .request) (e .request) then find old (e .client) .kept else none
+-- install_log, its table: a row for each entry in the order of the log, with what the entry gave, as far as there are outcomes. A later entry
+-- of a client overwrites an earlier one's row.
+unfoldable pub rebuilt : (new : List ClientEntry) → List Entry → List Outcome → List ClientEntry
+rebuilt new [] os = new
+rebuilt new (e ∷ es) [] = rebuilt (put new (entryRow e none)) es []
+rebuilt new (e ∷ es) (o ∷ os) = rebuilt (put new (entryRow e (some o))) es os
 
--- install_log, its table: built anew in the order of the log, the first `left` entries being the committed ones. A later entry of a
--- client overwrites an earlier one's row.
-unfoldable pub rebuilt : (old : List ClientEntry) (left : ℕ) (new : List ClientEntry) → List Entry → List ClientEntry
-rebuilt old left new [] = new
-rebuilt old zero new (e ∷ es) = rebuilt old zero (put new (entryRow e none)) es
-rebuilt old (suc left) new (e ∷ es) = rebuilt old left (put new (entryRow e (keptFor old e))) es
+-- The client table of a log, `commit` of its entries being committed, which gave these results (document 02, order 6): a client's row is that of
+-- its last entry, and has the outcome and total that this entry gave if it is committed.
+unfoldable pub tableOf : List Entry → List Outcome → (commit : ℕ) → List ClientEntry
+tableOf log results commit = rebuilt [] log (take commit results)
 
 -- install_log
 unfoldable pub install : Book → List Entry → Book
@@ -149,7 +150,7 @@ install b log =
       log = log;
       commit = b .commit;
       results = b .results;
-      table = rebuilt (b .table) (b .commit) [] log;
+      table = tableOf log (b .results) (b .commit);
       totals = b .totals;
       takings = b .takings;
       applied = b .applied;

@@ -136,26 +136,7 @@ resentAgain =
           (votes (acks2 0 0) 0 false) (noneStored 3 0) (clock true 0 0 0);
     }
 
--- "install_log keeps a remembered reply only for a committed entry whose number equals the old row's": the old tableRow has number 6, so the reply to
--- number 5 is lost, for ever.
-unfoldable pub lostReply : Directed
-lostReply =
-    record {
-      setup = setup 3 1 3 8;
-      start = new;
-      steps =
-          step (gets (prepareTo 1 0 1 0 (fee 1 5 10))) 0 (prepareOkTo 0 0 1 1) []
-          ∷ step (gets (prepareTo 1 0 2 1 (fee 1 6 10))) 0 (prepareOkTo 0 0 2 1) []
-          ∷ step (gets (startViewTo 1 1 1 (fee 1 5 10 ∷ []))) 0 (prepareOkTo 1 1 1 1) []
-          ∷ step (gets (requestFrameTo 1 (fee 1 5 10))) 0 [] []
-          ∷ [];
-      last =
-          state (place Normal 1 1 false)
-          (book (fee 1 5 10 ∷ []) 1 (gives 1 10 ∷ []) (tableRow 1 5 none ∷ []) (totals3 10) 10 (fee 1 5 10 ∷ []))
-          (votes (acks2 0 0) 0 false) (noneStored 3 0) (clock true 0 0 0);
-    }
-
--- The same where the number equals: the reply is kept, "a later entry of that client overwrites it", and it goes out with the current view.
+-- An install leaves the reply to a committed entry, and it goes out with the current view; "a later entry of that client overwrites it".
 unfoldable pub keptReply : Directed
 keptReply =
     record {
@@ -270,5 +251,5 @@ fourAcked acks =
 -- all of them
 unfoldable pub misread : List Directed
 misread =
-    tie ∷ tieBack ∷ viewFirst ∷ greatest ∷ heardInNormal ∷ excess ∷ catchesUp ∷ resentAgain ∷ lostReply ∷ keptReply ∷ oldAcks ∷ exactly
+    tie ∷ tieBack ∷ viewFirst ∷ greatest ∷ heardInNormal ∷ excess ∷ catchesUp ∷ resentAgain ∷ keptReply ∷ oldAcks ∷ exactly
     ∷ transferTicks ∷ doubled ∷ halfAsks ∷ []

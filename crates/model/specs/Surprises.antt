@@ -1,4 +1,4 @@
--- Directed examples for the unmarked examples of document 01, for its refusals, for surprises of the Rust, and for the takings of document 02. Assumes nothing.
+-- Directed examples for the unmarked examples of document 01, for its refusals, for surprises of the Rust, and for what document 02 changed. Assumes nothing.
 use Prim.Native.Nat.{ℕ}
 use mathlib.Core.Bool.{true, false}
 use mathlib.Core.List.{List, [], _∷_, _++_}
@@ -314,7 +314,42 @@ atAGlance =
           (votes (acks2 0 0) 0 false) (noneStored 3 0) (clock true 0 0 0);
     }
 
+-- Request to 1: client 1, number 5, Fee, member 3, 100 cents
+unfoldable pub request5 : List ℕ
+request5 =
+    0x00 ∷ 0x00 ∷ 0x00 ∷ 0x23 ∷ 0x01 ∷ 0x01 ∷ 0x01 ∷ 0x00 ∷ 0x00 ∷ 0x00 ∷ 0x00 ∷ 0x00 ∷ 0x00 ∷ 0x00 ∷ 0x01 ∷ 0x00 ∷ 0x00 ∷ 0x00 ∷ 0x00 ∷ 0x00 ∷ 0x00 ∷ 0x00 ∷ 0x05 ∷ 0x01
+    ∷ 0x00 ∷ 0x00 ∷ 0x00 ∷ 0x00 ∷ 0x00 ∷ 0x00 ∷ 0x03 ∷ 0x00 ∷ 0x00 ∷ 0x00 ∷ 0x00 ∷ 0x00 ∷ 0x00 ∷ 0x00 ∷ 0x64 ∷ []
+
+-- its reply, of view 1: outcome 1, total 100
+unfoldable pub reply5 : List ℕ
+reply5 =
+    0x00 ∷ 0x00 ∷ 0x00 ∷ 0x20 ∷ 0x01 ∷ 0x0C ∷ 0x00 ∷ 0x00 ∷ 0x00 ∷ 0x00 ∷ 0x01 ∷ 0x00 ∷ 0x00 ∷ 0x00 ∷ 0x00 ∷ 0x00 ∷ 0x00 ∷ 0x00 ∷ 0x01 ∷ 0x00 ∷ 0x00 ∷ 0x00 ∷ 0x00 ∷ 0x00
+    ∷ 0x00 ∷ 0x00 ∷ 0x05 ∷ 0x01 ∷ 0x00 ∷ 0x00 ∷ 0x00 ∷ 0x00 ∷ 0x00 ∷ 0x00 ∷ 0x00 ∷ 0x64 ∷ []
+
+-- Document 02, order 6: a desk sent 5, then 6, and a view change drops 6. 5, asked again, is answered: with the total of the time when it was applied,
+-- though a fee of another client followed it. 4 is an older number and stays unanswered; 6 is a new one.
+unfoldable pub dropsSix : Directed
+dropsSix =
+    record {
+      setup = setup 3 1 3 8;
+      start = new;
+      steps =
+          step (gets (prepareTo 1 0 1 0 (fee 1 5 100))) 0 (prepareOkTo 0 0 1 1) []
+          ∷ step (gets (prepareTo 1 0 2 1 (fee 2 0 50))) 0 (prepareOkTo 0 0 2 1) []
+          ∷ step (gets (prepareTo 1 0 3 2 (fee 1 6 7))) 0 (prepareOkTo 0 0 3 1) []
+          ∷ step (gets (startViewTo 1 1 2 (fee 1 5 100 ∷ fee 2 0 50 ∷ []))) 0 (prepareOkTo 1 1 2 1) []
+          ∷ step (gets request5) 0 [] reply5
+          ∷ step (gets (requestFrameTo 1 (fee 1 4 1))) 0 [] []
+          ∷ step (gets (requestFrameTo 1 (fee 1 6 7))) 0 (prepareTo 0 1 3 2 (fee 1 6 7) ++ prepareTo 2 1 3 2 (fee 1 6 7)) []
+          ∷ [];
+      last =
+          state (place Normal 1 1 false)
+          (book (fee 1 5 100 ∷ fee 2 0 50 ∷ fee 1 6 7 ∷ []) 2 (gives 1 100 ∷ gives 1 150 ∷ [])
+          (tableRow 1 6 none ∷ tableRow 2 0 (some (gives 1 150)) ∷ []) (totals3 150) 150 (fee 1 5 100 ∷ fee 2 0 50 ∷ []))
+          (votes (0 ∷ 0 ∷ 2 ∷ 0 ∷ 0 ∷ 0 ∷ 0 ∷ 0 ∷ []) 0 false) (noneStored 3 0) (clock true 0 0 0);
+    }
+
 unfoldable pub surprises : List Directed
 surprises =
     pastChosen ∷ acksForAnother ∷ notOwn ∷ recovers ∷ shortens ∷ roomFor ∷ lastView ∷ noOwnAcks ∷ lowerView ∷ latest ∷ laterRecovery ∷ ownAgain
-    ∷ noGetState ∷ unheard ∷ fromCatchingUp ∷ onTheFrame ∷ atAGlance ∷ []
+    ∷ noGetState ∷ unheard ∷ fromCatchingUp ∷ onTheFrame ∷ atAGlance ∷ dropsSix ∷ []

@@ -50,7 +50,6 @@ pub record Long (u : Setup) (l : Lengths) : Type 0 where
   pub acks : l .acks ≡ acksLength u
   pub stored : l .stored ≡ storedLength u
   pub table : l .table ≡ tableLength u
-  pub old : l .old ≡ tableLength u
 
 pub long-is : (u : Setup) (l : Lengths) → lengthsOk u l ≡ true → Long u l
 unfolding lengthsOk
@@ -60,15 +59,13 @@ long-is u l p =
     let c = passes _ _ (b .1) in
     let d = passes _ _ (c .1) in
     let e = passes _ _ (d .1) in
-    let f = passes _ _ (e .1) in
     record {
       log = eqb-true _ _ (a .0);
       results = eqb-true _ _ (b .0);
       totals = eqb-true _ _ (c .0);
       acks = eqb-true _ _ (d .0);
       stored = eqb-true _ _ (e .0);
-      table = eqb-true _ _ (f .0);
-      old = eqb-true _ _ (f .1);
+      table = eqb-true _ _ (e .1);
     }
 
 pub is-long : (u : Setup) (l : Lengths) → Long u l → lengthsOk u l ≡ true
@@ -78,8 +75,7 @@ is-long u l h =
     (passed _ _ (eq-eqb _ _ (h .results))
     (passed _ _ (eq-eqb _ _ (h .totals))
     (passed _ _ (eq-eqb _ _ (h .acks))
-    (passed _ _ (eq-eqb _ _ (h .stored))
-    (passed _ _ (eq-eqb _ _ (h .table)) (eq-eqb _ _ (h .old)))))))
+    (passed _ _ (eq-eqb _ _ (h .stored)) (eq-eqb _ _ (h .table))))))
 
 -- of a setup and the buffers
 pub creatable-is : (u : Setup) (l : Lengths) (b : Bool) → b ≡ creatable u l → not b ≡ false → (setupOk u ≡ true) × Long u l
@@ -89,14 +85,13 @@ creatable-is u l b e h =
     (p .0, long-is u l (p .1))
 
 -- of a state and its memory
-pub record Whole (s : Replica) (m : Memory) (table old : ℕ) : Type 0 where
+pub record Whole (s : Replica) (m : Memory) (table : ℕ) : Type 0 where
   pub gathering : Gathering s m
   pub takings-le : s .takings ≤ mostTakings
   pub table-long : table ≡ tableLength (s .setup)
-  pub old-long : old ≡ tableLength (s .setup)
 
-module _ (s : Replica) (m : Memory) (table old : ℕ) where
-  pub sound-is : sound s (lengthsWith m table old) ≡ true → Whole s m table old
+module _ (s : Replica) (m : Memory) (table : ℕ) where
+  pub sound-is : sound s (lengthsWith m table) ≡ true → Whole s m table
   unfolding sound creatable numbersSound
   sound-is p =
       let a = both _ _ p in
@@ -104,7 +99,7 @@ module _ (s : Replica) (m : Memory) (table old : ℕ) where
       let c = fails _ _ (a .1) in
       let d = fails _ _ (c .1) in
       let e = fails _ _ (d .1) in
-      let h = long-is (s .setup) (lengthsWith m table old) (b .1) in
+      let h = long-is (s .setup) (lengthsWith m table) (b .1) in
       record {
         gathering =
             record {
@@ -123,14 +118,13 @@ module _ (s : Replica) (m : Memory) (table old : ℕ) where
             };
         takings-le = ltb-false _ _ (e .0);
         table-long = h .table;
-        old-long = h .old;
       }
 
-  pub is-sound : Whole s m table old → sound s (lengthsWith m table old) ≡ true
+  pub is-sound : Whole s m table → sound s (lengthsWith m table) ≡ true
   unfolding sound creatable numbersSound
   is-sound h =
       let g = h .gathering in
-      let long : Long (s .setup) (lengthsWith m table old) =
+      let long : Long (s .setup) (lengthsWith m table) =
       record {
         log = g .sound .log-long;
         results = g .sound .results-long;
@@ -138,14 +132,13 @@ module _ (s : Replica) (m : Memory) (table old : ℕ) where
         acks = g .acks-long;
         stored = g .stored-long;
         table = h .table-long;
-        old = h .old-long;
       } in
-      if-true _ _ _ (if-true _ _ _ (g .sound .sized) ∙ is-long (s .setup) (lengthsWith m table old) long)
+      if-true _ _ _ (if-true _ _ _ (g .sound .sized) ∙ is-long (s .setup) (lengthsWith m table) long)
       ∙ failed _ _ (le-ltb _ _ (g .sound .commit-le))
       (failed _ _ (le-ltb _ _ (g .sound .op-le)) (failed _ _ (le-ltb _ _ (h .takings-le)) (g .reports)))
 
   -- a state that passes with its memory passes alone
-  pub whole-alone : Whole s m table old → stateSound s ≡ true
+  pub whole-alone : Whole s m table → stateSound s ≡ true
   unfolding stateSound numbersSound
   whole-alone h =
       let g = h .gathering in

@@ -15,9 +15,9 @@ use Rattle.state.specs.Sound.{gatheredOk}
 use Rattle.book.specs.Memory.{Memory}
 use Rattle.outside.specs.declared.Lengths.{Lengths}
 
--- the lengths of the lent state buffers: of the core's runs, of the client table, of the run for the rows that a rebuild replaces
-abbrev pub lengthsWith : Memory → (table old : ℕ) → Lengths
-lengthsWith m table old =
+-- the lengths of the lent state buffers: of the core's runs and of the client table
+abbrev pub lengthsWith : Memory → (table : ℕ) → Lengths
+lengthsWith m table =
     record {
       log = length (m .runs .log);
       results = length (m .runs .money .results);
@@ -25,7 +25,6 @@ lengthsWith m table old =
       acks = length (m .acks);
       stored = length (m .stored);
       table = table;
-      old = old;
     }
 
 -- refusal 1 on them: each has its fixed length
@@ -36,8 +35,7 @@ lengthsOk u l =
     if not (eqb (l .totals) (totalsLength u)) then false else
     if not (eqb (l .acks) (acksLength u)) then false else
     if not (eqb (l .stored) (storedLength u)) then false else
-    if not (eqb (l .table) (tableLength u)) then false else
-    eqb (l .old) (tableLength u)
+    eqb (l .table) (tableLength u)
 
 -- and on a setup
 unfoldable pub creatable : Setup → Lengths → Bool

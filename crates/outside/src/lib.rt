@@ -12,5 +12,4 @@ pub struct Lengths {
     pub acks: usize,
     pub stored: usize,
     pub table: usize,
-    pub old: usize,
 }

@@ -28,10 +28,7 @@ fn lengths_ok(u: Setup, l: Lengths) -> bool
     if l.stored != reports::judge::place(u.room, u.n) {
         return false;
     }
-    if l.table != 25 * room {
-        return false;
-    }
-    l.old == 25 * room
+    l.table == 25 * room
 }
 
 // Setup and lengths.

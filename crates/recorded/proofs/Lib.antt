@@ -5,4 +5,5 @@ pub mod Hold3
 pub mod Hold4
 pub mod Hold5
 pub mod Hold6
+pub mod Hold7
 pub mod ClientsHold0

@@ -5,4 +5,5 @@ pub mod Runs3
 pub mod Runs4
 pub mod Runs5
 pub mod Runs6
+pub mod Runs7
 pub mod Clients0

@@ -30,14 +30,12 @@ fn fetch_all(
     acks: &mut [u8],
     stored: &mut [u8],
     table: &mut [u8],
-    old: &mut [u8],
 ) {
     memory::fetch(memory, memory::LOG, log);
     memory::fetch(memory, memory::RESULTS, results);
     memory::fetch(memory, memory::TOTALS, totals);
     memory::fetch(memory, memory::ACKS, acks);
     memory::fetch(memory, memory::TABLE, table);
-    memory::fetch(memory, memory::OLD, old);
     memory::fetch(memory, memory::STORED, stored);
 }
 
@@ -50,14 +48,12 @@ fn store_all<'a>(
     acks: &'a [u8],
     stored: &'a [u8],
     table: &'a [u8],
-    old: &'a [u8],
 ) {
     memory::store(memory, memory::LOG, log);
     memory::store(memory, memory::RESULTS, results);
     memory::store(memory, memory::TOTALS, totals);
     memory::store(memory, memory::ACKS, acks);
     memory::store(memory, memory::TABLE, table);
-    memory::store(memory, memory::OLD, old);
     memory::store(memory, memory::STORED, stored);
 }
 
@@ -105,7 +101,6 @@ fn made(
     acks: &mut [u8],
     stored: &mut [u8],
     table: &mut [u8],
-    old: &mut [u8],
     out: &mut [u8],
     reps: &mut [u8],
 ) -> Returned {
@@ -121,7 +116,6 @@ fn made(
             acks,
             stored,
             table,
-            old,
         ),
         ReplicaCall::Recover { view, nonce } => replica::create::recover(
             u,
@@ -133,7 +127,6 @@ fn made(
             acks,
             stored,
             table,
-            old,
             out,
         ),
         ReplicaCall::Message => returned(replica::call::on_message(
@@ -145,7 +138,6 @@ fn made(
             acks,
             stored,
             table,
-            old,
             out,
             reps,
         )),
@@ -157,7 +149,6 @@ fn made(
             acks,
             stored,
             table,
-            old,
             out,
             reps,
         ),
@@ -175,7 +166,6 @@ fn make(g: Given, frame: &[u8], mem: &mut [u8], out: &mut [u8], reps: &mut [u8])
     let mut acks = [0; 8];
     let mut stored = [0; 1792];
     let mut table = [0; 200];
-    let mut old = [0; 200];
     fetch_all(
         mem,
         &mut log,
@@ -184,7 +174,6 @@ fn make(g: Given, frame: &[u8], mem: &mut [u8], out: &mut [u8], reps: &mut [u8])
         &mut acks,
         &mut stored,
         &mut table,
-        &mut old,
     );
     let a = made(
         g,
@@ -195,11 +184,10 @@ fn make(g: Given, frame: &[u8], mem: &mut [u8], out: &mut [u8], reps: &mut [u8])
         &mut acks[0..l],
         &mut stored[0..n],
         &mut table[0..25 * l],
-        &mut old[0..25 * l],
         out,
         reps,
     );
-    store_all(mem, &log, &results, &totals, &acks, &stored, &table, &old);
+    store_all(mem, &log, &results, &totals, &acks, &stored, &table);
     a
 }
 

@@ -1,4 +1,4 @@
-// The replica's four calls, each over tables that are held here: the first `l` rows of two arrays are lent to it, and come back with its answer.
+// The replica's four calls, each over a table that is held here: the first `l` rows of an array are lent to it, and come back with its answer.
 ghost use Prim.Native.Nat.{_≤_};
 use client_table_structs::Row;
 use config::Setup;
@@ -11,16 +11,15 @@ use state::Returned;
 pub struct Left {
     pub answer: Returned,
     pub table: [Row; 8],
-    pub old: [Row; 8],
 }
 
-pub fn with_rows(answer: Returned, table: [Row; 8], old: [Row; 8]) -> Left {
-    Left { answer, table, old }
+pub fn with_rows(answer: Returned, table: [Row; 8]) -> Left {
+    Left { answer, table }
 }
 
 // Of an answer to a frame; the recorded calls name no offset.
-pub fn answered_with_rows(a: WithOffset, table: [Row; 8], old: [Row; 8]) -> Left {
-    with_rows(a.returned, table, old)
+pub fn answered_with_rows(a: WithOffset, table: [Row; 8]) -> Left {
+    with_rows(a.returned, table)
 }
 
 // new
@@ -33,23 +32,12 @@ pub fn create(
     stored: &[u8],
     l: usize,
     table: [Row; 8],
-    old: [Row; 8],
 ) -> Left
     requires { ⌜ l ≤ 8 ⌝ }
 {
     let mut rows = table;
-    let spare = old;
-    let a = replica_structs::create(
-        u,
-        log,
-        results,
-        totals,
-        acks,
-        stored,
-        &mut rows[0..l],
-        &spare[0..l],
-    );
-    with_rows(a, rows, spare)
+    let a = replica_structs::create(u, log, results, totals, acks, stored, &mut rows[0..l]);
+    with_rows(a, rows)
 }
 
 // recover
@@ -65,12 +53,10 @@ pub fn recover(
     out: &mut [u8],
     l: usize,
     table: [Row; 8],
-    old: [Row; 8],
 ) -> Left
     requires { ⌜ l ≤ 8 ⌝ }
 {
     let mut rows = table;
-    let spare = old;
     let a = replica_structs::recover(
         u,
         view,
@@ -81,10 +67,9 @@ pub fn recover(
         acks,
         stored,
         &mut rows[0..l],
-        &spare[0..l],
         out,
     );
-    with_rows(a, rows, spare)
+    with_rows(a, rows)
 }
 
 // on_message
@@ -100,12 +85,10 @@ pub fn on_message(
     reps: &mut [u8],
     l: usize,
     table: [Row; 8],
-    old: [Row; 8],
 ) -> Left
     requires { ⌜ l ≤ 8 ⌝ }
 {
     let mut rows = table;
-    let mut spare = old;
     let a = replica_structs::on_message(
         s,
         frame,
@@ -115,11 +98,10 @@ pub fn on_message(
         acks,
         stored,
         &mut rows[0..l],
-        &mut spare[0..l],
         out,
         reps,
     );
-    answered_with_rows(a, rows, spare)
+    answered_with_rows(a, rows)
 }
 
 // on_idle
@@ -134,12 +116,10 @@ pub fn on_idle(
     reps: &mut [u8],
     l: usize,
     table: [Row; 8],
-    old: [Row; 8],
 ) -> Left
     requires { ⌜ l ≤ 8 ⌝ }
 {
     let mut rows = table;
-    let mut spare = old;
     let a = replica_structs::on_idle(
         s,
         log,
@@ -148,9 +128,8 @@ pub fn on_idle(
         acks,
         stored,
         &mut rows[0..l],
-        &mut spare[0..l],
         out,
         reps,
     );
-    with_rows(a, rows, spare)
+    with_rows(a, rows)
 }

@@ -33,14 +33,12 @@ fn fetch_all(
     acks: &mut [u8],
     stored: &mut [u8],
     table: &mut [u8],
-    old: &mut [u8],
 ) {
     memory::fetch(memory, memory::LOG, log);
     memory::fetch(memory, memory::RESULTS, results);
     memory::fetch(memory, memory::TOTALS, totals);
     memory::fetch(memory, memory::ACKS, acks);
     memory::fetch(memory, memory::TABLE, table);
-    memory::fetch(memory, memory::OLD, old);
     memory::fetch(memory, memory::STORED, stored);
 }
 
@@ -53,14 +51,12 @@ fn store_all<'a>(
     acks: &'a [u8],
     stored: &'a [u8],
     table: &'a [u8],
-    old: &'a [u8],
 ) {
     memory::store(memory, memory::LOG, log);
     memory::store(memory, memory::RESULTS, results);
     memory::store(memory, memory::TOTALS, totals);
     memory::store(memory, memory::ACKS, acks);
     memory::store(memory, memory::TABLE, table);
-    memory::store(memory, memory::OLD, old);
     memory::store(memory, memory::STORED, stored);
 }
 
@@ -99,7 +95,6 @@ fn over_rows(
     g: Given,
     l: usize,
     rows: [Row; 8],
-    spare: [Row; 8],
     frame: &[u8],
     log: &mut [u8],
     results: &mut [u8],
@@ -115,7 +110,7 @@ fn over_rows(
     let u = g.setup;
     let s = g.state;
     match call {
-        ReplicaCall::Create => held::create(u, log, results, totals, acks, stored, l, rows, spare),
+        ReplicaCall::Create => held::create(u, log, results, totals, acks, stored, l, rows),
         ReplicaCall::Recover { view, nonce } => held::recover(
             u,
             view,
@@ -128,7 +123,6 @@ fn over_rows(
             out,
             l,
             rows,
-            spare,
         ),
         ReplicaCall::Message => held::on_message(
             s,
@@ -142,7 +136,6 @@ fn over_rows(
             reps,
             l,
             rows,
-            spare,
         ),
         ReplicaCall::Idle => held::on_idle(
             s,
@@ -155,12 +148,11 @@ fn over_rows(
             reps,
             l,
             rows,
-            spare,
         ),
     }
 }
 
-// The call, its tables read from their bytes and written back.
+// The call, its table read from its bytes and written back.
 fn made(
     g: Given,
     frame: &[u8],
@@ -170,18 +162,15 @@ fn made(
     acks: &mut [u8],
     stored: &mut [u8],
     table: &mut [u8],
-    old: &mut [u8],
     out: &mut [u8],
     reps: &mut [u8],
 ) -> Returned {
     let l = within(g.setup.room) as usize;
     let rows = rows::load(table);
-    let spare = rows::load(old);
     let after = over_rows(
         g,
         l,
         rows,
-        spare,
         frame,
         log,
         results,
@@ -192,9 +181,7 @@ fn made(
         reps,
     );
     let left = after.table;
-    let left_old = after.old;
     rows::save(table, left);
-    rows::save(old, left_old);
     after.answer
 }
 
@@ -209,7 +196,6 @@ fn make(g: Given, frame: &[u8], mem: &mut [u8], out: &mut [u8], reps: &mut [u8])
     let mut acks = [0; 8];
     let mut stored = [0; 1792];
     let mut table = [0; 200];
-    let mut old = [0; 200];
     fetch_all(
         mem,
         &mut log,
@@ -218,7 +204,6 @@ fn make(g: Given, frame: &[u8], mem: &mut [u8], out: &mut [u8], reps: &mut [u8])
         &mut acks,
         &mut stored,
         &mut table,
-        &mut old,
     );
     let a = made(
         g,
@@ -229,11 +214,10 @@ fn make(g: Given, frame: &[u8], mem: &mut [u8], out: &mut [u8], reps: &mut [u8])
         &mut acks[0..l],
         &mut stored[0..n],
         &mut table[0..25 * l],
-        &mut old[0..25 * l],
         out,
         reps,
     );
-    store_all(mem, &log, &results, &totals, &acks, &stored, &table, &old);
+    store_all(mem, &log, &results, &totals, &acks, &stored, &table);
     a
 }
 

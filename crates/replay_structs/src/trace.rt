@@ -366,7 +366,7 @@ fn lines(trace: &[u8], mem: &mut [u8], out: &mut [u8], reps: &mut [u8]) -> Turn 
 
 // A trace replayed: a verdict for each run that has a title, a line for each run that differs, and the counts.
 pub fn replay(trace: &[u8]) {
-    let mut mem = [0; 2592];
+    let mut mem = [0; 2392];
     let mut out = [0; 8192];
     let mut reps = [0; 512];
     say::end(end(lines(trace, &mut mem, &mut out, &mut reps)));

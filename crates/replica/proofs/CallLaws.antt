@@ -24,7 +24,7 @@ use Rattle.client_table.specs.Rows.{followed}
 use Rattle.client_table.specs.declared.Latest.{Latest}
 use Rattle.client_table.specs.declared.Change.{Change}
 use Rattle.client_table_bytes.specs.Layout.{byteRow, rowsOf}
-use Rattle.client_table_bytes.specs.Steps.{RowsLeft, oldAfter}
+use Rattle.client_table_bytes.specs.Steps.{RowsLeft}
 use Rattle.state.specs.Answers.{refusal}
 use Rattle.state.specs.Lengths.{tableLength}
 use Rattle.state.specs.declared.Returned.{Returned}
@@ -41,23 +41,23 @@ use Rattle.replica.specs.Lent.{Lent, lent, Called, called, lengthsOf}
 
 -- ---- the client table
 
-module _ (s : Replica) (a : Returned) (log results table old : List ℕ) where
-  pub follow-refused : (a .code ≡ 0 → ⊥) → tabled a table old ≡ followedBy s a log results table old
+module _ (s : Replica) (a : Returned) (log results table : List ℕ) where
+  pub follow-refused : (a .code ≡ 0 → ⊥) → tabled a table ≡ followedBy s a log results table
   unfolding followedBy if_then_else_
   follow-refused h = rw (ne-eqb (a .code) 0 h)
 
-  pub follow-done : a .code ≡ 0 → (k : Change) → k ≡ changeBy s a → {table′ old′ : List ℕ}
+  pub follow-done : a .code ≡ 0 → (k : Change) → k ≡ changeBy s a → {table′ : List ℕ}
       → RowsLeft (s .setup .room) table table′
       (followed byteRow k (rowsOf (s .setup .room) table) (entries (k .to .0) log) (outcomes (k .done .0) results))
-      → old′ ≡ oldAfter (s .setup .room) k table old → tabled a table′ old′ ≡ followedBy s a log results table old
+      → tabled a table′ ≡ followedBy s a log results table
   unfolding followedBy tableAfter if_then_else_
-  follow-done h k e l o = rw (eq-eqb (a .code) 0 h, l .bytes, o, e)
+  follow-done h k e l = rw (eq-eqb (a .code) 0 h, l .bytes, e)
 
 -- what the core left is what the table needs
-pub stays-follow : (s : Replica) (d : Recorded) (a : Returned) (m : Memory) (table old : ℕ) → setupOk (s .setup) ≡ true → Stays s d
-    → recorded a m ≡ d → table ≡ tableLength (s .setup) → old ≡ tableLength (s .setup)
-    → Following s a (length (m .runs .log)) (length (m .runs .money .results)) table old
-stays-follow s d a m table old ok h e t o =
+pub stays-follow : (s : Replica) (d : Recorded) (a : Returned) (m : Memory) (table : ℕ) → setupOk (s .setup) ≡ true → Stays s d
+    → recorded a m ≡ d → table ≡ tableLength (s .setup)
+    → Following s a (length (m .runs .log)) (length (m .runs .money .results)) table
+stays-follow s d a m table ok h e t =
     let k = subst (λ (x : Recorded). Stays s x) (sym e) h in
     let z = k .setup in
     record {
@@ -67,17 +67,16 @@ stays-follow s d a m table old ok h e t o =
       log-long = rw (← z) (k .gathering .sound .log-long);
       results-long = rw (← z) (k .gathering .sound .results-long);
       table-long = t;
-      old-long = o;
     }
 
-pub followed-is : (s : Replica) (d : Recorded) (a : Returned) (m : Memory) (table old : List ℕ) → recorded a m ≡ d
-    → {r : Returned} {table′ old′ : List ℕ} → tabled r table′ old′ ≡ followedBy s a (m .runs .log) (m .runs .money .results) table old
-    → called r (record { core = m; table = table′; old = old′ }) ≡ following s table old d
+pub followed-is : (s : Replica) (d : Recorded) (a : Returned) (m : Memory) (table : List ℕ) → recorded a m ≡ d
+    → {r : Returned} {table′ : List ℕ} → tabled r table′ ≡ followedBy s a (m .runs .log) (m .runs .money .results) table
+    → called r (record { core = m; table = table′ }) ≡ following s table d
 unfolding following
-followed-is s d a m table old e q =
+followed-is s d a m table e q =
     ap (λ z. withTable m z) q
     ∙ ap
-    (λ (x : Recorded). withTable (x .memory) (followedBy s (x .answer) (x .memory .runs .log) (x .memory .runs .money .results) table old)) e
+    (λ (x : Recorded). withTable (x .memory) (followedBy s (x .answer) (x .memory .runs .log) (x .memory .runs .money .results) table)) e
 
 -- ---- a frame
 
@@ -92,9 +91,9 @@ module _ (s : Replica) (frame : List ℕ) (x : Lent) (j : Checked) (q : j ≡ ch
 
 -- that passed refusals 1 to 6
 pub taken : (s : Replica) (m : Message) (frame : List ℕ) (x : Lent) (l : Latest) → l ≡ latestFor m (s .setup .room) (x .table) → {d : Called}
-    → d ≡ following s (x .table) (x .old) (messageStep m s l frame (x .core)) → d ≡ checkedCall (Passed m) s frame x
+    → d ≡ following s (x .table) (messageStep m s l frame (x .core)) → d ≡ checkedCall (Passed m) s frame x
 unfolding checkedCall
-taken s m frame x l e p = p ∙ ap (λ (y : Latest). following s (x .table) (x .old) (messageStep m s y frame (x .core))) e
+taken s m frame x l e p = p ∙ ap (λ (y : Latest). following s (x .table) (messageStep m s y frame (x .core))) e
 
 -- ---- a tick
 
@@ -103,7 +102,7 @@ module _ (s : Replica) (x : Lent) (b : Bool) (e : b ≡ sound s (lengthsOf x)) w
   unfolding idleCall if_then_else_
   idle-unsound h p = rw (← e, h, p)
 
-  pub idle-done : not b ≡ false → {d : Called} → d ≡ following s (x .table) (x .old) (idleStep s (x .core)) → d ≡ idleCall s x
+  pub idle-done : not b ≡ false → {d : Called} → d ≡ following s (x .table) (idleStep s (x .core)) → d ≡ idleCall s x
   unfolding idleCall if_then_else_
   idle-done h p = rw (← e, h) p
 
@@ -112,7 +111,7 @@ module _ (s : Replica) (x : Lent) (b : Bool) (e : b ≡ sound s (lengthsOf x)) w
 module _ (u : Setup) (x : Lent) {a : Returned} {totals acks out : List ℕ} {d : Started} (e : started a totals acks out ≡ d) where
   abbrev left : (table : List ℕ) → Called
   left table =
-      called a (lent (x .core .runs .log) (x .core .runs .money .results) totals acks (x .core .stored) table (x .old) out (x .core .reps))
+      called a (lent (x .core .runs .log) (x .core .runs .money .results) totals acks (x .core .stored) table out (x .core .reps))
 
   pub stays-cleared : (a .code ≡ 0 → ⊥) → left (x .table) ≡ cleared u x d
   unfolding cleared if_then_else_

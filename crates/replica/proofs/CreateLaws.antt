@@ -31,7 +31,7 @@ use Rattle.model.specs.State.{Reported, Response}
 use Rattle.model.specs.Book.{emptyBook}
 use Rattle.model.specs.ViewChange.{noReports, noAcks}
 use Rattle.model.specs.Recovery.{noResponses}
-use Rattle.layout.specs.Layout.{totalOf, tableOf, Ordered, storeOf, bookOf, modelOf}
+use Rattle.layout.specs.Layout.{totalOf, tableIn, Ordered, storeOf, bookOf, modelOf}
 use Rattle.model.specs.Steps.{newAt}
 use Rattle.layout.proofs.RowLift.{Means}
 use Rattle.layout.proofs.TableLift.{blank-means}
@@ -54,7 +54,7 @@ emptied u x out =
     (over (replicate (acksLength u) 0) (x .core .acks))
     (x .core .stored)
     (over (replicate (tableLength u) 0) (x .table))
-    (x .old) out (x .core .reps)
+    out (x .core .reps)
 
 module _ (u : Setup) (x : Lent) where
   pub cleared-refused : (k : ℕ) (z : Replica) → (k ≡ 0 → ⊥)
@@ -110,8 +110,8 @@ module _ (u : Setup) (x : Lent) (out : List ℕ) (ok : setupOk u ≡ true) (long
   pub new-reads : meaningOf (newIn u status v nonce) (emptied u x out) [] ≡ newAt u status (v .0) nonce
   unfolding emptied modelOf bookOf newAt emptyBook cells
   new-reads =
-      let rows : tableOf byteRow (rowsOf (u .room) (over (replicate (tableLength u) 0) (x .table))) ≡ [] =
-      ap (tableOf byteRow) rows-are ∙ blank .table in
+      let rows : tableIn byteRow (rowsOf (u .room) (over (replicate (tableLength u) 0) (x .table))) ≡ [] =
+      ap (tableIn byteRow) rows-are ∙ blank .table in
       λ i. record {
         place = record { status = status; view = v .0; lastNormal = v .0; catchingUp = false };
         book =
@@ -129,7 +129,7 @@ module _ (u : Setup) (x : Lent) (out : List ℕ) (ok : setupOk u ≡ true) (long
   new-sound : sound t (lengthsOf y) ≡ true
   unfolding emptied
   new-sound =
-      is-sound t (y .core) (length (y .table)) (length (y .old))
+      is-sound t (y .core) (length (y .table))
       record {
         gathering =
             record {
@@ -148,7 +148,6 @@ module _ (u : Setup) (x : Lent) (out : List ℕ) (ok : setupOk u ≡ true) (long
             };
         takings-le = omega arith;
         table-long = written (tableLength u) _ (long .table);
-        old-long = long .old;
       }
 
   none-there : (i : ℕ) → i < u .n → getD (replicate 7 noReport) i noReport .there ≡ false

@@ -16,7 +16,6 @@ use Rattle.entries.specs.declared.Entry.{Entry}
 use Rattle.config.specs.declared.Setup.{Setup}
 use Rattle.frames.specs.declared.Checked.{Checked}
 use Rattle.frames.specs.declared.Checked.the-variants.{Passed, Refused}
-use Rattle.client_table_bytes.specs.Steps.{oldAfter}
 use Rattle.state.specs.Answers.{refusal}
 use Rattle.state.specs.declared.Replica.{Replica}
 use Rattle.steps.specs.Recorded.{Recorded}
@@ -39,6 +38,7 @@ use Rattle.replica.specs.Demands.Chain.{none, more}
 use Rattle.replica.specs.Backed.{callBy, callsIn}
 use Rattle.replica.proofs.KeptLaws.{reached-safe}
 use Rattle.replica.proofs.TakingsLaws.{full-addition}
+use Rattle.replica.proofs.AgainLaws.{answers-in}
 
 -- ---- one answer
 
@@ -63,15 +63,14 @@ module _ (s : Replica) (x : Lent) where
   refuses : (k : ℕ) → Untouched s x (called (refusal k s) x)
   refuses k h = refl
 
-  follows : (d : Recorded) → S.Untouched s (x .core) d → Untouched s x (following s (x .table) (x .old) d)
+  follows : (d : Recorded) → S.Untouched s (x .core) d → Untouched s x (following s (x .table) d)
   unfolding following followedBy
   follows d h =
       let k = changeBy s (d .answer) in
       split (λ (t : Tabled). Untouched s x (withTable (d .memory) t)) (not (eqb (d .answer .code) 0))
-      (tabled (d .answer) (x .table) (x .old))
-      (tabled (d .answer) (tableAfter (s .setup .room) k (x .table) (d .memory .runs .log) (d .memory .runs .money .results))
-      (oldAfter (s .setup .room) k (x .table) (x .old)))
-      (λ _ n. ap (λ (z : Recorded). called (z .answer) (record { core = z .memory; table = x .table; old = x .old })) (h n))
+      (tabled (d .answer) (x .table))
+      (tabled (d .answer) (tableAfter (s .setup .room) k (x .table) (d .memory .runs .log) (d .memory .runs .money .results)))
+      (λ _ n. ap (λ (z : Recorded). called (z .answer) (record { core = z .memory; table = x .table })) (h n))
       (λ f n. absurd (n (eqb-true (d .answer .code) 0 (not-false (eqb (d .answer .code) 0) f))))
 
   checks : (f : List ℕ) (j : Checked) → Untouched s x (checkedCall j s f x)
@@ -97,7 +96,6 @@ module _ (s : Replica) (applied : List Entry) (x y : Lent) (h : HandedBack x y) 
       record {
         core = record { runs = x .core .runs; acks = x .core .acks; stored = x .core .stored; out = y .core .out; reps = y .core .reps };
         table = x .table;
-        old = x .old;
       }
 
   is-other : y ≡ other
@@ -105,7 +103,6 @@ module _ (s : Replica) (applied : List Entry) (x y : Lent) (h : HandedBack x y) 
       λ i. record {
         core = record { runs = h .runs i; acks = h .acks i; stored = h .stored i; out = y .core .out; reps = y .core .reps };
         table = h .table i;
-        old = h .old i;
       }
 
   pub handed-means : meaningOf s y applied ≡ meaningOf s x applied
@@ -191,6 +188,7 @@ chain-goes s x applied s′ x′ k c =
       safe = subst (λ (u : Setup). Safe u (meaningOf s′ x′ (w .applied′))) (w .setup) (reached-safe _ _ (w .kept .reached));
       later = subst (Later (meaningOf s x applied)) (sym (w .is)) (later-reached (s .setup) (meaningOf s x applied) (callsIn s′ x′ s x c) (k .reached));
       takings = λ r p. full-addition s′ x′ (w .applied′) (w .kept) r p;
+      again = answers-in s′ x′ (w .applied′) (w .kept);
     }
 
 -- from a creation, or a recovery, that wasn't refused

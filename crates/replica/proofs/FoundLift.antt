@@ -13,14 +13,14 @@ use Rattle.client_table_bytes.specs.Layout.{byteRow, rowsOf}
 use Rattle.client_table_bytes.specs.Steps.{foundIn, latestOf}
 use Rattle.client_table_bytes.specs.declared.MarkedRow.{MarkedRow}
 use Rattle.client_table_bytes.proofs.LayoutLaws.{byte-lawful, answered-outcome}
-use Rattle.layout.specs.Layout.{tableOf, Ordered}
+use Rattle.layout.specs.Layout.{tableIn, Ordered}
 use Rattle.layout.specs.Shown.{Tells}
 use Rattle.layout.proofs.RowLift.{find-there, find-row}
 use Rattle.outside.specs.Calls.{carriedBy}
 use Rattle.outside.proofs.CallLaws.{told-answered}
 use Rattle.replica.specs.Calls.{latestFor}
 
-pub found-tells : (xs : List MarkedRow) (c : ℕ) → Ordered byteRow xs → Tells (tableOf byteRow xs) c (latestOf (foundIn xs c))
+pub found-tells : (xs : List MarkedRow) (c : ℕ) → Ordered byteRow xs → Tells (tableIn byteRow xs) c (latestOf (foundIn xs c))
 unfolding foundIn
 found-tells xs c o =
     latest-same _ _ _ _ _ _ (sym (find-there byteRow xs o byte-lawful c))

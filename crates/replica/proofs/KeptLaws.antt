@@ -1,6 +1,7 @@
 -- State and memory that calls produced.
 --     whole, fit, row-tells, never-1    what the laws of the handlers ask of them
 --     goes-on                           a state that one call more leads to
+--     reached-safe, reached-settled     what holds of every state that calls lead to
 --     Promised, refused-kept            what a call is to leave: the model's answer, and such memory again; a refusal
 --     step-kept                         a step of the handlers that shows the model's answer, with the table that follows it
 -- Assumes nothing.
@@ -22,8 +23,9 @@ use Rattle.fees.specs.Takings.{mostTakings}
 use Rattle.frames.specs.declared.Message.{Message}
 use Rattle.frames.specs.declared.Message.the-variants.{Request, Prepare, PrepareOk, Commit, GetState, NewState, StartViewChange, DoViewChange, StartView, Recovery, RecoveryResponse}
 use Rattle.client_table.specs.Rows.{followed}
+use Rattle.client_table.proofs.AlikeLaws.{Coded}
 use Rattle.client_table_bytes.specs.Layout.{byteRow, rowOf, rowsOf}
-use Rattle.client_table_bytes.specs.Steps.{RowsLeft, oldAfter}
+use Rattle.client_table_bytes.specs.Steps.{RowsLeft}
 use Rattle.client_table_bytes.specs.declared.MarkedRow as T
 use Rattle.client_table_bytes.proofs.LayoutLaws.{left-size, byte-lawful}
 use Rattle.state.specs.Answers.{refusal}
@@ -35,15 +37,16 @@ use Rattle.handlers.proofs.RunBytes.{RunBytes}
 use Rattle.steps.proofs.Ruled.{RuledBy}
 use Rattle.model.specs.State.{ClientEntry, State, Sent, Reply, Answer, after}
 use Rattle.model.specs.State.Answer.{refused, done}
-use Rattle.layout.specs.Layout.{tableOf, Ordered, bookOf, modelOf}
+use Rattle.layout.specs.Layout.{tableIn, Ordered, bookOf, modelOf}
 use Rattle.model.specs.Steps.{numbersOk}
 use Rattle.layout.specs.Shown.{Given, Did, Shown}
 use Rattle.layout.proofs.RowLift as M
 use Rattle.do_view_change.proofs.BeginLift.{memoryOf, ofRecorded}
+use Rattle.layout.proofs.TableLift.{Settled, answers-coded}
 use Rattle.layout.proofs.FollowLift.{follow-shown}
 use Rattle.replica.proofs.FoundLift.{found-tells}
 use Rattle.handlers.proofs.HandlersLift.{RowTells, Fit}
-use Rattle.safety.specs.Demand.{Call, answer, run, Safe}
+use Rattle.safety.specs.Demand.{Call, answer, run, zeros, Safe}
 use Rattle.safety.proofs.Runs.{demand3}
 use Rattle.safety.proofs.Latest.{safe-rising, safe-latest}
 use Rattle.outside.specs.Calls.{carriedBy, toldOf, changeBy}
@@ -51,7 +54,7 @@ use Rattle.outside.proofs.SoundLaws.{Whole, sound-is, is-sound}
 use Rattle.replica.specs.Calls.{tableAfter, following, latestFor}
 use Rattle.replica.specs.Lent.{Lent, Called, called}
 use Rattle.replica.specs.Meaning.{runsOf, meaningOf, Owned, Reached, Kept, Done, Means, appliedAfter}
-use Rattle.replica.proofs.TableLaws.{refused-follows, done-follows, table-after, old-after}
+use Rattle.replica.proofs.TableLaws.{refused-follows, done-follows, table-after}
 
 -- ---- one call more
 
@@ -77,6 +80,12 @@ Promised s x m d a = Means (s .setup) s x d a × Kept (d .answer .state) (d .len
 pub reached-safe : (u : Setup) (m : State) → Reached u m → Safe u m
 reached-safe u m r = subst (Safe u) (sym (r .is)) (demand3 u (r .first) (r .created) (r .calls) [] .safe)
 
+-- and its table is that of log, results and commit number
+pub reached-settled : (u : Setup) (m : State) → Reached u m → Settled (m .book)
+reached-settled u m r =
+    let s = reached-safe u m r in
+    record { table = s .table-is; count = s .results-count; coded = subst Coded (sym (s .results-are)) (answers-coded (zeros u) (m .book .applied)) }
+
 takings-in : (u : Setup) (m : State) → Safe u m → m .book .takings ≤ mostTakings
 unfolding numbersOk
 takings-in u m s = leb-true _ _ (and-left _ _ (and-right _ _ (and-right _ _ (and-right _ _ (s .never-1)))))
@@ -86,13 +95,13 @@ module _ (s : Replica) (x : Lent) (applied : List Entry) (o : Owned x) (k : Kept
   given = record { state = s; runs = runsOf x; out = x .core .out; reps = x .core .reps }
 
   abbrev pub rows : List ClientEntry
-  rows = tableOf byteRow (rowsOf (s .setup .room) (x .table))
+  rows = tableIn byteRow (rowsOf (s .setup .room) (x .table))
 
   abbrev m : State
   m = meaningOf s x applied
 
-  pub whole : Whole s (x .core) (length (x .table)) (length (x .old))
-  whole = sound-is s (x .core) (length (x .table)) (length (x .old)) (k .sound)
+  pub whole : Whole s (x .core) (length (x .table))
+  whole = sound-is s (x .core) (length (x .table)) (k .sound)
 
   safe : Safe (s .setup) m
   safe = reached-safe (s .setup) m (k .reached)
@@ -140,7 +149,7 @@ module _ (s : Replica) (x : Lent) (applied : List Entry) (o : Owned x) (k : Kept
   -- ---- done
 
   module _ (d : Recorded) (m′ : State) (ms : List Sent) (rs : List Reply) (did : Did given (ofRecorded d) (m .book) m′ ms rs) (stays : Stays s d)
-      (ruled : RuledBy d) (bytes : RunBytes (d .memory .runs)) where
+      (ruled : RuledBy d) (bytes : RunBytes (d .memory .runs)) (r : Reached (s .setup) m′) where
     abbrev t : Replica
     t = d .answer .state
 
@@ -155,7 +164,6 @@ module _ (s : Replica) (x : Lent) (applied : List Entry) (o : Owned x) (k : Kept
           core = d .memory;
           table =
               tableAfter (s .setup .room) (changeBy s (d .answer)) (x .table) (d .memory .runs .log) (d .memory .runs .money .results);
-          old = oldAfter (s .setup .room) (changeBy s (d .answer)) (x .table) (x .old);
         }
 
     table-le : length rows ≤ s .op .0
@@ -169,7 +177,7 @@ module _ (s : Replica) (x : Lent) (applied : List Entry) (o : Owned x) (k : Kept
     means =
         follow-shown given (ofRecorded d) rows applied m′ ms rs did byteRow byte-lawful (s .setup .room) (rowsOf (s .setup .room) (x .table))
         (record { long = cells-length 25 rowOf (s .setup .room) (x .table); table = refl; ordered = k .ordered })
-        table-le op-le
+        table-le op-le (reached-settled (s .setup) m′ r)
 
     table-left : RowsLeft (s .setup .room) (x .table) (left .table) now
     table-left =
@@ -181,30 +189,26 @@ module _ (s : Replica) (x : Lent) (applied : List Entry) (o : Owned x) (k : Kept
 
     state-is : meaningOf t left (m′ .book .applied) ≡ m′
     state-is =
-        ap (λ (l : List ClientEntry). modelOf t (runsOf left) l (m′ .book .applied)) (ap (tableOf byteRow) rows-are ∙ means .table) ∙ did .state
+        ap (λ (l : List ClientEntry). modelOf t (runsOf left) l (m′ .book .applied)) (ap (tableIn byteRow) rows-are ∙ means .table) ∙ did .state
 
     -- the sum of a state that calls lead to is in its range
-    takings-most : Reached (s .setup) m′ → t .takings ≤ mostTakings
+    takings-most : t .takings ≤ mostTakings
     unfolding modelOf bookOf
-    takings-most r = omega (arith, takings-in (s .setup) m′ (reached-safe (s .setup) m′ r), ap (λ (q : State). q .book .takings) (did .state))
+    takings-most = omega (arith, takings-in (s .setup) m′ (reached-safe (s .setup) m′ r), ap (λ (q : State). q .book .takings) (did .state))
 
-    left-whole : Reached (s .setup) m′ → Whole t (left .core) (length (left .table)) (length (left .old))
-    left-whole r =
+    left-whole : Whole t (left .core) (length (left .table))
+    left-whole =
         record {
           gathering = stays .gathering;
-          takings-le = takings-most r;
+          takings-le = takings-most;
           table-long =
               left-size (omega (arith, whole .table-long)) table-left ∙ whole .table-long ∙ ap tableLength (sym (stays .setup));
-          old-long =
-              old-after (s .setup .room) (changeBy s (d .answer)) (x .table) (x .old) (omega (arith, whole .old-long))
-              ∙ whole .old-long
-              ∙ ap tableLength (sym (stays .setup));
         }
 
-    left-kept : Reached (s .setup) m′ → Kept t left (m′ .book .applied)
-    left-kept r =
+    left-kept : Kept t left (m′ .book .applied)
+    left-kept =
         record {
-          sound = is-sound t (left .core) (length (left .table)) (length (left .old)) (left-whole r);
+          sound = is-sound t (left .core) (length (left .table)) left-whole;
           log-ok = ruled .log;
           rows-count = ruled .seven;
           stored-ok = ruled .stored;
@@ -226,21 +230,21 @@ module _ (s : Replica) (x : Lent) (applied : List Entry) (o : Owned x) (k : Kept
           reps = did .reps;
         }
 
-    done-kept : Reached (s .setup) m′ → Promised s x m (following s (x .table) (x .old) d) (done m′ ms rs)
+    done-kept : Promised s x m (following s (x .table) d) (done m′ ms rs)
     unfolding after
-    done-kept r =
-        subst (λ (y : Called). Promised s x m y (done m′ ms rs)) (sym (done-follows s (x .table) (x .old) d (did .code)))
-        (left-done, left-kept r)
+    done-kept =
+        subst (λ (y : Called). Promised s x m y (done m′ ms rs)) (sym (done-follows s (x .table) d (did .code)))
+        (left-done, left-kept)
 
   pub step-kept : (d : Recorded) (a : Answer) → Shown given (ofRecorded d) (meaningOf s x applied .book) a → Stays s d → RuledBy d
       → RunBytes (d .memory .runs) → Reached (s .setup) (after (meaningOf s x applied) a)
-      → Promised s x (meaningOf s x applied) (following s (x .table) (x .old) d) a
+      → Promised s x (meaningOf s x applied) (following s (x .table) d) a
   unfolding after
   step-kept d (done m′ ms rs) did stays ruled bytes r = done-kept d m′ ms rs did stays ruled bytes r
   step-kept d (refused i) e stays ruled bytes r =
-      refused-kept i (following s (x .table) (x .old) d)
-      (ap (following s (x .table) (x .old)) is
-      ∙ refused-follows s i (x .table) (x .old) (o .table) (whole .table-long) (x .core))
+      refused-kept i (following s (x .table) d)
+      (ap (following s (x .table)) is
+      ∙ refused-follows s i (x .table) (o .table) (whole .table-long) (x .core))
     where
       is : d ≡ recorded (refusal i s) (x .core)
       is = λ j. recorded (e j .answer) (memoryOf (record { state = s; runs = e j .runs; out = e j .out; reps = e j .reps }))

@@ -2,6 +2,7 @@ pub mod RowLaws
 pub mod TableLaws
 pub mod KeptLaws
 pub mod TakingsLaws
+pub mod AgainLaws
 pub mod CreateLaws
 pub mod StartLaws
 pub mod PromiseLaws

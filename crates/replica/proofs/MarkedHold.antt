@@ -5,9 +5,8 @@
 --     marked-played  the marked examples do
 -- Assumes nothing.
 use mathlib.Core.Path.{_≡_, refl, sym, ap, _∙_, subst}
-use mathlib.Core.Bool.{Bool, true, false}
 use mathlib.Core.List.{List, [], _∷_, _++_}
-use Prim.Native.Nat.{ℕ, zero, suc}
+use Prim.Native.Nat.{ℕ}
 use lib.ListN.{length, take, drop}
 use Rattle.numbers.proofs.WordLaws.{split}
 use Rattle.numbers.specs.Numbers.{over}
@@ -21,19 +20,19 @@ use Rattle.model.specs.Sending.{messagesOut, repliesOut}
 use Rattle.model.specs.Book.{emptyBook}
 use Rattle.model.specs.Steps.{onFrame, onTick, newAt, create}
 use Rattle.outside.specs.Sound.{noReplica}
-use Rattle.replica.specs.Lent.{Lent, Called, called}
-use Rattle.replica.specs.Meaning.{Owned, Kept, Means, meaningOf, appliedAfter, frameAnswer, tickAnswer}
+use Rattle.replica.specs.Lent.{Lent, Called}
+use Rattle.replica.specs.Meaning.{Owned, Kept, Means, meaningOf, appliedAfter}
 use Rattle.replica.specs.Promise.{CreatePromise}
 use Rattle.replica.specs.Demands.{HandedBack}
 use Rattle.replica.proofs.DemandLaws.{handed-means, handed-kept, next-means}
-use Rattle.model.specs.Examples.{Start, Event, SeenCall, saw, sawRefused, answerSeen, answer, seen, starts, seenFrom, Example, ExampleHolds, setup}
+use Rattle.model.specs.Examples.{Event, saw, sawRefused, answerSeen, answer, seen, starts, seenFrom, Example, ExampleHolds, setup}
 use Rattle.model.specs.Examples.Start.{new}
 use Rattle.model.specs.Examples.Event.{idle, idleIn, gets}
 use Rattle.model.specs.Marked.{first, ticksOnly, badFrames, two, full, again, short, marked}
-use Rattle.replica.specs.Marked.{HeardBack, heard, heardIn, each, Areas, CallOf, Played, PlayedSo, AllPlayed}
+use Rattle.replica.specs.Marked.{heard, heardIn, each, CallOf, Played, PlayedSo, AllPlayed}
 use Rattle.replica.specs.Marked.Played.{none, more}
 use Rattle.model.proofs.ExamplesHold.{marked-hold}
-use Rattle.model.proofs.Open.{open-examples, open-marked}
+use Rattle.model.proofs.Open.{open-marked}
 
 take-front : (w s : List ℕ) → take (length w) (w ++ s) ≡ w
 take-front [] s = refl

@@ -24,7 +24,7 @@ use Rattle.replica.specs.Lent.{Lent, Called, lengthsOf}
 
 module _ (s : Replica) (frame : List ℕ) (x : Lent) where
   -- the table changes nothing of the answer
-  followed : (d : Recorded) → (d .answer .code ≡ 2 → ⊥) → Points wellFormed frame (following s (x .table) (x .old) d .answer .code) 0
+  followed : (d : Recorded) → (d .answer .code ≡ 2 → ⊥) → Points wellFormed frame (following s (x .table) d .answer .code) 0
   unfolding following followedBy
   followed d h =
       let p = other-points frame (d .answer .code) h in
@@ -36,7 +36,7 @@ module _ (s : Replica) (frame : List ℕ) (x : Lent) where
       subst (λ (j : Checked). Points wellFormed frame (checkedNumber j .number) (checkedOffset j)) (sym e) (call-points s (lengthsOf x) frame)
   checked-points (Passed m) e =
       let p = passed-is s (lengthsOf x) frame m (sym e) in
-      let g = sound-is s (x .core) (length (x .table)) (length (x .old)) (p .0) .gathering in
+      let g = sound-is s (x .core) (length (x .table)) (p .0) .gathering in
       followed _ (message-suffices s (x .core) g m _ frame (p .1) .formed)
 
   pub message-points : (j : Checked) → j ≡ checkedOf s (lengthsOf x) frame → {d : Called} → d ≡ messageCall s frame x → {p : ℕ} → p ≡ checkedOffset j

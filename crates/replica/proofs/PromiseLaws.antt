@@ -85,12 +85,12 @@ module _ (s : Replica) (x : Lent) (applied : List Entry) (o : Owned x) (k : Kept
   unfolding onTick
   tick-is = if-false _ _ _ (ap not (never-1 s x applied o k))
 
-  idle-is : idleCall s x ≡ following s (x .table) (x .old) (idleStep s (x .core))
+  idle-is : idleCall s x ≡ following s (x .table) (idleStep s (x .core))
   unfolding idleCall
   idle-is = if-false _ _ _ (ap not (k .sound))
 
   stepped-kept : Reached u (after m (sized-to (onIdle u m)))
-      → Promised s x m (following s (x .table) (x .old) (idleStep s (x .core))) (sized-to (onIdle u m))
+      → Promised s x m (following s (x .table) (idleStep s (x .core))) (sized-to (onIdle u m))
   stepped-kept r =
       let g = whole s x applied o k .gathering in
       step-kept s x applied o k (idleStep s (x .core)) _

@@ -32,12 +32,12 @@ Answers x d = Replying (x .core .reps) (d .lent .core .reps) (d .answer .replies
 
 module _ (s : Replica) (x : Lent) where
   -- the table changes nothing of the answer, nor of the area
-  follows : (d : Recorded) → Replying (x .core .reps) (d .memory .reps) (d .answer .replies) → Answers x (following s (x .table) (x .old) d)
+  follows : (d : Recorded) → Replying (x .core .reps) (d .memory .reps) (d .answer .replies) → Answers x (following s (x .table) d)
   unfolding following followedBy
   follows d h = split (λ (t : Tabled). Replying (x .core .reps) (d .memory .reps) (t .answer .replies)) _ _ _ (λ _. h) (λ _. h)
 
   gathers : sound s (lengthsOf x) ≡ true → Gathering s (x .core)
-  gathers p = sound-is s (x .core) (length (x .table)) (length (x .old)) p .gathering
+  gathers p = sound-is s (x .core) (length (x .table)) p .gathering
 
   -- ---- on_message
 

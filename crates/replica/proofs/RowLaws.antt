@@ -19,7 +19,7 @@ use Rattle.entries.specs.declared.Entry.{Entry}
 use Rattle.entries.proofs.SendableLaws.{num-fits}
 use Rattle.fees.specs.Results.{resultOf, ResultFits, outcomes}
 use Rattle.fees.specs.declared.Outcome.{Outcome}
-use Rattle.client_table.specs.Rows.{spotOf, stored, inserted, putRow, appended, replied, rowsCommitted, keptRow, rebuilt, renewed, followed}
+use Rattle.client_table.specs.Rows.{stored, inserted, putRow, appended, replied, rowsCommitted, rebuilt, followed}
 use Rattle.client_table.specs.Shape.{rowAt}
 use Rattle.client_table.specs.declared.Change.{Change}
 use Rattle.client_table_bytes.specs.Layout.{noRow, byteRow, freshOf, rowWith, rowOf, encodeRow, rowsOf}
@@ -100,35 +100,26 @@ committed-fits xs [] os g k f = f
 committed-fits xs (e ∷ es) [] g k f = f
 committed-fits xs (e ∷ es) (o ∷ os) g k f = committed-fits _ es os (g .1) (k .1) (replied-fits xs e o (g .0) (k .0) f)
 
-kept-fits : (old : List MarkedRow) (left : ℕ) (e : Entry) → EntryFits e → Fit old → RowFits (keptRow byteRow old left e)
-unfolding keptRow
-kept-fits old left e g f =
-    let x = row-at-fits old (spotOf byteRow old (e .client)) f in
-    split RowFits _ _ _ (λ _. fresh-fits e g) λ _.
-    split RowFits _ _ _ (λ _. row-of e _ _ g (x .mark) (x .total)) (λ _. fresh-fits e g)
-
-rebuilt-fits : (old : List MarkedRow) (left : ℕ) (new : List MarkedRow) (es : List Entry) → All EntryFits es → Fit old → Fit new
-    → Fit (rebuilt byteRow old left new es)
+rebuilt-fits : (new : List MarkedRow) (es : List Entry) (os : List Outcome) → All EntryFits es → All ResultFits os → Fit new
+    → Fit (rebuilt byteRow new es os)
 unfolding rebuilt
-rebuilt-fits old left new [] g f h = h
-rebuilt-fits old left new (e ∷ es) g f h =
-    rebuilt-fits old (left - 1) _ es (g .1) f (put-fits new _ (kept-fits old left e (g .0) f) h)
+rebuilt-fits new [] os g k f = f
+rebuilt-fits new (e ∷ es) [] g k f = rebuilt-fits _ es [] (g .1) k (put-fits new _ (fresh-fits e (g .0)) f)
+rebuilt-fits new (e ∷ es) (o ∷ os) g k f =
+    rebuilt-fits _ es os (g .1) (k .1) (put-fits new _ (row-of e (o .code) (o .total) (g .0) (k .0 .code) (k .0 .total)) f)
 
 blank-fits : (n : ℕ) → Fit (replicate n noRow)
 blank-fits zero = tt
 blank-fits (suc n) = (row-at-fits [] 0 tt, blank-fits n)
 
-renewed-fits : (k : Change) (xs : List MarkedRow) (log : List Entry) → All EntryFits log → Fit xs → Fit (renewed byteRow k xs log)
-unfolding renewed
-renewed-fits k xs log g f =
-    split Fit _ _ _ (λ _. rebuilt-fits xs (k .commit .0) _ log g f (blank-fits (length xs)))
-    (λ _. appended-fits xs (drop (k .op .0) log) (all-drop EntryFits (k .op .0) log g) f)
-
 pub followed-fits : (k : Change) (xs : List MarkedRow) (log : List Entry) (os : List Outcome) → All EntryFits log → All ResultFits os → All RowFits xs
     → All RowFits (followed byteRow k xs log os)
 unfolding followed
 followed-fits k xs log os g h f =
-    committed-fits _ _ _ (all-drop EntryFits (k .commit .0) log g) (all-drop ResultFits (k .commit .0) os h) (renewed-fits k xs log g f)
+    split Fit _ _ _ (λ _. rebuilt-fits _ log os g h (blank-fits (length xs)))
+    (λ _.
+    committed-fits _ _ _ (all-drop EntryFits (k .commit .0) log g) (all-drop ResultFits (k .commit .0) os h)
+    (appended-fits xs (drop (k .op .0) log) (all-drop EntryFits (k .op .0) log g) f))
 
 -- ---- rows in bytes, read again
 

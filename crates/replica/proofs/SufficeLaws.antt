@@ -44,13 +44,13 @@ listed k h =
 module _ (s : Replica) (x : Lent) where
   -- the table changes nothing of the answer
   follows : (d : Recorded) → Answers (s .setup) (length (x .core .out)) (length (x .core .reps)) (d .answer .code)
-      → Enough (s .setup) x (following s (x .table) (x .old) d)
+      → Enough (s .setup) x (following s (x .table) d)
   unfolding following followedBy
   follows d h =
       split (λ (t : Tabled). Suffices (s .setup) (length (x .core .out)) (length (x .core .reps)) (t .answer .code)) _ _ _ (λ _. h .suffices) (λ _. h .suffices)
 
   gathers : sound s (lengthsOf x) ≡ true → Gathering s (x .core)
-  gathers p = sound-is s (x .core) (length (x .table)) (length (x .old)) p .gathering
+  gathers p = sound-is s (x .core) (length (x .table)) p .gathering
 
   -- ---- on_message
 

@@ -33,8 +33,8 @@ module _ (s : Replica) (x : Lent) (applied : List Entry) (k : Kept s x applied) 
   call-adds : takingsCall s ≡ taken 0 (sum (meaningOf s x applied .book .totals))
   unfolding takingsCall
   call-adds =
-      let w = sound-is s (x .core) (length (x .table)) (length (x .old)) (k .sound) in
-      if-true _ _ _ (whole-alone s (x .core) (length (x .table)) (length (x .old)) w) ∙ ap (taken 0) kept-sum
+      let w = sound-is s (x .core) (length (x .table)) (k .sound) in
+      if-true _ _ _ (whole-alone s (x .core) (length (x .table)) w) ∙ ap (taken 0) kept-sum
 
   pub full-addition : (r : Taken) → TakingsPromise s r → FullAddition s x applied r
   unfolding modelOf bookOf

@@ -22,7 +22,7 @@ use Rattle.client_table.specs.Rows.{followed}
 use Rattle.client_table.specs.declared.Latest.{Latest}
 use Rattle.client_table.specs.declared.Change.{Change}
 use Rattle.client_table_bytes.specs.Layout.{byteRow, encodeRow, rowsOf}
-use Rattle.client_table_bytes.specs.Steps.{foundIn, latestOf, oldAfter}
+use Rattle.client_table_bytes.specs.Steps.{foundIn, latestOf}
 use Rattle.state.specs.Answers.{refusal}
 use Rattle.state.specs.Lengths.{logLength, resultsLength, tableLength}
 use Rattle.state.specs.declared.Returned.{Returned}
@@ -51,44 +51,42 @@ tableAfter n k table log results =
     packed encodeRow (followed byteRow k (rowsOf n table) (entries (k .to .0) log) (outcomes (k .done .0) results))
     ++ drop (25 * n) table
 
--- answer and table runs after a call
+-- answer and table after a call
 pub record Tabled : Type 0 where
   pub answer : Returned
   pub table : List ℕ
-  pub old : List ℕ
 
-abbrev pub tabled : Returned → (table old : List ℕ) → Tabled
-tabled a table old = record { answer = a; table = table; old = old }
+abbrev pub tabled : Returned → (table : List ℕ) → Tabled
+tabled a table = record { answer = a; table = table }
 
 -- the table follows what the core did, s being the state before it; a refused call leaves it
-unfoldable pub followedBy : Replica → Returned → (log results table old : List ℕ) → Tabled
-followedBy s a log results table old =
-    if not (eqb (a .code) 0) then tabled a table old else
-    tabled a (tableAfter (s .setup .room) (changeBy s a) table log results) (oldAfter (s .setup .room) (changeBy s a) table old)
+unfoldable pub followedBy : Replica → Returned → (log results table : List ℕ) → Tabled
+followedBy s a log results table =
+    if not (eqb (a .code) 0) then tabled a table else
+    tabled a (tableAfter (s .setup .room) (changeBy s a) table log results)
 
 -- what its code needs: the state and the runs that the core left are sound
-pub record Following (s : Replica) (a : Returned) (log results table old : ℕ) : Type 0 where
+pub record Following (s : Replica) (a : Returned) (log results table : ℕ) : Type 0 where
   pub sized : setupOk (s .setup) ≡ true
   pub op-le : a .state .op .0 ≤ s .setup .room
   pub commit-le : a .state .commit .0 ≤ a .state .op .0
   pub log-long : log ≡ logLength (s .setup)
   pub results-long : results ≡ resultsLength (s .setup)
   pub table-long : table ≡ tableLength (s .setup)
-  pub old-long : old ≡ tableLength (s .setup)
 
 -- beside what the core left
 abbrev pub withTable : Memory → Tabled → Called
-withTable m d = called (d .answer) (record { core = m; table = d .table; old = d .old })
+withTable m d = called (d .answer) (record { core = m; table = d .table })
 
-unfoldable pub following : Replica → (table old : List ℕ) → Recorded → Called
-following s table old d =
-    withTable (d .memory) (followedBy s (d .answer) (d .memory .runs .log) (d .memory .runs .money .results) table old)
+unfoldable pub following : Replica → (table : List ℕ) → Recorded → Called
+following s table d =
+    withTable (d .memory) (followedBy s (d .answer) (d .memory .runs .log) (d .memory .runs .money .results) table)
 
 -- a frame, by what refusals 1 to 6 say
 unfoldable pub checkedCall : Checked → Replica → (frame : List ℕ) → Lent → Called
 checkedCall (Refused k p) s frame x = called (refusal k s) x
 checkedCall (Passed m) s frame x =
-    following s (x .table) (x .old) (messageStep m s (latestFor m (s .setup .room) (x .table)) frame (x .core))
+    following s (x .table) (messageStep m s (latestFor m (s .setup .room) (x .table)) frame (x .core))
 
 -- on_message
 unfoldable pub messageCall : Replica → (frame : List ℕ) → Lent → Called
@@ -98,7 +96,7 @@ messageCall s frame x = checkedCall (checkedOf s (lengthsOf x) frame) s frame x
 unfoldable pub idleCall : Replica → Lent → Called
 idleCall s x =
     if not (sound s (lengthsOf x)) then called (refusal 1 s) x else
-    following s (x .table) (x .old) (idleStep s (x .core))
+    following s (x .table) (idleStep s (x .core))
 
 -- after a creation the table is zeroed; a refused one leaves it
 unfoldable pub cleared : Setup → Lent → Started → Called
@@ -107,7 +105,6 @@ cleared u x d =
     (record {
       core = startedMemory (x .core) d;
       table = if eqb (d .answer .code) 0 then over (replicate (tableLength u) 0) (x .table) else x .table;
-      old = x .old;
     })
 
 -- new

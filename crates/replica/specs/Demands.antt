@@ -13,6 +13,7 @@ use Rattle.outside.specs.declared.takings.Taken.{Taken}
 use Rattle.replica.specs.Lent.{Lent, Called, called}
 use Rattle.replica.specs.Meaning.{Owned, Kept, meaningOf}
 use Rattle.replica.specs.Promise.{MessagePromise, IdlePromise, TakingsPromise}
+use Rattle.replica.specs.Again.{AnswersIn}
 
 -- Demand 1: a call that is refused leaves the state and every lent byte as they were, with counts of 0.
 abbrev pub Untouched : Replica → Lent → Called → Type 0
@@ -24,7 +25,6 @@ pub record HandedBack (x y : Lent) : Type 0 where
   pub acks : y .core .acks ≡ x .core .acks
   pub stored : y .core .stored ≡ x .core .stored
   pub table : y .table ≡ x .table
-  pub old : y .old ≡ x .old
 
 -- one call: any frame, or a tick
 pub data Link (s : Replica) (x : Lent) (d : Called) : Type 0 where
@@ -44,7 +44,7 @@ pub record FullAddition (s : Replica) (x : Lent) (applied : List Entry) (r : Tak
   pub balanced : r .cents + allRefunds (zeros (s .setup)) applied ≡ allFees (zeros (s .setup)) applied
 
 -- Demand 3 after a chain, from what state s and memory x mean with the entries that were applied: what they mean is safe, and later; who then asks for the
--- takings is answered the full addition.
+-- takings is answered the full addition, and who asks again for a client's latest request, once it is applied, gets its reply.
 pub record GoesOn (s : Replica) (x : Lent) (applied : List Entry) (s′ : Replica) (x′ : Lent) : Type 0 where
   pub applied′ : List Entry
   pub kept : Kept s′ x′ applied′
@@ -52,3 +52,4 @@ pub record GoesOn (s : Replica) (x : Lent) (applied : List Entry) (s′ : Replic
   pub safe : Safe (s .setup) (meaningOf s′ x′ applied′)
   pub later : Later (meaningOf s x applied) (meaningOf s′ x′ applied′)
   pub takings : (r : Taken) → TakingsPromise s′ r → FullAddition s′ x′ applied′ r
+  pub again : AnswersIn s′ x′ applied′

@@ -16,7 +16,7 @@ use Rattle.state.specs.declared.Replica.{Replica}
 use Rattle.model.specs.State.{State, Sent, Reply, Answer, after}
 use Rattle.model.specs.State.Answer.{refused, done}
 use Rattle.model.specs.Sending.{messagesOut, repliesOut}
-use Rattle.layout.specs.Layout.{LentRuns, tableOf, Ordered, modelOf}
+use Rattle.layout.specs.Layout.{LentRuns, tableIn, Ordered, modelOf}
 use Rattle.model.specs.Steps.{onFrame, onTick}
 use Rattle.safety.specs.Demand.{Call, run, Created}
 use Rattle.outside.specs.Sound.{sound}
@@ -35,7 +35,7 @@ runsOf x =
 
 -- what state and memory mean; the applied entries are a history that no byte holds
 abbrev pub meaningOf : Replica → Lent → (applied : List Entry) → State
-meaningOf s x applied = modelOf s (runsOf x) (tableOf byteRow (rowsOf (s .setup .room) (x .table))) applied
+meaningOf s x applied = modelOf s (runsOf x) (tableIn byteRow (rowsOf (s .setup .room) (x .table))) applied
 
 -- what lending byte runs tells
 pub record Owned (x : Lent) : Type 0 where

@@ -82,22 +82,15 @@ fn known_for(m: Message, n: u32, table: &[u8]) -> Known
 }
 
 // The table follows what the core did, `s` being the state before it; a refused call leaves it.
-fn follow(
-    s: Replica,
-    a: Returned,
-    log: &[u8],
-    results: &[u8],
-    table: &mut [u8],
-    old: &mut [u8],
-) -> Returned
-    requires { ⌜ Following s a (length (now log)) (length (now results)) (length (now table)) (length (now old)) ⌝ }
-    ensures { λ r. ⌜ tabled r (last table) (last old) ≡ followedBy s a (was log) (was results) (was table) (was old) ⌝ }
+fn follow(s: Replica, a: Returned, log: &[u8], results: &[u8], table: &mut [u8]) -> Returned
+    requires { ⌜ Following s a (length (now log)) (length (now results)) (length (now table)) ⌝ }
+    ensures { λ r. ⌜ tabled r (last table) ≡ followedBy s a (was log) (was results) (was table) ⌝ }
 {
     if a.code != 0 {
         return a;
     }
     let k = outside::call::change_by(s, a);
-    client_table_bytes::follow(table, s.setup.room as usize, old, log, results, k);
+    client_table_bytes::follow(table, s.setup.room as usize, log, results, k);
     a
 }
 
@@ -109,10 +102,9 @@ fn follow_found(
     log: &[u8],
     results: &[u8],
     table: &mut [u8],
-    old: &[u8],
 ) -> Returned
-    requires { ⌜ Following s a (length (now log)) (length (now results)) (length (now table)) (length (now old)) × (a .code ≡ 0 → AppendsFor (s .setup .room) (changeBy s a) f (now table) (now log)) ⌝ }
-    ensures { λ r. ⌜ tabled r (last table) (was old) ≡ followedBy s a (was log) (was results) (was table) (was old) ⌝ }
+    requires { ⌜ Following s a (length (now log)) (length (now results)) (length (now table)) × (a .code ≡ 0 → AppendsFor (s .setup .room) (changeBy s a) f (now table) (now log)) ⌝ }
+    ensures { λ r. ⌜ tabled r (last table) ≡ followedBy s a (was log) (was results) (was table) ⌝ }
 {
     if a.code != 0 {
         return a;
@@ -133,12 +125,11 @@ fn take(
     acks: &mut [u8],
     stored: &mut [u8],
     table: &mut [u8],
-    old: &mut [u8],
     out: &mut [u8],
     reps: &mut [u8],
 ) -> Returned
-    requires { ⌜ Gathering s (memoryHeld log results totals acks stored out reps) × ((checkFrame (s .setup) (now frame) ≡ Passed m) × ((length (now table) ≡ tableLength (s .setup)) × (length (now old) ≡ tableLength (s .setup)))) ⌝ }
-    ensures { λ a. ⌜ called a (lentAfter log results totals acks stored table old out reps) ≡ checkedCall (Passed m) s (was frame) (lentBefore log results totals acks stored table old out reps) ⌝ }
+    requires { ⌜ Gathering s (memoryHeld log results totals acks stored out reps) × ((checkFrame (s .setup) (now frame) ≡ Passed m) × (length (now table) ≡ tableLength (s .setup))) ⌝ }
+    ensures { λ a. ⌜ called a (lentAfter log results totals acks stored table out reps) ≡ checkedCall (Passed m) s (was frame) (lentBefore log results totals acks stored table out reps) ⌝ }
 {
     let k = known_for(m, s.setup.room, table);
     let latest = k.latest;
@@ -156,9 +147,9 @@ fn take(
         reps,
     );
     if k.carries {
-        return follow_found(s, a, k.found, log, results, table, old);
+        return follow_found(s, a, k.found, log, results, table);
     }
-    follow(s, a, log, results, table, old)
+    follow(s, a, log, results, table)
 }
 
 // on_message: any bytes, in any state, with any memory.
@@ -171,11 +162,10 @@ pub fn on_message(
     acks: &mut [u8],
     stored: &mut [u8],
     table: &mut [u8],
-    old: &mut [u8],
     out: &mut [u8],
     reps: &mut [u8],
 ) -> WithOffset
-    ensures { λ a. ⌜ Keeps (MessagePromise s (was frame)) (a .returned) log results totals acks stored table old out reps × Points wellFormed (was frame) (a .returned .code) (a .offset) ⌝ }
+    ensures { λ a. ⌜ Keeps (MessagePromise s (was frame)) (a .returned) log results totals acks stored table out reps × Points wellFormed (was frame) (a .returned .code) (a .offset) ⌝ }
 {
     let l = Lengths {
         log: log.len(),
@@ -184,7 +174,6 @@ pub fn on_message(
         acks: acks.len(),
         stored: stored.len(),
         table: table.len(),
-        old: old.len(),
     };
     match outside::call::checked(s, l, frame) {
         Checked::Refused { number, offset } => WithOffset {
@@ -202,7 +191,6 @@ pub fn on_message(
                 acks,
                 stored,
                 table,
-                old,
                 out,
                 reps,
             ),
@@ -220,11 +208,10 @@ pub fn on_idle(
     acks: &mut [u8],
     stored: &mut [u8],
     table: &mut [u8],
-    old: &mut [u8],
     out: &mut [u8],
     reps: &mut [u8],
 ) -> Returned
-    ensures { λ a. ⌜ Keeps (IdlePromise s) a log results totals acks stored table old out reps ⌝ }
+    ensures { λ a. ⌜ Keeps (IdlePromise s) a log results totals acks stored table out reps ⌝ }
 {
     let l = Lengths {
         log: log.len(),
@@ -233,13 +220,12 @@ pub fn on_idle(
         acks: acks.len(),
         stored: stored.len(),
         table: table.len(),
-        old: old.len(),
     };
     if !outside::sound::is_sound(s, l) {
         return state::refused(1, s);
     }
     let a = handlers::idle::on_idle(s, log, results, totals, acks, stored, out, reps);
-    follow(s, a, log, results, table, old)
+    follow(s, a, log, results, table)
 }
 
 // takings: the sum over all members that the state keeps, in any state.

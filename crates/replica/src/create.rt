@@ -17,9 +17,8 @@ pub fn create(
     acks: &mut [u8],
     stored: &[u8],
     table: &mut [u8],
-    old: &[u8],
 ) -> Returned
-    ensures { λ a. ⌜ Keeps (CreatePromise u) a log results totals acks stored table old unlent unlent ⌝ }
+    ensures { λ a. ⌜ Keeps (CreatePromise u) a log results totals acks stored table unlent unlent ⌝ }
 {
     let l = Lengths {
         log: log.len(),
@@ -28,7 +27,6 @@ pub fn create(
         acks: acks.len(),
         stored: stored.len(),
         table: table.len(),
-        old: old.len(),
     };
     let a = outside::create::create(u, l, totals, acks);
     if a.code != 0 {
@@ -49,10 +47,9 @@ pub fn recover(
     acks: &mut [u8],
     stored: &[u8],
     table: &mut [u8],
-    old: &[u8],
     out: &mut [u8],
 ) -> Returned
-    ensures { λ a. ⌜ Keeps (RecoverPromise u v nonce) a log results totals acks stored table old out unlent ⌝ }
+    ensures { λ a. ⌜ Keeps (RecoverPromise u v nonce) a log results totals acks stored table out unlent ⌝ }
 {
     let l = Lengths {
         log: log.len(),
@@ -61,7 +58,6 @@ pub fn recover(
         acks: acks.len(),
         stored: stored.len(),
         table: table.len(),
-        old: old.len(),
     };
     let a = outside::create::recover(u, v, nonce, l, totals, acks, out);
     if a.code != 0 {

@@ -10,7 +10,7 @@ use mathlib.Core.List.{List, [], _∷_, _++_, map, append-nil}
 use Prim.Native.Nat.{ℕ, zero, suc, _*_}
 use native.Mathlib.Omega.{arith}
 use lib.Dec.{eqb}
-use lib.ListN.{length, drop, replicate, length-map, drop-of-length-le}
+use lib.ListN.{length, replicate, length-map, drop-of-length-le}
 use borrow.Author.Tests.{ne-eqb}
 use Rattle.numbers.specs.Words.{_and_, All}
 use Rattle.numbers.specs.Numbers.{over, within}
@@ -27,7 +27,7 @@ use Rattle.client_table.specs.Latest.{keptOf}
 use Rattle.client_table.specs.declared.Change.{Change}
 use Rattle.client_table.proofs.LatestLaws.{latest-same}
 use Rattle.client_table.proofs.AlikeLaws.{Alike, Both, Coded, spot-row, there-alike, followed-alike}
-use Rattle.client_table_bytes.specs.Layout.{byteRow, rowWith, rowOf, encodeRow, rowsOf, noRow}
+use Rattle.client_table_bytes.specs.Layout.{byteRow, rowOf, encodeRow, rowsOf, noRow}
 use Rattle.client_table_bytes.specs.Steps.{RowFits, latestOf, foundIn}
 use Rattle.client_table_bytes.specs.declared.MarkedRow as T
 use Rattle.client_table_bytes.proofs.LayoutLaws.{row-codec, left-cleared}
@@ -67,7 +67,6 @@ struct-alike =
       blank = (tt, refl);
       fresh = λ e. (tt, refl);
       answered = λ e o l m. ((l, m), refl);
-      again = λ e x y i. (i .0, ap (λ (z : T.MarkedRow). rowWith e (z .mark) (z .total)) (i .1));
     }
 
 -- ---- rows
@@ -102,7 +101,7 @@ blank-ok zero = tt
 blank-ok (suc n) =
     (record { reply = tt; fits = record { client = omega arith; request = omega arith; mark = omega arith; total = omega arith } }, blank-ok n)
 
-module _ (k : Change) (xs : List Row) (ok : RowsOk xs) (log : List Entry) (os : List Outcome) (coded : Coded (drop (k .commit .0) os)) where
+module _ (k : Change) (xs : List Row) (ok : RowsOk xs) (log : List Entry) (os : List Outcome) (coded : Coded os) where
   abbrev now : List Row
   now = followed structRow k xs log os
 

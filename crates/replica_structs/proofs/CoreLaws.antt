@@ -7,7 +7,7 @@
 --     idle-unsound, idle-done                              a tick
 -- Assumes nothing.
 use mathlib.Core.Path.{_≡_, refl, sym, ap, _∙_, subst}
-use mathlib.Core.Bool.{Bool, true, false, not, false≢true}
+use mathlib.Core.Bool.{Bool, true, false, not}
 use mathlib.Core.List.{List}
 use Prim.Native.Nat.{ℕ, _*_, _≤_, _<_}
 use native.Mathlib.Omega.{arith}
@@ -55,125 +55,119 @@ bytes-same u n ok =
     ∙ sym (ne-eqb (25 * n) (tableLength u) (λ e. omega (arith, e, l, z .room-high))))
     (λ _. refl)
 
--- the table's two runs as the code counts them
-module _ (log results totals acks stored table old : ℕ) {t o : ℕ} (p : t ≡ rowBytes table) (q : o ≡ rowBytes old) where
+-- the table as the code counts it
+module _ (log results totals acks stored table : ℕ) {t : ℕ} (p : t ≡ rowBytes table) where
   abbrev counted : Lengths
-  counted = record { log = log; results = results; totals = totals; acks = acks; stored = stored; table = t; old = o }
+  counted = record { log = log; results = results; totals = totals; acks = acks; stored = stored; table = t }
 
   abbrev meant : Lengths
-  meant = lengthsBy log results totals acks stored table old
+  meant = lengthsBy log results totals acks stored table
 
   creatable-by : (u : Setup) → creatable u counted ≡ creatable u meant
   unfolding creatable lengthsOk
   creatable-by u =
       split₂ (λ (a b : Bool). a ≡ b) (setupOk u) (setupOk u) _ _ _ _ refl
-      (λ ok. rw (p, q, bytes-same u table ok, bytes-same u old ok)) (λ _. refl)
+      (λ ok. rw (p, bytes-same u table ok)) (λ _. refl)
 
   sound-by : (s : Replica) → sound s counted ≡ sound s meant
   unfolding sound
   sound-by s = rw (creatable-by (s .setup))
 
   pub checked-by : (s : Replica) (frame : List ℕ)
-      → checkedOf s (record { log = log; results = results; totals = totals; acks = acks; stored = stored; table = t; old = o }) frame
-      ≡ checkedOf s (lengthsBy log results totals acks stored table old) frame
+      → checkedOf s (record { log = log; results = results; totals = totals; acks = acks; stored = stored; table = t }) frame
+      ≡ checkedOf s (lengthsBy log results totals acks stored table) frame
   unfolding checkedOf
   checked-by s frame = ap (λ (b : Bool). if not b then Refused 1 0 else checkFrame (s .setup) frame) (sound-by s)
 
-module _ (m : Memory) (table old : ℕ) {t o : ℕ} (p : t ≡ rowBytes table) (q : o ≡ rowBytes old) where
-  pub sound-counted : (s : Replica) → sound s (lengthsWith m t o) ≡ sound s (lengthsIn m table old)
-  sound-counted s = sound-by _ _ _ _ _ table old p q s
+module _ (m : Memory) (table : ℕ) {t : ℕ} (p : t ≡ rowBytes table) where
+  pub sound-counted : (s : Replica) → sound s (lengthsWith m t) ≡ sound s (lengthsIn m table)
+  sound-counted s = sound-by _ _ _ _ _ table p s
 
-  creatable-counted : (u : Setup) → creatable u (lengthsWith m t o) ≡ creatable u (lengthsIn m table old)
-  creatable-counted u = creatable-by _ _ _ _ _ table old p q u
+  creatable-counted : (u : Setup) → creatable u (lengthsWith m t) ≡ creatable u (lengthsIn m table)
+  creatable-counted u = creatable-by _ _ _ _ _ table p u
 
   module _ (u : Setup) where
-    created : (totals acks out : List ℕ) → createStep u (lengthsWith m t o) totals acks out ≡ createStep u (lengthsIn m table old) totals acks out
+    created : (totals acks out : List ℕ) → createStep u (lengthsWith m t) totals acks out ≡ createStep u (lengthsIn m table) totals acks out
     unfolding createStep
     created totals acks out = rw (creatable-counted u)
 
     recovered : (v : View) (nonce : ℕ) (totals acks out : List ℕ)
-        → recoverStep u v nonce (lengthsWith m t o) totals acks out ≡ recoverStep u v nonce (lengthsIn m table old) totals acks out
+        → recoverStep u v nonce (lengthsWith m t) totals acks out ≡ recoverStep u v nonce (lengthsIn m table) totals acks out
     unfolding recoverStep
     recovered v nonce totals acks out = rw (creatable-counted u)
 
-    pub create-counted : {d : Started} → d ≡ createStep u (lengthsWith m t o) (m .runs .money .totals) (m .acks) (m .out)
-        → startedIn m d ≡ createCore u table old m
+    pub create-counted : {d : Started} → d ≡ createStep u (lengthsWith m t) (m .runs .money .totals) (m .acks) (m .out)
+        → startedIn m d ≡ createCore u table m
     unfolding createCore
     create-counted e = ap (startedIn m) (e ∙ created (m .runs .money .totals) (m .acks) (m .out))
 
     pub recover-counted : (v : View) (nonce : ℕ) {d : Started}
-        → d ≡ recoverStep u v nonce (lengthsWith m t o) (m .runs .money .totals) (m .acks) (m .out)
-        → startedIn m d ≡ recoverCore u v nonce table old m
+        → d ≡ recoverStep u v nonce (lengthsWith m t) (m .runs .money .totals) (m .acks) (m .out)
+        → startedIn m d ≡ recoverCore u v nonce table m
     unfolding recoverCore
     recover-counted v nonce e = ap (startedIn m) (e ∙ recovered v nonce (m .runs .money .totals) (m .acks) (m .out))
 
 -- what passing it says
-pub gathered : (s : Replica) (m : Memory) (table old : ℕ) → sound s (lengthsIn m table old) ≡ true → Gathering s m × (old ≡ table)
-gathered s m table old e =
-    let w = sound-is s m (25 * table) (25 * old) e in
-    (w .gathering, omega (arith, w .table-long, w .old-long))
+pub gathered : (s : Replica) (m : Memory) (table : ℕ) → sound s (lengthsIn m table) ≡ true → Gathering s m
+gathered s m table e = sound-is s m (25 * table) e .gathering
 
-pub passes : (c : Checked) (s : Replica) (table old : ℕ) (frame : List ℕ) (m : Memory) → c ≡ checkedOf s (lengthsIn m table old) frame
+pub passes : (c : Checked) (s : Replica) (table : ℕ) (frame : List ℕ) (m : Memory) → c ≡ checkedOf s (lengthsIn m table) frame
     → Passes c s frame m
-passes c s table old frame m e y p =
-    let k = passed-is s (lengthsIn m table old) frame y (sym e ∙ p) in
-    (gathered s m table old (k .0) .0, k .1)
+passes c s table frame m e y p =
+    let k = passed-is s (lengthsIn m table) frame y (sym e ∙ p) in
+    (gathered s m table (k .0), k .1)
 
 -- ---- what the table has to follow
 
 -- what its functions need of it
-pub record Ready (table old log results : ℕ) (k : Change) : Type 0 where
+pub record Ready (log results : ℕ) (k : Change) : Type 0 where
   pub log-long : 32 * k .to .0 ≤ log
   pub results-long : 9 * k .done .0 ≤ results
   pub done-le : k .done .0 ≤ k .to .0
-  pub installs : k .installed ≡ true → old ≡ table
 
-nothing-ready : (table old log results : ℕ) → Ready table old log results noChange
-nothing-ready table old log results =
-    record { log-long = omega arith; results-long = omega arith; done-le = omega arith; installs = λ i. absurd (false≢true i) }
+nothing-ready : (log results : ℕ) → Ready log results noChange
+nothing-ready log results =
+    record { log-long = omega arith; results-long = omega arith; done-le = omega arith }
 
-module _ (s : Replica) (table old : ℕ) where
+module _ (s : Replica) where
   abbrev pub ReadyBy : Recorded → Type 0
-  ReadyBy d = Ready table old (length (d .memory .runs .log)) (length (d .memory .runs .money .results)) (changeAfter s (d .answer))
+  ReadyBy d = Ready (length (d .memory .runs .log)) (length (d .memory .runs .money .results)) (changeAfter s (d .answer))
 
   refused-ready : (m : Memory) → ReadyBy (recorded (refusal 1 s) m)
   unfolding changeAfter if_then_else_
-  refused-ready m = nothing-ready table old (length (m .runs .log)) (length (m .runs .money .results))
+  refused-ready m = nothing-ready (length (m .runs .log)) (length (m .runs .money .results))
 
-  stays-ready : (d : Recorded) → Gathering (d .answer .state) (d .memory) → old ≡ table → ReadyBy d
+  stays-ready : (d : Recorded) → Gathering (d .answer .state) (d .memory) → ReadyBy d
   unfolding changeAfter
-  stays-ready d g o =
+  stays-ready d g =
       let z = g .sound in
-      split (Ready table old (length (d .memory .runs .log)) (length (d .memory .runs .money .results))) _ _ _
+      split (Ready (length (d .memory .runs .log)) (length (d .memory .runs .money .results))) _ _ _
       (λ _.
       record {
         log-long = omega (arith, z .op-le, z .log-long);
         results-long = omega (arith, z .op-le, z .commit-le, z .results-long);
         done-le = z .commit-le;
-        installs = λ _. o;
       })
-      (λ _. nothing-ready table old (length (d .memory .runs .log)) (length (d .memory .runs .money .results)))
+      (λ _. nothing-ready (length (d .memory .runs .log)) (length (d .memory .runs .money .results)))
 
   module _ (l : Latest) (frame : List ℕ) (m : Memory) where
-    checked-ready : (c : Checked) → checkFrame (s .setup) frame ≡ c → Gathering s m × (old ≡ table) → ReadyBy (checkedCore c s l frame m)
+    checked-ready : (c : Checked) → checkFrame (s .setup) frame ≡ c → Gathering s m → ReadyBy (checkedCore c s l frame m)
     unfolding checkedCore
-    checked-ready (Refused k p) e g = stays-ready (recorded (refusal k s) m) (g .0) (g .1)
-    checked-ready (Passed y) e g = stays-ready _ (message-stays y s (toldOf y l) frame m (g .0) e .gathering) (g .1)
+    checked-ready (Refused k p) e g = stays-ready (recorded (refusal k s) m) g
+    checked-ready (Passed y) e g = stays-ready _ (message-stays y s (toldOf y l) frame m g e .gathering)
 
-    pub message-ready : (c : Checked) → c ≡ checkedOf s (lengthsIn m table old) frame → ReadyBy (checkedCore c s l frame m)
+    pub message-ready : (table : ℕ) (c : Checked) → c ≡ checkedOf s (lengthsIn m table) frame → ReadyBy (checkedCore c s l frame m)
     unfolding checkedOf checkedCore
-    message-ready c e =
+    message-ready table c e =
         subst (λ (j : Checked). ReadyBy (checkedCore j s l frame m)) (sym e)
         (split (λ (j : Checked). ReadyBy (checkedCore j s l frame m)) _ _ _ (λ _. refused-ready m)
-        (λ f. checked-ready (checkFrame (s .setup) frame) refl (gathered s m table old (not-false _ f))))
+        (λ f. checked-ready (checkFrame (s .setup) frame) refl (gathered s m table (not-false _ f))))
 
-  pub idle-ready : (m : Memory) → ReadyBy (idleCore s table old m)
+  pub idle-ready : (table : ℕ) (m : Memory) → ReadyBy (idleCore s table m)
   unfolding idleCore
-  idle-ready m =
+  idle-ready table m =
       split ReadyBy _ _ _ (λ _. refused-ready m)
-      (λ f.
-      let w = gathered s m table old (not-false _ f) in
-      stays-ready _ (idle-stays s m (w .0) .gathering) (w .1))
+      (λ f. stays-ready _ (idle-stays s m (gathered s m table (not-false _ f)) .gathering))
 
 -- ---- a frame
 
@@ -189,11 +183,11 @@ module _ (c : Checked) (s : Replica) (l : Latest) (frame : List ℕ) (m : Memory
 
 -- ---- a tick
 
-module _ (s : Replica) (table old : ℕ) (m : Memory) (b : Bool) (e : b ≡ sound s (lengthsIn m table old)) where
-  pub idle-unsound : not b ≡ true → {a : Returned} → a ≡ refusal 1 s → recorded a m ≡ idleCore s table old m
+module _ (s : Replica) (table : ℕ) (m : Memory) (b : Bool) (e : b ≡ sound s (lengthsIn m table)) where
+  pub idle-unsound : not b ≡ true → {a : Returned} → a ≡ refusal 1 s → recorded a m ≡ idleCore s table m
   unfolding idleCore if_then_else_
   idle-unsound h p = rw (← e, h, p)
 
-  pub idle-done : not b ≡ false → {d : Recorded} → d ≡ idleStep s m → d ≡ idleCore s table old m
+  pub idle-done : not b ≡ false → {d : Recorded} → d ≡ idleStep s m → d ≡ idleCore s table m
   unfolding idleCore if_then_else_
   idle-done h p = rw (← e, h) p

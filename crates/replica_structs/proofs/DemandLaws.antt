@@ -46,10 +46,10 @@ use Rattle.replica_structs.proofs.CarryLaws.{message-carried, idle-carr
 
 module _ (s : Replica) (x : LentRows) where
   -- the rows follow what the core did: where it left all as it was, they stay
-  follows : (d : Recorded) → S.Untouched s (x .core) d → UntouchedRows s x (followingRows s (x .table) (x .old) d)
+  follows : (d : Recorded) → S.Untouched s (x .core) d → UntouchedRows s x (followingRows s (x .table) d)
   unfolding followingRows
   follows d h n =
-      ap (followingRows s (x .table) (x .old)) (h n) ∙ refused-rows s (x .table) (x .old) (d .answer .code) (x .core)
+      ap (followingRows s (x .table)) (h n) ∙ refused-rows s (x .table) (d .answer .code) (x .core)
 
   checks : (c : Checked) (l : Latest) (frame : List ℕ) → S.Untouched s (x .core) (checkedCore c s l frame (x .core))
   unfolding checkedCore
@@ -59,7 +59,7 @@ module _ (s : Replica) (x : LentRows) where
   pub message-rows-untouched : (frame : List ℕ) (d : CalledRows) → MessageRowsPromise s frame x d → UntouchedRows s x d
   unfolding messageRows checkedRows
   message-rows-untouched frame d p =
-      let c = checkedOf s (lengthsIn (x .core) (length (x .table)) (length (x .old))) frame in
+      let c = checkedOf s (lengthsIn (x .core) (length (x .table))) frame in
       subst (UntouchedRows s x) (sym (p .exact)) (follows _ (checks c (latestAmong (x .table) (clientIn c)) frame))
 
   pub tick-rows-untouched : (d : CalledRows) → IdleRowsPromise s x d → UntouchedRows s x d
@@ -73,12 +73,12 @@ module _ (s : Replica) (x : LentRows) where
 module _ (x : LentRows) where
   -- what is left, by the runs that a creation writes
   abbrev UntouchedBy : Started → Type 0
-  UntouchedBy d = UntouchedRows noReplica x (clearedRows (x .table) (x .old) (startedIn (x .core) d))
+  UntouchedBy d = UntouchedRows noReplica x (clearedRows (x .table) (startedIn (x .core) d))
 
   refuses : (k : ℕ) → (k ≡ 0 → ⊥) → UntouchedBy (started (refusal k noReplica) (x .core .runs .money .totals) (x .core .acks) (x .core .out))
   unfolding clearedRows
   refuses k n _ =
-      ap (λ (l : List Row). calledRows (refusal k noReplica) (record { core = x .core; table = l; old = x .old })) (if-false _ _ _ (ne-eqb k 0 n))
+      ap (λ (l : List Row). calledRows (refusal k noReplica) (record { core = x .core; table = l })) (if-false _ _ _ (ne-eqb k 0 n))
 
   done : (d : Started) → d .answer .code ≡ 0 → UntouchedBy d
   unfolding clearedRows
@@ -103,7 +103,7 @@ module _ (x : LentRows) where
 -- memory handed back, with the rows in bytes
 pub handed : (x y : LentRows) → RowsHandedBack x y → HandedBack (inBytes x) (inBytes y)
 handed x y h =
-    record { runs = h .runs; acks = h .acks; stored = h .stored; table = ap tableBytes (h .table); old = ap tableBytes (h .old) }
+    record { runs = h .runs; acks = h .acks; stored = h .stored; table = ap tableBytes (h .table) }
 
 pub handed-rows : (s : Replica) (applied : List Entry) (x y : LentRows) → RowsHandedBack x y → KeptRows s x applied → KeptRows s y applied
 handed-rows s applied x y h k =

@@ -19,16 +19,16 @@ use Rattle.outside.proofs.CheckedLaws.{call-points}
 use Rattle.replica_structs.specs.Core.{lengthsIn, checkedCore}
 use Rattle.replica_structs.proofs.CoreLaws.{passes}
 
-module _ (s : Replica) (table old : ℕ) (latest : Latest) (frame : List ℕ) (m : Memory) where
-  core-points : (z : Checked) → z ≡ checkedOf s (lengthsIn m table old) frame → Points wellFormed frame (checkedCore z s latest frame m .answer .code) (checkedOffset z)
+module _ (s : Replica) (table : ℕ) (latest : Latest) (frame : List ℕ) (m : Memory) where
+  core-points : (z : Checked) → z ≡ checkedOf s (lengthsIn m table) frame → Points wellFormed frame (checkedCore z s latest frame m .answer .code) (checkedOffset z)
   unfolding checkedCore
   core-points (Refused k q) e =
-      subst (λ (j : Checked). Points wellFormed frame (checkedNumber j .number) (checkedOffset j)) (sym e) (call-points s (lengthsIn m table old) frame)
+      subst (λ (j : Checked). Points wellFormed frame (checkedNumber j .number) (checkedOffset j)) (sym e) (call-points s (lengthsIn m table) frame)
   core-points (Passed y) e =
-      let p = passes (Passed y) s table old frame m e y (λ i. Passed y) in
+      let p = passes (Passed y) s table frame m e y (λ i. Passed y) in
       other-points frame _ (message-suffices s m (p .0) y _ frame (p .1) .formed)
 
   -- what it left, with the offset that it answered
-  pub rows-points : (z : Checked) → z ≡ checkedOf s (lengthsIn m table old) frame → (a : Returned) (left : Memory) → recorded a left ≡ checkedCore z s latest frame m
+  pub rows-points : (z : Checked) → z ≡ checkedOf s (lengthsIn m table) frame → (a : Returned) (left : Memory) → recorded a left ≡ checkedCore z s latest frame m
       → (p : ℕ) → p ≡ checkedOffset z → Points wellFormed frame (a .code) p
   rows-points z e a left h p q = rw (q, ap (λ d. d .answer .code) h) (core-points z e)

@@ -63,8 +63,8 @@ module _ (s : Replica) (x : LentRows) (applied : List Entry) (o : Owned (inBytes
   in-bytes : InBytes (x .core)
   in-bytes = (record { log = o .log; money = record { results = o .results; totals = o .totals } }, o .stored)
 
-  sound-is : sound s (lengthsIn (x .core) (length (x .table)) (length (x .old))) ≡ true
-  sound-is = rw (← bytes-long (x .table), ← bytes-long (x .old)) (kept .kept .sound)
+  sound-is : sound s (lengthsIn (x .core) (length (x .table))) ≡ true
+  sound-is = rw (← bytes-long (x .table)) (kept .kept .sound)
 
   told : (z : Message) → toldOf z (latestAmong (x .table) (carriedBy z .client)) ≡ latestFor z (s .setup .room) (tableBytes (x .table))
   unfolding latestFor
@@ -81,7 +81,7 @@ module _ (s : Replica) (x : LentRows) (applied : List Entry) (o : Owned (inBytes
     checked-keeps (Passed z) e =
         let latest = latestFor z (s .setup .room) (tableBytes (x .table)) in
         let d = messageStep z s latest frame (x .core) in
-        subst (λ (w : Recorded). Keeps (followingRows s (x .table) (x .old) w) (following s (y .table) (y .old) d))
+        subst (λ (w : Recorded). Keeps (followingRows s (x .table) w) (following s (y .table) d))
         (ap (λ (l : Latest). messageStep z s l frame (x .core)) (sym (told z)))
         (step-same s x applied o kept d (sized-to (onChecked (s .setup) (meaningOf s y applied) frame (Passed z)))
         (message-shown c (rows s y applied o (kept .kept)) applied (fit s y applied o (kept .kept)) z latest frame e b
@@ -95,19 +95,19 @@ module _ (s : Replica) (x : LentRows) (applied : List Entry) (o : Owned (inBytes
         (subst (λ (c : Checked). Keeps (checkedRows (checkFrame (s .setup) frame) s frame x) (checkedCall c s frame y))
         (sym (past-1 s (lengthsOf y) frame (kept .kept .sound))) (checked-keeps (checkFrame (s .setup) frame) refl))
 
-  ticked : idleCore s (length (x .table)) (length (x .old)) (x .core) ≡ idleStep s (x .core)
+  ticked : idleCore s (length (x .table)) (x .core) ≡ idleStep s (x .core)
   unfolding idleCore
   ticked = if-false _ _ _ (ap not sound-is)
 
-  tick-is : idleCall s y ≡ following s (y .table) (y .old) (idleStep s (x .core))
+  tick-is : idleCall s y ≡ following s (y .table) (idleStep s (x .core))
   unfolding idleCall
   tick-is = if-false _ _ _ (ap not (kept .kept .sound))
 
   pub idle-same : Keeps (idleRows s x) (idleCall s (inBytes x))
   unfolding idleRows
   idle-same =
-      subst (λ (w : Recorded). Keeps (followingRows s (x .table) (x .old) w) (idleCall s y)) (sym ticked)
-      (subst (Keeps (followingRows s (x .table) (x .old) (idleStep s (x .core)))) (sym tick-is)
+      subst (λ (w : Recorded). Keeps (followingRows s (x .table) w) (idleCall s y)) (sym ticked)
+      (subst (Keeps (followingRows s (x .table) (idleStep s (x .core)))) (sym tick-is)
       (step-same s x applied o kept (idleStep s (x .core)) (sized-to (onIdle (s .setup) (meaningOf s y applied)))
       (idle-shown c (rows s y applied o (kept .kept)) applied (fit s y applied o (kept .kept)))
       (idle-bytes s (x .core) in-bytes .0)))
@@ -116,23 +116,23 @@ module _ (s : Replica) (x : LentRows) (applied : List Entry) (o : Owned (inBytes
 
 module _ (u : Setup) (x : LentRows) where
   abbrev lengths : Lengths
-  lengths = lengthsIn (x .core) (length (x .table)) (length (x .old))
+  lengths = lengthsIn (x .core) (length (x .table))
 
   lengths-same : lengths ≡ lengthsOf (inBytes x)
-  lengths-same = λ i. lengthsWith (x .core) (sym (bytes-long (x .table)) i) (sym (bytes-long (x .old)) i)
+  lengths-same = λ i. lengthsWith (x .core) (sym (bytes-long (x .table)) i)
 
   blank-same : Long u lengths → tableBytes (replicate (length (x .table)) unusedRow) ≡ over (replicate (tableLength u) 0) (tableBytes (x .table))
   blank-same h = sym (blank-bytes (x .table)) ∙ ap (λ (n : ℕ). over (replicate n 0) (tableBytes (x .table))) (h .table)
 
   begun-same : (d : Started) → (d .answer .code ≡ 0 → Long u lengths)
-      → calledBytes (clearedRows (x .table) (x .old) (startedIn (x .core) d)) ≡ cleared u (inBytes x) d
+      → calledBytes (clearedRows (x .table) (startedIn (x .core) d)) ≡ cleared u (inBytes x) d
   unfolding clearedRows cleared
   begun-same d h =
-      ap (λ (t : List ℕ). called (d .answer) (record { core = startedMemory (x .core) d; table = t; old = tableBytes (x .old) }))
+      ap (λ (t : List ℕ). called (d .answer) (record { core = startedMemory (x .core) d; table = t }))
       (split₂ (λ (a : List Row) (b : List ℕ). tableBytes a ≡ b) _ _ _ _ _ _ refl
       (λ e. blank-same (h (eqb-true (d .answer .code) 0 e))) (λ _. refl))
 
-  blank : (d : Recorded) → d .answer .code ≡ 0 → RowsOk (clearedRows (x .table) (x .old) d .lent .table)
+  blank : (d : Recorded) → d .answer .code ≡ 0 → RowsOk (clearedRows (x .table) d .lent .table)
   unfolding clearedRows
   blank d e = rw (if-true _ (replicate (length (x .table)) unusedRow) (x .table) (eq-eqb (d .answer .code) 0 e)) (blank-ok (length (x .table)))
 
@@ -146,7 +146,7 @@ module _ (u : Setup) (x : LentRows) where
 
   pub create-ok : createRows u x .answer .code ≡ 0 → RowsOk (createRows u x .lent .table)
   unfolding createRows clearedRows
-  create-ok = blank (createCore u (length (x .table)) (length (x .old)) (x .core))
+  create-ok = blank (createCore u (length (x .table)) (x .core))
 
   module _ (v : View) (nonce : ℕ) where
     pub recover-same : calledBytes (recoverRows u v nonce x) ≡ recoverCall u v nonce (inBytes x)
@@ -160,4 +160,4 @@ module _ (u : Setup) (x : LentRows) where
 
     pub recover-ok : recoverRows u v nonce x .answer .code ≡ 0 → RowsOk (recoverRows u v nonce x .lent .table)
     unfolding recoverRows clearedRows
-    recover-ok = blank (recoverCore u v nonce (length (x .table)) (length (x .old)) (x .core))
+    recover-ok = blank (recoverCore u v nonce (length (x .table)) (x .core))

@@ -1,7 +1,7 @@
 -- The calls behind the core, as steps of a walk.
 --     ChangeAfter, to-change       `core::change_after`, and what its triple binds outside.      ChangeAnswered, to-answered    `core::change_answered` likewise
 --     Follow, to-follow            `client_table_structs::follow`.      gives-follow    before the call: the log and the results go as `&` for lifetimes of it, the rows for good
---     takes-follow                 behind it: all four are given up
+--     takes-follow                 behind it: all three are given up
 --     Clear, clears                `client_table_structs::clear`: the call, with rows that go for good
 --     nonzero, is-zero             a code, by the test that leaves the table as it is
 -- The call of `follow` itself stands in the walks: antt looks at what a step is given, the rest of the walk, before it knows the context, and of a long walk that is more than it can.
@@ -87,14 +87,14 @@ module _ {M : Type 1} (𝓤 : URA M) (H : Heap 𝓤) (A : Atoms 𝓤) (mem : Mem
   abbrev pub to-answered : Replica → WithOffset → ChangeAnswered .Ghost
   to-answered s ans = ((tt, tt, tt, (s, (ans, tt)), (replicaE .val s ∷ [], (answeredE .val ans ∷ [], tt))), tt)
 
-  abbrev pub to-follow : (log results : Part u8) (table old : Part R) → ℕ → GName → ℕ → GName → (l r : List ℕ) → Change → Follow .Ghost
-  to-follow log results table old ν δ ν′ δ′ l r k = (
+  abbrev pub to-follow : (log results : Part u8) (table : Part R) → ℕ → GName → ℕ → GName → (l r : List ℕ) → Change → Follow .Ghost
+  to-follow log results table ν δ ν′ δ′ l r k = (
     (
-      (table .κ, (old .κ, (ν ∷ [], (ν′ ∷ [], tt)))),
-      (table .q, (old .q, (fullShare, (fullShare, tt)))),
+      (table .κ, (ν ∷ [], (ν′ ∷ [], tt))),
+      (table .q, (fullShare, (fullShare, tt))),
       tt,
-      (as-ref table (table .xs), (as-ref old (old .xs), (ref δ (log .b) (log .o) l, (ref δ′ (results .b) (results .o) r, (k, tt))))),
-      (at table ∷ [], (at old ∷ [], (at log ∷ [], (at results ∷ [], (changeE .val k ∷ [], tt))))),
+      (as-ref table (table .xs), (ref δ (log .b) (log .o) l, (ref δ′ (results .b) (results .o) r, (k, tt)))),
+      (at table ∷ [], (at log ∷ [], (at results ∷ [], (changeE .val k ∷ [], tt)))),
     ),
     tt,
   )
@@ -103,35 +103,35 @@ module _ {M : Type 1} (𝓤 : URA M) (H : Heap 𝓤) (A : Atoms 𝓤) (mem : Mem
   to-clear table = (((table .κ, tt), (table .q, tt), tt, (as-ref table (table .xs), tt), (at table ∷ [], tt)), tt)
 
 -- the slices that `follow` gets, and what is kept of those that it gets as `&`
-abbrev pub to-follow-all : (log results : Part u8) (table old : Part R) → ℕ → GName → ℕ → GName → (l r : List ℕ) → List Lent
-to-follow-all log results table old ν δ ν′ δ′ l r =
-    mut table (named 0) (table .xs) ∷ mut old (named 1) (old .xs)
-    ∷ lent (ν ∷ []) fullShare (ShrSlice (named 2) (ν ∷ []) u8 .own (ref δ (log .b) (log .o) l) (at log ∷ []))
-    ∷ lent (ν′ ∷ []) fullShare (ShrSlice (named 3) (ν′ ∷ []) u8 .own (ref δ′ (results .b) (results .o) r) (at results ∷ [])) ∷ []
+abbrev pub to-follow-all : (log results : Part u8) (table : Part R) → ℕ → GName → ℕ → GName → (l r : List ℕ) → List Lent
+to-follow-all log results table ν δ ν′ δ′ l r =
+    mut table (named 0) (table .xs)
+    ∷ lent (ν ∷ []) fullShare (ShrSlice (named 1) (ν ∷ []) u8 .own (ref δ (log .b) (log .o) l) (at log ∷ []))
+    ∷ lent (ν′ ∷ []) fullShare (ShrSlice (named 2) (ν′ ∷ []) u8 .own (ref δ′ (results .b) (results .o) r) (at results ∷ [])) ∷ []
 
 abbrev kept : Part u8 → List ℕ → ℕ → Fml
 kept p xs ν = LentShared (uintE w8) (p .κ) (p .q) (p .γ) (p .b) (p .o) xs (ν ∷ [])
 
 module _ {M : Type 1} (𝓤 : URA M) (H : Heap 𝓤) (A : Atoms 𝓤) (W : Given 𝓤 H A) (mem : Memory → SProp 𝓤) (run : Routine → Fun 𝓤) {K : Type 0} {Γ : List (Item 𝓤)} {G : Goal 𝓤 H}
-    (log results : Part u8) (table old : Part R) (l r : List ℕ) (e-l : length l ≡ length (log .xs)) (e-r : length r ≡ length (results .xs)) where
+    (log results : Part u8) (table : Part R) (l r : List ℕ) (e-l : length l ≡ length (log .xs)) (e-r : length r ≡ length (results .xs)) where
   pub gives-follow : K → Soaks G → (c : Change) → Is (changeE .R) c (changeE .val c ∷ [])
-      → (c .installed ≡ true → length (old .xs) ≡ length (table .xs)) × ((32 * c .to .0 ≤ length l) × ((9 * c .done .0 ≤ length r) × (c .done .0 ≤ c .to .0)))
-      → ((ν : ℕ) (δ : GName) (ν′ : ℕ) (δ′ : GName) → Seq K W (raw (Follow 𝓤 H A mem run .pre (to-follow 𝓤 H A mem run log results table old ν δ ν′ δ′ l r c)) ∷ ‵ (kept log l ν) ∷ ‵ (kept results r ν′) ∷ Γ) G)
-      → Seq K W (items (mut log (named 0) l ∷ mut results (named 1) r ∷ mut table (named 2) (table .xs) ∷ mut old (named 3) (old .xs) ∷ []) ++ Γ) G
+      → (32 * c .to .0 ≤ length l) × ((9 * c .done .0 ≤ length r) × (c .done .0 ≤ c .to .0))
+      → ((ν : ℕ) (δ : GName) (ν′ : ℕ) (δ′ : GName) → Seq K W (raw (Follow 𝓤 H A mem run .pre (to-follow 𝓤 H A mem run log results table ν δ ν′ δ′ l r c)) ∷ ‵ (kept log l ν) ∷ ‵ (kept results r ν′) ∷ Γ) G)
+      → Seq K W (items (mut log (named 0) l ∷ mut results (named 1) r ∷ mut table (named 2) (table .xs) ∷ []) ++ Γ) G
   gives-follow t z c g needs k =
-      move t (2 ∷ 3 ∷ []) $ share-new (uintE w8) t z (named 1) (named 3) (results .γ) (results .b) (results .o) r (at results ∷ []) (same-at results r e-r) (same-room results r e-r) (λ ν′ δ′.
-      move t (3 ∷ 4 ∷ []) $ share-new (uintE w8) t z (named 0) (named 2) (log .γ) (log .b) (log .o) l (at log ∷ []) (same-at log l e-l) (same-room log l e-l) (λ ν δ.
-      -- [the log; its token; what is kept of it; the results; their token; what is kept of them; the rows; ..; the old rows; ..]
-      move t (6 ∷ 7 ∷ 8 ∷ 9 ∷ 0 ∷ 1 ∷ 3 ∷ 4 ∷ []) $
-      gives W (to-follow-all log results table old ν δ ν′ δ′ l r) (Follow 𝓤 H A mem run .pre (to-follow 𝓤 H A mem run log results table old ν δ ν′ δ′ l r c)) (says ! needs $ hands ! (to-follow-all log results table old ν δ ν′ δ′ l r) (arg changeE c g ∷ [])) $ k ν δ ν′ δ′))
+      move t (2 ∷ 3 ∷ []) $ share-new (uintE w8) t z (named 1) (named 2) (results .γ) (results .b) (results .o) r (at results ∷ []) (same-at results r e-r) (same-room results r e-r) (λ ν′ δ′.
+      move t (3 ∷ 4 ∷ []) $ share-new (uintE w8) t z (named 0) (named 1) (log .γ) (log .b) (log .o) l (at log ∷ []) (same-at log l e-l) (same-room log l e-l) (λ ν δ.
+      -- [the log; its token; what is kept of it; the results; their token; what is kept of them; the rows; ..]
+      move t (6 ∷ 7 ∷ 0 ∷ 1 ∷ 3 ∷ 4 ∷ []) $
+      gives W (to-follow-all log results table ν δ ν′ δ′ l r) (Follow 𝓤 H A mem run .pre (to-follow 𝓤 H A mem run log results table ν δ ν′ δ′ l r c)) (says ! needs $ hands ! (to-follow-all log results table ν δ ν′ δ′ l r) (arg changeE c g ∷ [])) $ k ν δ ν′ δ′))
 
-  pub takes-follow : K → Soaks G → {ν ν′ : ℕ} (ts os : List Row)
-      → Step K W (items (ended log l ∷ ended results r ∷ ended table ts ∷ ended old os ∷ []) ++ Γ) G
-      (‵ (flft (table .κ) (table .q)) ∷ ‵ (flft (old .κ) (old .q)) ∷ ‵ (flft (ν ∷ []) fullShare) ∷ ‵ (flft (ν′ ∷ []) fullShare) ∷ ‵ (finally R (old .γ) os) ∷ ‵ (finally R (table .γ) ts) ∷ ‵ (kept log l ν) ∷ ‵ (kept results r ν′) ∷ Γ) G
-  takes-follow t z ts os = step (λ s.
-      move t (3 ∷ 7 ∷ []) $ back-share (uintE w8) t z (named 1) (results .γ) (results .b) (results .o) r (at results ∷ []) (same-at results r e-r) (same-room results r e-r) $ gives-up u8 t z (named 1) (results .γ) (results .b) (results .o) r (at results ∷ []) $
-      move t (4 ∷ 7 ∷ []) $ back-share (uintE w8) t z (named 0) (log .γ) (log .b) (log .o) l (at log ∷ []) (same-at log l e-l) (same-room log l e-l) $ gives-up u8 t z (named 0) (log .γ) (log .b) (log .o) l (at log ∷ []) $
-      move t (0 ∷ 1 ∷ 2 ∷ 3 ∷ 7 ∷ 4 ∷ 6 ∷ 5 ∷ []) $ s)
+  pub takes-follow : K → Soaks G → {ν ν′ : ℕ} (ts : List Row)
+      → Step K W (items (ended log l ∷ ended results r ∷ ended table ts ∷ []) ++ Γ) G
+      (‵ (flft (table .κ) (table .q)) ∷ ‵ (flft (ν ∷ []) fullShare) ∷ ‵ (flft (ν′ ∷ []) fullShare) ∷ ‵ (finally R (table .γ) ts) ∷ ‵ (kept log l ν) ∷ ‵ (kept results r ν′) ∷ Γ) G
+  takes-follow t z ts = step (λ s.
+      move t (2 ∷ 5 ∷ []) $ back-share (uintE w8) t z (named 1) (results .γ) (results .b) (results .o) r (at results ∷ []) (same-at results r e-r) (same-room results r e-r) $ gives-up u8 t z (named 1) (results .γ) (results .b) (results .o) r (at results ∷ []) $
+      move t (3 ∷ 5 ∷ []) $ back-share (uintE w8) t z (named 0) (log .γ) (log .b) (log .o) l (at log ∷ []) (same-at log l e-l) (same-room log l e-l) $ gives-up u8 t z (named 0) (log .γ) (log .b) (log .o) l (at log ∷ []) $
+      move t (0 ∷ 1 ∷ 2 ∷ 3 ∷ 5 ∷ 4 ∷ []) $ s)
 
 module _ {M : Type 1} (𝓤 : URA M) (H : Heap 𝓤) (A : Atoms 𝓤) (W : Given 𝓤 H A) (mem : Memory → SProp 𝓤) (run : Routine → Fun 𝓤) {K : Type 0} {Γ : List (Item 𝓤)} {En : Env 𝓤 H} {C : Calls 𝓤 H} {Λ : Loops 𝓤 H} {q : Post 𝓤 H} {xs : List Operand} {rest : Body} where
   -- the local for the result stands at entry p of what is left

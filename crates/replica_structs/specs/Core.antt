@@ -25,13 +25,13 @@ use Rattle.outside.specs.Calls.{carriedBy, toldOf, changeBy}
 use Rattle.outside.specs.Creation.{Started, startedMemory, createStep, recoverStep}
 use Rattle.outside.specs.declared.Lengths.{Lengths}
 
--- the lengths of the lent state buffers, with so many rows in the table and in the second one
-abbrev pub lengthsBy : (log results totals acks stored table old : ℕ) → Lengths
-lengthsBy log results totals acks stored table old =
-    record { log = log; results = results; totals = totals; acks = acks; stored = stored; table = 25 * table; old = 25 * old }
+-- the lengths of the lent state buffers, with so many rows in the table
+abbrev pub lengthsBy : (log results totals acks stored table : ℕ) → Lengths
+lengthsBy log results totals acks stored table =
+    record { log = log; results = results; totals = totals; acks = acks; stored = stored; table = 25 * table }
 
-abbrev pub lengthsIn : Memory → (table old : ℕ) → Lengths
-lengthsIn m table old = lengthsWith m (25 * table) (25 * old)
+abbrev pub lengthsIn : Memory → (table : ℕ) → Lengths
+lengthsIn m table = lengthsWith m (25 * table)
 
 -- the client whose row a frame asks for
 unfoldable pub clientIn : Checked → ℕ
@@ -48,21 +48,21 @@ abbrev pub Passes : Checked → Replica → (frame : List ℕ) → Memory → Ty
 Passes c s frame m = (y : Message) → c ≡ Passed y → Gathering s m × (checkFrame (s .setup) frame ≡ Passed y)
 
 -- on_idle
-unfoldable pub idleCore : Replica → (table old : ℕ) → Memory → Recorded
-idleCore s table old m =
-    if not (sound s (lengthsIn m table old)) then recorded (refusal 1 s) m else
+unfoldable pub idleCore : Replica → (table : ℕ) → Memory → Recorded
+idleCore s table m =
+    if not (sound s (lengthsIn m table)) then recorded (refusal 1 s) m else
     idleStep s m
 
 -- new, recover
 abbrev pub startedIn : Memory → Started → Recorded
 startedIn m d = recorded (d .answer) (startedMemory m d)
 
-unfoldable pub createCore : Setup → (table old : ℕ) → Memory → Recorded
-createCore u table old m = startedIn m (createStep u (lengthsIn m table old) (m .runs .money .totals) (m .acks) (m .out))
+unfoldable pub createCore : Setup → (table : ℕ) → Memory → Recorded
+createCore u table m = startedIn m (createStep u (lengthsIn m table) (m .runs .money .totals) (m .acks) (m .out))
 
-unfoldable pub recoverCore : Setup → View → (nonce table old : ℕ) → Memory → Recorded
-recoverCore u v k table old m =
-    startedIn m (recoverStep u v k (lengthsIn m table old) (m .runs .money .totals) (m .acks) (m .out))
+unfoldable pub recoverCore : Setup → View → (nonce table : ℕ) → Memory → Recorded
+recoverCore u v k table m =
+    startedIn m (recoverStep u v k (lengthsIn m table) (m .runs .money .totals) (m .acks) (m .out))
 
 -- what the table has to follow: nothing after a refusal
 abbrev pub noChange : Change

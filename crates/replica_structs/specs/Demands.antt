@@ -21,7 +21,6 @@ pub record RowsHandedBack (x y : LentRows) : Type 0 where
   pub acks : y .core .acks ≡ x .core .acks
   pub stored : y .core .stored ≡ x .core .stored
   pub table : y .table ≡ x .table
-  pub old : y .old ≡ x .old
 
 -- one call: any frame, or a tick
 pub data RowsLink (s : Replica) (x : LentRows) (d : CalledRows) : Type 0 where

@@ -41,7 +41,7 @@ tableBytes xs = packed encodeRow (map byteOf xs)
 
 -- what is lent, and what a call leaves, with the rows in bytes
 abbrev pub inBytes : LentRows → Lent
-inBytes x = record { core = x .core; table = tableBytes (x .table); old = tableBytes (x .old) }
+inBytes x = record { core = x .core; table = tableBytes (x .table) }
 
 abbrev pub calledBytes : CalledRows → Called
 calledBytes d = record { answer = d .answer; lent = inBytes (d .lent) }

@@ -37,10 +37,9 @@ pub fn checked(
     acks: usize,
     stored: usize,
     rows: usize,
-    old: usize,
     frame: &[u8],
 ) -> Checked
-    ensures { λ r. ⌜ r ≡ checkedOf s (lengthsBy log results totals acks stored rows old) (was frame) ⌝ }
+    ensures { λ r. ⌜ r ≡ checkedOf s (lengthsBy log results totals acks stored rows) (was frame) ⌝ }
 {
     let l = Lengths {
         log,
@@ -49,7 +48,6 @@ pub fn checked(
         acks,
         stored,
         table: in_bytes(rows),
-        old: in_bytes(old),
     };
     outside::call::checked(s, l, frame)
 }
@@ -109,7 +107,6 @@ pub fn on_message(
 pub fn on_idle(
     s: Replica,
     rows: usize,
-    old: usize,
     log: &mut [u8],
     results: &mut [u8],
     totals: &mut [u8],
@@ -118,7 +115,7 @@ pub fn on_idle(
     out: &mut [u8],
     reps: &mut [u8],
 ) -> Returned
-    ensures { λ a. ⌜ Does (idleCore s rows old) a log results totals acks stored out reps ⌝ }
+    ensures { λ a. ⌜ Does (idleCore s rows) a log results totals acks stored out reps ⌝ }
 {
     let l = Lengths {
         log: log.len(),
@@ -127,7 +124,6 @@ pub fn on_idle(
         acks: acks.len(),
         stored: stored.len(),
         table: in_bytes(rows),
-        old: in_bytes(old),
     };
     if !outside::sound::is_sound(s, l) {
         return state::refused(1, s);
@@ -139,14 +135,13 @@ pub fn on_idle(
 pub fn create(
     u: Setup,
     rows: usize,
-    old: usize,
     log: &[u8],
     results: &[u8],
     totals: &mut [u8],
     acks: &mut [u8],
     stored: &[u8],
 ) -> Returned
-    ensures { λ a. ⌜ Does (createCore u rows old) a log results totals acks stored unlent unlent ⌝ }
+    ensures { λ a. ⌜ Does (createCore u rows) a log results totals acks stored unlent unlent ⌝ }
 {
     let l = Lengths {
         log: log.len(),
@@ -155,7 +150,6 @@ pub fn create(
         acks: acks.len(),
         stored: stored.len(),
         table: in_bytes(rows),
-        old: in_bytes(old),
     };
     outside::create::create(u, l, totals, acks)
 }
@@ -166,7 +160,6 @@ pub fn recover(
     v: View,
     nonce: u64,
     rows: usize,
-    old: usize,
     log: &[u8],
     results: &[u8],
     totals: &mut [u8],
@@ -174,7 +167,7 @@ pub fn recover(
     stored: &[u8],
     out: &mut [u8],
 ) -> Returned
-    ensures { λ a. ⌜ Does (recoverCore u v nonce rows old) a log results totals acks stored out unlent ⌝ }
+    ensures { λ a. ⌜ Does (recoverCore u v nonce rows) a log results totals acks stored out unlent ⌝ }
 {
     let l = Lengths {
         log: log.len(),
@@ -183,7 +176,6 @@ pub fn recover(
         acks: acks.len(),
         stored: stored.len(),
         table: in_bytes(rows),
-        old: in_bytes(old),
     };
     outside::create::recover(u, v, nonce, l, totals, acks, out)
 }

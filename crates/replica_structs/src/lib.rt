@@ -28,20 +28,10 @@ pub fn create(
     acks: &mut [u8],
     stored: &[u8],
     table: &mut [Row],
-    old: &[Row],
 ) -> Returned
-    ensures { λ a. ⌜ KeepsRows (CreateRowsPromise u) a log results totals acks stored table old unlent unlent ⌝ }
+    ensures { λ a. ⌜ KeepsRows (CreateRowsPromise u) a log results totals acks stored table unlent unlent ⌝ }
 {
-    let a = core::create(
-        u,
-        table.len(),
-        old.len(),
-        log,
-        results,
-        totals,
-        acks,
-        stored,
-    );
+    let a = core::create(u, table.len(), log, results, totals, acks, stored);
     if a.code != 0 {
         return a;
     }
@@ -60,17 +50,15 @@ pub fn recover(
     acks: &mut [u8],
     stored: &[u8],
     table: &mut [Row],
-    old: &[Row],
     out: &mut [u8],
 ) -> Returned
-    ensures { λ a. ⌜ KeepsRows (RecoverRowsPromise u v nonce) a log results totals acks stored table old out unlent ⌝ }
+    ensures { λ a. ⌜ KeepsRows (RecoverRowsPromise u v nonce) a log results totals acks stored table out unlent ⌝ }
 {
     let a = core::recover(
         u,
         v,
         nonce,
         table.len(),
-        old.len(),
         log,
         results,
         totals,
@@ -95,11 +83,10 @@ pub fn on_message(
     acks: &mut [u8],
     stored: &mut [u8],
     table: &mut [Row],
-    old: &mut [Row],
     out: &mut [u8],
     reps: &mut [u8],
 ) -> WithOffset
-    ensures { λ a. ⌜ KeepsRows (MessageRowsPromise s (was frame)) (a .returned) log results totals acks stored table old out reps × Points wellFormed (was frame) (a .returned .code) (a .offset) ⌝ }
+    ensures { λ a. ⌜ KeepsRows (MessageRowsPromise s (was frame)) (a .returned) log results totals acks stored table out reps × Points wellFormed (was frame) (a .returned .code) (a .offset) ⌝ }
 {
     let c = core::checked(
         s,
@@ -109,7 +96,6 @@ pub fn on_message(
         acks.len(),
         stored.len(),
         table.len(),
-        old.len(),
         frame,
     );
     let latest = client_table_structs::latest(table, core::client_in(c));
@@ -126,7 +112,7 @@ pub fn on_message(
         out,
         reps,
     );
-    client_table_structs::follow(table, old, log, results, core::change_answered(s, a));
+    client_table_structs::follow(table, log, results, core::change_answered(s, a));
     a
 }
 
@@ -139,16 +125,14 @@ pub fn on_idle(
     acks: &mut [u8],
     stored: &mut [u8],
     table: &mut [Row],
-    old: &mut [Row],
     out: &mut [u8],
     reps: &mut [u8],
 ) -> Returned
-    ensures { λ a. ⌜ KeepsRows (IdleRowsPromise s) a log results totals acks stored table old out reps ⌝ }
+    ensures { λ a. ⌜ KeepsRows (IdleRowsPromise s) a log results totals acks stored table out reps ⌝ }
 {
     let a = core::on_idle(
         s,
         table.len(),
-        old.len(),
         log,
         results,
         totals,
@@ -157,7 +141,7 @@ pub fn on_idle(
         out,
         reps,
     );
-    client_table_structs::follow(table, old, log, results, core::change_after(s, a));
+    client_table_structs::follow(table, log, results, core::change_after(s, a));
     a
 }
 

@@ -5,20 +5,19 @@ use native.Mathlib.Omega.{arith}
 use mathlib.Core.Path.{_≡_, refl, sym, ap, _∙_}
 use mathlib.Core.Bool.{true}
 use mathlib.Core.List.{List, [], _∷_, _++_, append-assoc, append-nil}
-use mathlib.Core.Option.{none}
 use lib.ListN.{length, take, length-append, length-take, length-drop}
 use lib.Seq.{take-append-le, take-add, take-at, length-take-le}
 use Rattle.entries.specs.Rising.{rising}
 use Rattle.entries.specs.declared.Entry.{Entry}
 use Rattle.config.specs.declared.Setup.{Setup}
 use Rattle.fees.specs.declared.Outcome.{Outcome}
-use Rattle.model.specs.State.{ClientEntry, Book}
-use Rattle.model.specs.Book.{through, resultsOf, takingsThrough, put, entryRow, append, appendAll, commitOne, commitAll, commitUpTo, dueEntries, install, agree, Rises}
-use Rattle.model.proofs.BookLaws.{through-append, answers-append, takings-append, commitAll-log, commitAll-commit, commitAll-applied, commitAll-totals, commitAll-takings, commitAll-results}
+use Rattle.model.specs.State.{Book}
+use Rattle.model.specs.Book.{through, resultsOf, takingsThrough, append, appendAll, commitUpTo, dueEntries, tableOf, install, agree}
+use Rattle.model.proofs.BookLaws.{through-append, answers-length, answers-append, takings-append}
+use Rattle.model.proofs.BookLaws.{commitAll-log, commitAll-commit, commitAll-applied, commitAll-totals, commitAll-takings, commitAll-results}
 use Rattle.model.proofs.BookLaws.{agree-take, agree-le, length-due, appendAll-log, appendAll-length, Rest, appendAll-rest}
-use Rattle.safety.specs.Demand.{bare, rowsLeftBy, zeros}
-use Rattle.model.proofs.TableLaws.{put-rises, keep-rises, rebuilt-rises}
-use Rattle.safety.proofs.Tables.{keep-bare, append-bare, rows-append, rebuilt-bare}
+use Rattle.model.proofs.TableOf.{table-appends, table-commit-to}
+use Rattle.safety.specs.Demand.{zeros}
 
 -- the invariant
 pub record BookInv (u : Setup) (b : Book) : Type 0 where
@@ -26,8 +25,7 @@ pub record BookInv (u : Setup) (b : Book) : Type 0 where
   pub commit-le : b .commit ≤ length (b .log)
   pub log-fits : length (b .log) ≤ u .room
   pub log-rises : rising (b .log) ≡ true
-  pub table-rises : Rises (b .table)
-  pub table-is : bare (b .table) ≡ rowsLeftBy [] (b .log)
+  pub table-is : b .table ≡ tableOf (b .log) (b .results) (b .commit)
   pub totals-are : b .totals ≡ through (zeros u) (b .applied)
   pub takings-are : b .takings ≡ takingsThrough 0 (zeros u) (b .applied)
   pub results-are : b .results ≡ resultsOf (zeros u) (b .applied)
@@ -42,26 +40,18 @@ pub record Grown (u : Setup) (b b′ : Book) : Type 0 where
 abbrev pub Ok : Setup → Book → Book → Type 0
 Ok u b b′ = BookInv u b → Grown u b b′
 
--- a commit of entries keeps the table
-commitAll-table : (b : Book) (es : List Entry) → Rises (b .table) → Rises (commitAll b es .table) × (bare (commitAll b es .table) ≡ bare (b .table))
-unfolding commitAll commitOne
-commitAll-table b [] p = (p, refl)
-commitAll-table b (e ∷ es) p =
-    let r : Rises (commitAll (commitOne b e) es .table) × (bare (commitAll (commitOne b e) es .table) ≡ bare (commitOne b e .table)) =
-    commitAll-table (commitOne b e) es (keep-rises (b .table) e _ p) in
-    (r .0, r .1 ∙ keep-bare (b .table) e _ p)
+-- there is a result for each committed entry
+pub results-counted : (u : Setup) (b : Book) → BookInv u b → length (b .results) ≡ b .commit
+results-counted u b i =
+    ap (λ l. length l) (i .results-are) ∙ answers-length (zeros u) (b .applied) ∙ ap (λ l. length l) (i .applied-is)
+    ∙ length-take-le (b .commit) (b .log) (i .commit-le)
 
 module _ (u : Setup) (b : Book) where
   pub same-ok : Ok u b b
   same-ok i = record { inv = i; commit-up = le-refl _; more = []; grows = sym (append-nil (b .applied)) }
 
-  append-table : (e : Entry) → bare (b .table) ≡ rowsLeftBy [] (b .log) → bare (put (b .table) (entryRow e none)) ≡ rowsLeftBy [] (b .log ++ (e ∷ []))
-  unfolding rowsLeftBy
-  append-table e p =
-      append-bare (b .table) e ∙ ap (λ (t : List ClientEntry). put t (entryRow e none)) p ∙ sym (rows-append [] (b .log) (e ∷ []))
-
   pub append-ok : (e : Entry) → length (b .log) < u .room → rising (b .log ++ (e ∷ [])) ≡ true → Ok u b (append b e)
-  unfolding append
+  unfolding append appendAll
   append-ok e h r i =
       record {
         inv =
@@ -70,8 +60,7 @@ module _ (u : Setup) (b : Book) where
               commit-le = simp length-append (omega arith);
               log-fits = simp length-append (omega arith);
               log-rises = r;
-              table-rises = put-rises (b .table) _ (i .table-rises);
-              table-is = append-table e (i .table-is);
+              table-is = table-appends b (e ∷ []) (i .commit-le) (i .table-is);
               totals-are = i .totals-are;
               takings-are = i .takings-are;
               results-are = i .results-are;
@@ -91,8 +80,7 @@ module _ (u : Setup) (b : Book) where
               commit-le = simp (commitAll-commit, commitAll-log, length-take, length-drop) (omega arith);
               log-fits = rw commitAll-log (i .log-fits);
               log-rises = rw commitAll-log (i .log-rises);
-              table-rises = commitAll-table b (dueEntries b k) (i .table-rises) .0;
-              table-is = rw commitAll-log (commitAll-table b (dueEntries b k) (i .table-rises) .1 ∙ i .table-is);
+              table-is = table-commit-to b k (i .log-rises) (results-counted u b i) (i .table-is);
               totals-are = simp (commitAll-applied, commitAll-totals, through-append) (ap (λ (t : List ℕ). through t (dueEntries b k)) (i .totals-are));
               takings-are =
                   commitAll-takings b (dueEntries b k)
@@ -114,7 +102,7 @@ module _ (u : Setup) (b : Book) where
 
   pub install-ok : (log : List Entry) → length log ≤ u .room → rising log ≡ true → b .commit ≤ length log → take (b .commit) log ≡ take (b .commit) (b .log)
       → Ok u b (install b log)
-  unfolding install bare
+  unfolding install
   install-ok log h r le t i =
       record {
         inv =
@@ -123,8 +111,7 @@ module _ (u : Setup) (b : Book) where
               commit-le = le;
               log-fits = h;
               log-rises = r;
-              table-rises = rebuilt-rises (b .table) (b .commit) [] log tt;
-              table-is = rebuilt-bare (b .table) (b .commit) [] log;
+              table-is = refl;
               totals-are = i .totals-are;
               takings-are = i .takings-are;
               results-are = i .results-are;
@@ -138,12 +125,6 @@ module _ (u : Setup) (b : Book) where
   agreed-ok log h r a = install-ok log h r (agree-le _ _ _ a) (agree-take _ _ _ a)
 
 -- an append of entries
-appendAll-table : (u : Setup) (b : Book) (es : List Entry) → Rises (b .table) → bare (b .table) ≡ rowsLeftBy [] (b .log)
-    → Rises (appendAll b es .table) × (bare (appendAll b es .table) ≡ rowsLeftBy [] (appendAll b es .log))
-unfolding appendAll append
-appendAll-table u b [] p q = (p, q)
-appendAll-table u b (e ∷ es) p q = appendAll-table u (append b e) es (put-rises (b .table) _ p) (append-table u b e q)
-
 pub appendAll-ok : (u : Setup) (b : Book) (es : List Entry) → length (b .log) + length es ≤ u .room → rising (b .log ++ es) ≡ true → Ok u b (appendAll b es)
 appendAll-ok u b es h r i =
     let x : Rest b (appendAll b es) = appendAll-rest b es in
@@ -154,8 +135,7 @@ appendAll-ok u b es h r i =
             commit-le = omega (arith, appendAll-length b es, x .commit);
             log-fits = omega (arith, appendAll-length b es);
             log-rises = rw appendAll-log r;
-            table-rises = appendAll-table u b es (i .table-rises) (i .table-is) .0;
-            table-is = appendAll-table u b es (i .table-rises) (i .table-is) .1;
+            table-is = table-appends b es (i .commit-le) (i .table-is);
             totals-are = simp (x .totals, x .applied) (i .totals-are);
             takings-are = simp (x .takings, x .applied) (i .takings-are);
             results-are = simp (x .results, x .applied) (i .results-are);

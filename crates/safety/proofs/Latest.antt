@@ -2,43 +2,21 @@
 -- Assumes nothing.
 use Prim.Native.Nat.{ℕ, suc, _<_}
 use native.Mathlib.Omega.{arith}
-use mathlib.Core.Path.{_≡_, refl, ap, sym, _∙_}
+use mathlib.Core.Path.{_≡_, refl, ap}
 use mathlib.Core.Bool.{true, not}
-use mathlib.Core.List.{List, [], _∷_, _++_, append-nil}
-use mathlib.Core.Option.{none}
+use mathlib.Core.List.{List, [], _∷_, _++_}
 use lib.Dec.{leb}
 use lib.ListN.{length, getD}
-use lib.Seq.{append-snoc}
 use Rattle.numbers.specs.Words.{_and_}
-use Rattle.numbers.proofs.WordLaws.{split₂, and-true}
+use Rattle.numbers.proofs.WordLaws.{and-true}
 use Rattle.entries.specs.Rising.{follows, rising}
 use Rattle.entries.specs.declared.Entry.{Entry}
 use Rattle.config.specs.declared.Setup.{Setup}
-use Rattle.model.specs.State.{ClientEntry, State}
-use Rattle.model.specs.Book.{Seen, find, put, entryRow}
-use Rattle.model.proofs.LogLift.{rising-front}
-use Rattle.model.proofs.LatestLaws.{Latest, latest-none, latest-same, latest-more, unbroken, latest-lift}
-use Rattle.safety.specs.Demand.{bare, rowsLeftBy, Safe}
-use Rattle.safety.proofs.Tables.{bare-there}
-
--- ---- what entries leave
-
-bare-request : (t : List ClientEntry) (c : ℕ) → find t c .request ≡ find (bare t) c .request
-unfolding bare find
-bare-request [] c = refl
-bare-request (r ∷ rs) c = split₂ (λ (a b : Seen). a .request ≡ b .request) _ _ _ _ _ _ refl (λ _. refl) (λ _. bare-request rs c)
-
-rows-latest : (t : List ClientEntry) (es fs : List Entry) → Latest t es → rising (es ++ fs) ≡ true → Latest (rowsLeftBy t fs) (es ++ fs)
-unfolding rowsLeftBy
-rows-latest t es [] l h = rw (append-nil es) l
-rows-latest t es (f ∷ fs) l h =
-    let p : es ++ (f ∷ []) ++ fs ≡ es ++ f ∷ fs = append-snoc es f fs in
-    let g : rising (es ++ (f ∷ []) ++ fs) ≡ true = ap rising p ∙ h in
-    rw (← p) (rows-latest (put t (entryRow f none)) (es ++ (f ∷ [])) fs (latest-more f t none es l (rising-front (es ++ (f ∷ [])) fs g)) g)
-
-table-latest : (t : List ClientEntry) (es : List Entry) → bare t ≡ rowsLeftBy [] es → rising es ≡ true → Latest t es
-table-latest t es p h =
-    latest-same (bare t) t es (λ c. sym (bare-there t c)) (λ c. sym (bare-request t c)) (rw p (rows-latest [] [] es latest-none h))
+use Rattle.model.specs.State.{State}
+use Rattle.model.specs.Book.{find}
+use Rattle.model.proofs.LatestLaws.{Latest, unbroken, latest-lift}
+use Rattle.model.proofs.TableOf.{table-latest}
+use Rattle.safety.specs.Demand.{Safe}
 
 -- ---- each client's requests once, in rising order: the log rises
 
@@ -67,7 +45,7 @@ module _ (u : Setup) (m : State) (s : Safe u m) where
       none-such = record { client = 0; request = 0; operation = 0; member = 0; cents = 0 }
 
   pub safe-latest : Latest (m .book .table) (m .book .log)
-  safe-latest = table-latest (m .book .table) (m .book .log) (s .table-is) safe-rising
+  safe-latest = rw (s .table-is) (table-latest (m .book .log) (m .book .results) (m .book .commit) safe-rising)
 
   -- refusal 6 of a Request and of a Prepare, by the table alone
   pub safe-rises : (e : Entry)

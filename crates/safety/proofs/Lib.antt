@@ -8,4 +8,6 @@ pub mod Changes
 pub mod Takings
 pub mod Ranges
 pub mod Latest
+pub mod Fixed
 pub mod Earned
+pub mod Again

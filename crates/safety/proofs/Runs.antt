@@ -6,8 +6,7 @@ use mathlib.Core.Path.{_≡_, refl, ap, sym, _∙_}
 use mathlib.Core.Bool.{true, not}
 use mathlib.Core.List.{List, [], _∷_}
 use mathlib.Core.Option.{Option, none, some}
-use lib.ListN.{length, getD, take, length-replicate}
-use lib.Seq.{length-take-le}
+use lib.ListN.{length, getD, length-replicate}
 use borrow.Author.Tests.{leb-false, eq-eqb, le-leb, not-true}
 use Rattle.numbers.specs.Words.{_and_, All}
 use Rattle.numbers.proofs.WordLaws.{split, and-left, and-right, and-true}
@@ -20,20 +19,22 @@ use Rattle.fees.specs.Takings.{mostTakings}
 use Rattle.frames.specs.declared.Status.{Status}
 use Rattle.model.specs.State.{Held, Reported, Response, State, Sent, Reply, Answer, opOf}
 use Rattle.model.specs.State.Answer.{refused, done}
-use Rattle.model.specs.Book.{through, resultsOf, takingsThrough, emptyBook}
+use Rattle.model.specs.Book.{through, resultsOf, takingsThrough, rebuilt, tableOf, emptyBook}
 use Rattle.model.specs.ViewChange.{noReports}
 use Rattle.model.specs.Recovery.{noResponses}
 use Rattle.model.specs.Steps.{fitted, heldOk, heldOkIn, reportedOk, responsesOk, numbersOk, newAt, create, recover}
-use Rattle.safety.specs.Demand.{Call, run, Created, bare, rowsLeftBy, At, Every, StoredSound, SoundReport, SoundResponse, zeros, Safe, Later, Demand3}
+use Rattle.safety.specs.Demand.{Call, run, Created, At, Every, StoredSound, SoundReport, SoundResponse, zeros, Safe, Later, Demand3}
 use Rattle.safety.specs.Demand.Created.{new, back}
 use Rattle.safety.specs.Money.{sum}
 use Rattle.safety.specs.Ranges.{Small}
-use Rattle.model.proofs.BookLaws.{through-length, answers-length}
+use Rattle.model.proofs.BookLaws.{through-length}
 use Rattle.safety.proofs.Money.{member-total, all-totals, sum-zeros}
 use Rattle.safety.proofs.Changes.{all-same, through-small}
 use Rattle.safety.proofs.Takings.{sum-most, takings-sum}
-use Rattle.safety.proofs.Tables.{table-length, table-there}
-use Rattle.safety.proofs.Books.{BookInv, Grown}
+use Rattle.model.proofs.TableLaws.{table-rises, table-length}
+use Rattle.model.proofs.TableOf.{table-there}
+use Rattle.safety.proofs.Tables.{remembered}
+use Rattle.safety.proofs.Books.{BookInv, Grown, results-counted}
 use Rattle.safety.proofs.Handlers.{Inv, Next, still, next-next, every-none, after-next}
 use Rattle.safety.proofs.Messages.{call-good}
 
@@ -113,7 +114,7 @@ module _ (u : Setup) where
   -- ---- creation
 
   new-inv : (t : Status) (v x : ℕ) → Inv u (newAt u t v x)
-  unfolding newAt emptyBook rising through takingsThrough resultsOf bare rowsLeftBy noReports noResponses
+  unfolding newAt emptyBook rising through takingsThrough resultsOf rebuilt tableOf noReports noResponses
   new-inv t v x =
       record {
         book =
@@ -122,7 +123,6 @@ module _ (u : Setup) where
               commit-le = omega arith;
               log-fits = omega arith;
               log-rises = refl;
-              table-rises = tt;
               table-is = refl;
               totals-are = refl;
               takings-are = refl;
@@ -167,24 +167,24 @@ module _ (u : Setup) where
   safe-of : (m : State) → setupOk u ≡ true → Inv u m → Safe u m
   safe-of m s i =
       let b : BookInv u (m .book) = i .book in
-      let taken : length (take (m .book .commit) (m .book .log)) ≡ m .book .commit = length-take-le _ _ (b .commit-le) in
+      let counted : length (m .book .results) ≡ m .book .commit = results-counted u (m .book) b in
       record {
         applied-is = b .applied-is;
         commit-le = b .commit-le;
         log-fits = b .log-fits;
         once = λ d k j. rising-at (m .book .log) d k j (b .log-rises);
         results-are = b .results-are;
-        results-count =
-            ap (λ l. length l) (b .results-are) ∙ answers-length (zeros u) (m .book .applied) ∙ ap (λ l. length l) (b .applied-is) ∙ taken;
+        results-count = counted;
         member-totals = λ k. rw (b .totals-are) (member-total (u .members) (m .book .applied) k);
         sum-of-totals = rw (b .totals-are) (all-totals (u .members) (m .book .applied));
         takings-are = kept-sum m s i;
         totals-count =
             ap (λ l. length l) (b .totals-are) ∙ through-length (zeros u) (m .book .applied) ∙ length-replicate (u .members) 0;
-        table-rises = b .table-rises;
-        table-has = table-there (m .book .table) (m .book .log) (b .table-is);
+        table-rises = rw (b .table-is) (table-rises (m .book .log) (m .book .results) (m .book .commit));
+        table-has = λ d k h. rw (b .table-is) (table-there (m .book .log) (m .book .results) (m .book .commit) d k h);
         table-is = b .table-is;
-        table-fits = table-length (m .book .table) (m .book .log) (b .table-is);
+        remembers = remembered (m .book) (omega arith) (b .table-is);
+        table-fits = rw (b .table-is) (table-length (m .book .log) (m .book .results) (m .book .commit));
         reports-sound = i .store .reports;
         responses-sound = i .store .responses;
         never-1 = state-ok m s i;

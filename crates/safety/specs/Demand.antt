@@ -9,10 +9,11 @@ use lib.ListN.{length, take, getD, replicate}
 use Rattle.entries.specs.Rising.{rising}
 use Rattle.entries.specs.declared.Entry.{Entry}
 use Rattle.config.specs.declared.Setup.{Setup}
-use Rattle.model.specs.State.{ClientEntry, Held, Reported, Response, State, Sent, Reply, Answer, after}
+use Rattle.model.specs.State.{Held, Reported, Response, State, Sent, Reply, Answer, after}
 use Rattle.model.specs.State.Answer.{done}
-use Rattle.model.specs.Book.{resultsOf, find, put, entryRow, Rises}
+use Rattle.model.specs.Book.{resultsOf, find, tableOf, Rises}
 use Rattle.model.specs.Steps.{onFrame, onTick, create, recover, numbersOk}
+use Rattle.safety.specs.Remembered.{Remembers}
 use Rattle.safety.specs.Money.{feesOf, refundsOf, allFees, allRefunds, sum}
 
 -- an outside call, with the sizes of the areas for messages and for replies
@@ -34,16 +35,6 @@ run u m (c ∷ cs) = run u (after m (answer u m c)) cs
 pub data Created (u : Setup) (m : State) : Type 0 where
   new : (out : List Sent) (rs : List Reply) → create u ≡ done m out rs → Created u m
   back : (v x a : ℕ) (out : List Sent) (rs : List Reply) → recover u v x a ≡ done m out rs → Created u m
-
--- the rows without their replies
-unfoldable pub bare : List ClientEntry → List ClientEntry
-bare [] = []
-bare (r ∷ rs) = record { client = r .client; request = r .request; kept = none } ∷ bare rs
-
--- the rows that entries leave, each put in its turn, none with a reply
-unfoldable pub rowsLeftBy : List ClientEntry → List Entry → List ClientEntry
-rowsLeftBy t [] = t
-rowsLeftBy t (e ∷ es) = rowsLeftBy (put t (entryRow e none)) es
 
 -- a place, if it is filled
 abbrev pub At : {A : Type 0} → (A → Type 0) → Option A → Type 0
@@ -94,10 +85,12 @@ pub record Safe (u : Setup) (m : State) : Type 0 where
   -- the takings that are kept are the full addition (document 02, order 4)
   pub takings-are : m .book .takings ≡ sum (m .book .totals)
   pub totals-count : length (m .book .totals) ≡ u .members
-  -- the table: client ids rise, a row for each client of the log, and but for the replies it is what the log's entries leave
+  -- the table: client ids rise, a row for each client of the log; it is that of log, results and commit number, which is to say that each row
+  -- has its client's last number, and the outcome and total of that entry if it is committed (document 02, order 6)
   pub table-rises : Rises (m .book .table)
   pub table-has : (d : Entry) (i : ℕ) → i < length (m .book .log) → find (m .book .table) (getD (m .book .log) i d .client) .there ≡ true
-  pub table-is : bare (m .book .table) ≡ rowsLeftBy [] (m .book .log)
+  pub table-is : m .book .table ≡ tableOf (m .book .log) (m .book .results) (m .book .commit)
+  pub remembers : Remembers (m .book)
   pub table-fits : length (m .book .table) ≤ length (m .book .log)
   -- stored logs
   pub reports-sound : Every (SoundReport u) (m .store .reports)

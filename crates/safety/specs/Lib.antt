@@ -1,4 +1,6 @@
+pub mod Remembered
 pub mod Money
 pub mod Demand
 pub mod Ranges
 pub mod Earned
+pub mod Again

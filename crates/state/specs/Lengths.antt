@@ -18,7 +18,7 @@ acksLength u = u .room
 abbrev pub totalsLength : Setup → ℕ
 totalsLength u = 8 * u .members
 
--- the client table, 25 bytes a row, room for L clients; where it is replaced, the old rows go to a second run of this length
+-- the client table, 25 bytes a row, room for L clients
 abbrev pub tableLength : Setup → ℕ
 tableLength u = 25 * u .room
 

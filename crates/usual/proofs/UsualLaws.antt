@@ -70,9 +70,9 @@ module _ (s : Replica) (n : isNormal (s .status) ≡ true) (latest : Latest) (fr
   step-onward u = split Handles _ _ _ (λ _. kind-onward u) (λ _. refl)
 
 -- the table that follows leaves the answer
-followed-answer : (s : Replica) (table old : List ℕ) (d : Recorded) → following s table old d .answer ≡ d .answer
+followed-answer : (s : Replica) (table : List ℕ) (d : Recorded) → following s table d .answer ≡ d .answer
 unfolding following followedBy
-followed-answer s table old d = split (λ (t : Tabled). t .answer ≡ d .answer) _ _ _ (λ _. refl) (λ _. refl)
+followed-answer s table d = split (λ (t : Tabled). t .answer ≡ d .answer) _ _ _ (λ _. refl) (λ _. refl)
 
 module _ (s : Replica) (n : isNormal (s .status) ≡ true) (frame : List ℕ) (u : usualKind (s .view .0) frame ≡ true) (x : Lent) where
   abbrev Leaves : Called → Type 0
@@ -84,7 +84,7 @@ module _ (s : Replica) (n : isNormal (s .status) ≡ true) (frame : List ℕ) (u
   checked-onward (Passed m) e =
       let latest = latestFor m (s .setup .room) (x .table) in
       let q : m ≡ messageOf (kindOf frame) frame = passed (s .setup) frame m (passed-is s (lengthsOf x) frame m e .1) .said .message in
-      subst (λ (a : Returned). Onward s (a .state)) (sym (followed-answer s (x .table) (x .old) _))
+      subst (λ (a : Returned). Onward s (a .state)) (sym (followed-answer s (x .table) _))
       (subst (λ (z : Message). Onward s (messageStep z s latest frame (x .core) .answer .state)) (sym q)
       (step-onward s n latest frame (x .core) u))
 
@@ -116,7 +116,7 @@ module _ (s : Replica) where
     unfolding idleCall
     tick-clocked x =
         split (λ (d : Called). Clocked s (d .answer .state)) _ _ _ (λ _. refl) λ _.
-        subst (λ (a : Returned). Clocked s (a .state)) (sym (followed-answer s (x .table) (x .old) _)) (step-clocked (x .core))
+        subst (λ (a : Returned). Clocked s (a .state)) (sym (followed-answer s (x .table) _)) (step-clocked (x .core))
 
 pub leading-clocked : (s : Replica) (x : Lent) → isLeading s ≡ true → Clocked s (idleCall s x .answer .state)
 unfolding isLeading

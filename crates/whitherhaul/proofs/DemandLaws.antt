@@ -22,8 +22,9 @@ use Rattle.outside.specs.Takings.{takingsCall}
 use Rattle.outside.specs.declared.takings.Taken.{Taken}
 use Rattle.replica.specs.Calls.{messageCall, idleCall, createCall, recoverCall}
 use Rattle.replica.specs.Lent.{Lent, Called}
-use Rattle.replica.specs.Meaning.{Kept}
+use Rattle.replica.specs.Meaning.{Kept, meaningOf}
 use Rattle.replica.specs.Promise.{TakingsPromise}
+use Rattle.replica.specs.Again.{AnswersIn}
 use Rattle.replica.specs.Demands.{Untouched, HandedBack, Link, Chain, FullAddition}
 use Rattle.replica.specs.Demands.Link.{message, tick}
 use Rattle.replica.specs.Demands.Chain.{none, more}
@@ -32,6 +33,7 @@ use Rattle.replica.proofs.DemandLaws.{message-untouched, tick-untouched, handed
 use Rattle.replica.proofs.CreateDemands.{create-untouched, recover-untouched}
 use Rattle.whitherhaul.specs.Replicas.{Ran, keptState, leaves, noState, messageRun, idleRun, createRun, recoverRun, takingsRun, StateHeld}
 use Rattle.whitherhaul.specs.Replicas.{MessageRan, IdleRan, CreateRan, RecoverRan, TakingsRan}
+use Rattle.whitherhaul.specs.Again.{RunAnswersIn}
 use Rattle.whitherhaul.specs.Demands.{UntouchedRun, RunLink, RunChain, RunGoesOn}
 use Rattle.whitherhaul.specs.Demands.RunLink.{message as sent, tick as idled}
 use Rattle.whitherhaul.specs.Demands.RunChain.{none as no-run, more as more-runs}
@@ -132,6 +134,21 @@ chained state′ x′ state x ok (more-runs _ _ d y l h c) =
       is = λ i. t .is i ∷ (moved-calls _ _ _ _ _ (t .held .back) (r .chain) ∙ r .is) i;
     }
 
+-- who asks again is answered what the replica's own call answers
+run-again : (state : List ℕ) (x : Lent) (applied : List Entry) → stateOk state ≡ true → AnswersIn (stateOf state) x applied → RunAnswersIn state x applied
+unfolding messageRun
+run-again state x applied ok f frame d e i b o p q h =
+    let c = messageCall (stateOf state) frame x in
+    let w = f frame c e i b o (p .call) q h in
+    let is : d ≡ leaves state c = p .exact ∙ if-false _ _ _ (ap not ok) in
+    record {
+      code = ap (λ (r : Ran). r .code) is ∙ w .code;
+      counts = ap (λ (r : Ran). r .counts) is ∙ (λ j. w .messages j ∷ w .replies j ∷ []);
+      out = ap (λ (r : Ran). r .lent .core .out) is ∙ w .out;
+      reps = ap (λ (r : Ran). r .lent .core .reps) is ∙ w .reps;
+      same = (λ j. meaningOf (p .next ok .back j) (is j .lent) applied) ∙ w .same;
+    }
+
 -- who asks for the takings is answered what the replica's own call answers
 run-takings : (state : List ℕ) (x : Lent) (applied : List Entry) → stateOk state ≡ true → (r : Taken) → TakingsRan state r
     → ((t : Taken) → TakingsPromise (stateOf state) t → FullAddition (stateOf state) x applied t) → FullAddition (stateOf state) x applied r
@@ -144,7 +161,7 @@ pub run-chain-goes : (state : List ℕ) (x : Lent) (applied : List Entry) (state
 run-chain-goes state x applied state′ x′ ok k c =
     let r = chained state′ x′ state x ok c in
     let g = chain-goes (stateOf state) x applied (stateOf state′) x′ k (r .chain) in
-    record { ok = r .ok; goes = g; takings = λ t p. run-takings state′ x′ (g .applied′) (r .ok) t p (g .takings) }
+    record { ok = r .ok; goes = g; takings = λ t p. run-takings state′ x′ (g .applied′) (r .ok) t p (g .takings); again = run-again state′ x′ (g .applied′) (r .ok) (g .again) }
 
 -- what a creation that wasn't refused left, handed back
 pub begun : (state : List ℕ) (y : Lent) (c : Called) (d : Ran) → d ≡ leaves state c → StateHeld (d .state) (c .answer .state)

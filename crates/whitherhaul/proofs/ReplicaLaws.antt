@@ -29,7 +29,7 @@ use Rattle.state_bytes.specs.declared.Look.{Look}
 use Rattle.usual.specs.Usual.{isUsual, isLeading}
 use Rattle.usual.proofs.UsualLaws.{usual-onward, leading-clocked}
 use Rattle.outside.specs.Sound.{noReplica}
-use Rattle.outside.specs.Creation.{Started, createStep, recoverStep}
+use Rattle.outside.specs.Creation.{Started, createStep}
 use Rattle.outside.specs.Takings.{taken, takingsCall}
 use Rattle.outside.specs.declared.takings.Taken.{Taken}
 use Rattle.replica.specs.Calls.{messageCall, idleCall, cleared, createCall, recoverCall}

@@ -11,6 +11,7 @@ use Rattle.outside.specs.declared.takings.Taken.{Taken}
 use Rattle.replica.specs.Demands.{HandedBack, FullAddition, GoesOn}
 use Rattle.state_bytes.specs.Layout.{stateOf, stateOk}
 use Rattle.whitherhaul.specs.Replicas.{Ran, ran, MessageRan, IdleRan, TakingsRan}
+use Rattle.whitherhaul.specs.Again.{RunAnswersIn}
 
 -- Demand 1: a call that is refused leaves the state run and every lent byte as they were, with counts of 0.
 abbrev pub UntouchedRun : (state : List ℕ) → Lent → Ran → Type 0
@@ -29,8 +30,9 @@ pub data RunChain (state′ : List ℕ) (x′ : Lent) : List ℕ → Lent → Ty
       → RunChain state′ x′ state x
 
 -- Demand 3 after a chain: the run holds a state, and from what the first run holds to what the last one holds it goes on as the replica's does; who then asks
--- for the takings is answered the full addition.
+-- for the takings is answered the full addition, and who asks again for a client's latest request, once it is applied, gets its reply.
 pub record RunGoesOn (state : List ℕ) (x : Lent) (applied : List Entry) (state′ : List ℕ) (x′ : Lent) : Type 0 where
   pub ok : stateOk state′ ≡ true
   pub goes : GoesOn (stateOf state) x applied (stateOf state′) x′
   pub takings : (r : Taken) → TakingsRan state′ r → FullAddition (stateOf state′) x′ (goes .applied′) r
+  pub again : RunAnswersIn state′ x′ (goes .applied′)

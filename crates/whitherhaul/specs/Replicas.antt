@@ -31,10 +31,10 @@ abbrev pub ran : (code : ℕ) (counts state : List ℕ) → Lent → Ran
 ran k counts state x = record { code = k; counts = counts; state = state; lent = x }
 
 -- a call that returns a number and counts, on these runs, keeps a promise
-abbrev pub Ends : (promise : Lent → Ran → Type 0) (code : ℕ) (counts : List ℕ) (state : Run) → (log results totals acks stored table old out reps : Run) → Type 0
-Ends promise code counts state log results totals acks stored table old out reps =
-    promise (lentBefore log results totals acks stored table old out reps)
-    (ran code counts (last state) (lentAfter log results totals acks stored table old out reps))
+abbrev pub Ends : (promise : Lent → Ran → Type 0) (code : ℕ) (counts : List ℕ) (state : Run) → (log results totals acks stored table out reps : Run) → Type 0
+Ends promise code counts state log results totals acks stored table out reps =
+    promise (lentBefore log results totals acks stored table out reps)
+    (ran code counts (last state) (lentAfter log results totals acks stored table out reps))
 
 -- the state run after a call
 unfoldable pub keptState : Returned → (state : List ℕ) → List ℕ

@@ -67,9 +67,8 @@ pub extern "C" fn whitherhaul_create(
     acks: &mut [u8],
     stored: &[u8],
     table: &mut [u8],
-    old: &[u8],
 ) -> u8
-    ensures { λ r. ⌜ Ends (CreateRan (record { n = n; id = id; timeout = timeout; room = room; members = members }) (was state)) r (0 ∷ 0 ∷ []) state log results totals acks stored table old unlent unlent ⌝ }
+    ensures { λ r. ⌜ Ends (CreateRan (record { n = n; id = id; timeout = timeout; room = room; members = members }) (was state)) r (0 ∷ 0 ∷ []) state log results totals acks stored table unlent unlent ⌝ }
 {
     if state.len() != 154 {
         return 1;
@@ -79,7 +78,7 @@ pub extern "C" fn whitherhaul_create(
     }
     let u = config::setup_of(n, id, timeout, room, members);
     keep(
-        replica::create::create(u, log, results, totals, acks, stored, table, old),
+        replica::create::create(u, log, results, totals, acks, stored, table),
         state,
     )
 }
@@ -101,11 +100,10 @@ pub extern "C" fn whitherhaul_recover(
     acks: &mut [u8],
     stored: &[u8],
     table: &mut [u8],
-    old: &[u8],
     out: &mut [u8],
     counts: &mut [u64; 2],
 ) -> u8
-    ensures { λ r. ⌜ Ends (RecoverRan (record { n = n; id = id; timeout = timeout; room = room; members = members }) (record { 0 = view }) nonce (was state)) r (last counts) state log results totals acks stored table old out unlent ⌝ }
+    ensures { λ r. ⌜ Ends (RecoverRan (record { n = n; id = id; timeout = timeout; room = room; members = members }) (record { 0 = view }) nonce (was state)) r (last counts) state log results totals acks stored table out unlent ⌝ }
 {
     *counts = [0, 0];
     if state.len() != 154 {
@@ -125,7 +123,6 @@ pub extern "C" fn whitherhaul_recover(
         acks,
         stored,
         table,
-        old,
         out,
     );
     *counts = [a.messages as u64, a.replies as u64];
@@ -142,14 +139,13 @@ fn message_whole(
     acks: &mut [u8],
     stored: &mut [u8],
     table: &mut [u8],
-    old: &mut [u8],
     out: &mut [u8],
     reps: &mut [u8],
     counts: &mut [u64; 2],
     offset: &mut u64,
 ) -> u8
     requires { ⌜ stateOk (now state) ≡ true ⌝ }
-    ensures { λ r. ⌜ Ends (MessageRan (was state) (was frame)) r (last counts) state log results totals acks stored table old out reps × Points wellFormed (was frame) r (last offset) ⌝ }
+    ensures { λ r. ⌜ Ends (MessageRan (was state) (was frame)) r (last counts) state log results totals acks stored table out reps × Points wellFormed (was frame) r (last offset) ⌝ }
 {
     let r = replica::call::on_message(
         state_bytes::read_state(state),
@@ -160,7 +156,6 @@ fn message_whole(
         acks,
         stored,
         table,
-        old,
         out,
         reps,
     );
@@ -180,14 +175,13 @@ fn message_usual(
     acks: &mut [u8],
     stored: &mut [u8],
     table: &mut [u8],
-    old: &mut [u8],
     out: &mut [u8],
     reps: &mut [u8],
     counts: &mut [u64; 2],
     offset: &mut u64,
 ) -> u8
     requires { ⌜ (stateOk (now state) ≡ true) × (isQuiet (now state) ≡ true) ⌝ }
-    ensures { λ r. ⌜ Ends (MessageRan (was state) (was frame)) r (last counts) state log results totals acks stored table old out reps × Points wellFormed (was frame) r (last offset) ⌝ }
+    ensures { λ r. ⌜ Ends (MessageRan (was state) (was frame)) r (last counts) state log results totals acks stored table out reps × Points wellFormed (was frame) r (last offset) ⌝ }
 {
     let s = state_bytes::read_quiet(state);
     if !usual::is_usual(s, frame) {
@@ -200,7 +194,6 @@ fn message_usual(
             acks,
             stored,
             table,
-            old,
             out,
             reps,
             counts,
@@ -216,7 +209,6 @@ fn message_usual(
         acks,
         stored,
         table,
-        old,
         out,
         reps,
     );
@@ -247,13 +239,12 @@ pub extern "C" fn whitherhaul_on_message(
     acks: &mut [u8],
     stored: &mut [u8],
     table: &mut [u8],
-    old: &mut [u8],
     out: &mut [u8],
     reps: &mut [u8],
     counts: &mut [u64; 2],
     offset: &mut u64,
 ) -> u8
-    ensures { λ r. ⌜ Ends (MessageRan (was state) (was frame)) r (last counts) state log results totals acks stored table old out reps × Points wellFormed (was frame) r (last offset) ⌝ }
+    ensures { λ r. ⌜ Ends (MessageRan (was state) (was frame)) r (last counts) state log results totals acks stored table out reps × Points wellFormed (was frame) r (last offset) ⌝ }
 {
     *counts = [0, 0];
     *offset = 0;
@@ -271,7 +262,6 @@ pub extern "C" fn whitherhaul_on_message(
             acks,
             stored,
             table,
-            old,
             out,
             reps,
             counts,
@@ -288,7 +278,6 @@ pub extern "C" fn whitherhaul_on_message(
             acks,
             stored,
             table,
-            old,
             out,
             reps,
             counts,
@@ -303,7 +292,6 @@ pub extern "C" fn whitherhaul_on_message(
             acks,
             stored,
             table,
-            old,
             out,
             reps,
             counts,
@@ -318,7 +306,6 @@ pub extern "C" fn whitherhaul_on_message(
             acks,
             stored,
             table,
-            old,
             out,
             reps,
             counts,
@@ -333,7 +320,6 @@ pub extern "C" fn whitherhaul_on_message(
             acks,
             stored,
             table,
-            old,
             out,
             reps,
             counts,
@@ -348,7 +334,6 @@ pub extern "C" fn whitherhaul_on_message(
             acks,
             stored,
             table,
-            old,
             out,
             reps,
             counts,
@@ -363,7 +348,6 @@ pub extern "C" fn whitherhaul_on_message(
             acks,
             stored,
             table,
-            old,
             out,
             reps,
             counts,
@@ -381,13 +365,12 @@ fn tick_whole(
     acks: &mut [u8],
     stored: &mut [u8],
     table: &mut [u8],
-    old: &mut [u8],
     out: &mut [u8],
     reps: &mut [u8],
     counts: &mut [u64; 2],
 ) -> u8
     requires { ⌜ stateOk (now state) ≡ true ⌝ }
-    ensures { λ r. ⌜ Ends (IdleRan (was state)) r (last counts) state log results totals acks stored table old out reps ⌝ }
+    ensures { λ r. ⌜ Ends (IdleRan (was state)) r (last counts) state log results totals acks stored table out reps ⌝ }
 {
     let a = replica::call::on_idle(
         state_bytes::read_state(state),
@@ -397,7 +380,6 @@ fn tick_whole(
         acks,
         stored,
         table,
-        old,
         out,
         reps,
     );
@@ -414,13 +396,12 @@ fn tick_usual(
     acks: &mut [u8],
     stored: &mut [u8],
     table: &mut [u8],
-    old: &mut [u8],
     out: &mut [u8],
     reps: &mut [u8],
     counts: &mut [u64; 2],
 ) -> u8
     requires { ⌜ (stateOk (now state) ≡ true) × (isQuiet (now state) ≡ true) ⌝ }
-    ensures { λ r. ⌜ Ends (IdleRan (was state)) r (last counts) state log results totals acks stored table old out reps ⌝ }
+    ensures { λ r. ⌜ Ends (IdleRan (was state)) r (last counts) state log results totals acks stored table out reps ⌝ }
 {
     let s = state_bytes::read_quiet(state);
     if !usual::is_leading(s) {
@@ -432,13 +413,12 @@ fn tick_usual(
             acks,
             stored,
             table,
-            old,
             out,
             reps,
             counts,
         );
     }
-    let a = replica::call::on_idle(s, log, results, totals, acks, stored, table, old, out, reps);
+    let a = replica::call::on_idle(s, log, results, totals, acks, stored, table, out, reps);
     *counts = [a.messages as u64, a.replies as u64];
     keep_clocked(a, state)
 }
@@ -453,12 +433,11 @@ pub extern "C" fn whitherhaul_on_idle(
     acks: &mut [u8],
     stored: &mut [u8],
     table: &mut [u8],
-    old: &mut [u8],
     out: &mut [u8],
     reps: &mut [u8],
     counts: &mut [u64; 2],
 ) -> u8
-    ensures { λ r. ⌜ Ends (IdleRan (was state)) r (last counts) state log results totals acks stored table old out reps ⌝ }
+    ensures { λ r. ⌜ Ends (IdleRan (was state)) r (last counts) state log results totals acks stored table out reps ⌝ }
 {
     *counts = [0, 0];
     let l = state_bytes::look_over(state);
@@ -474,7 +453,6 @@ pub extern "C" fn whitherhaul_on_idle(
             acks,
             stored,
             table,
-            old,
             out,
             reps,
             counts,
@@ -488,7 +466,6 @@ pub extern "C" fn whitherhaul_on_idle(
         acks,
         stored,
         table,
-        old,
         out,
         reps,
         counts,

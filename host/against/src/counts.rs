@@ -71,6 +71,8 @@ pub struct Counts {
     pub replies: u64,
     /// StartViewChanges from the own id that would have joined the set by document 01.
     pub own_ids: u64,
+    /// Installs by which a reply would have been forgotten by document 01.
+    pub forgotten: u64,
     /// Done and refused calls by status and kind.
     pub met: [[(u64, u64); ROWS]; 4],
     /// Later causes: number, kind, status.
@@ -148,6 +150,7 @@ impl Counts {
         }
         self.replies += other.replies;
         self.own_ids += other.own_ids;
+        self.forgotten += other.forgotten;
         for (mine, its) in self.offsets.iter_mut().zip(other.offsets) {
             *mine += its;
         }
@@ -171,16 +174,15 @@ impl Counts {
         }
     }
 
-    /// What a run has to have met and didn't: the own id as sender of a StartViewChange, sums that are cut or refused, stored
-    /// messages with entries, refusal numbers, places of offsets, calls of each kind in each status, and later causes.
+    /// What a run has to have met and didn't: the two exceptions, sums that are cut or refused, stored messages with entries, refusal
+    /// numbers, places of offsets, calls of each kind in each status, and later causes.
     pub fn missing(&self) -> Vec<String> {
         let mut missing = Vec::new();
-        if self.own_ids == 0 {
-            missing.push(String::from("a StartViewChange from the own id"));
-        }
         let [most, nothing] = self.cuts;
         let [answered, refused] = self.states;
         for (name, count) in [
+            ("a StartViewChange from the own id", self.own_ids),
+            ("an install that would forget a reply", self.forgotten),
             ("a sum cut at the most", most),
             ("a sum cut at 0", nothing),
             ("a sum above the most", self.past),
@@ -231,7 +233,7 @@ impl Counts {
         self.heads(&mut text);
         self.sums(&mut text);
         self.numbers(&mut text);
-        self.exception(&mut text);
+        self.exceptions(&mut text);
         self.causes(&mut text);
         self.table(&mut text);
         text
@@ -309,12 +311,19 @@ impl Counts {
         );
     }
 
-    fn exception(&self, text: &mut String) {
+    fn exceptions(&self, text: &mut String) {
         line(
             text,
             format_args!(
                 "StartViewChanges from the own id, which by document 01 would have joined the set: {}",
                 self.own_ids
+            ),
+        );
+        line(
+            text,
+            format_args!(
+                "installs by which a reply would have been forgotten by document 01: {}",
+                self.forgotten
             ),
         );
     }

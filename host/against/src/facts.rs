@@ -1,13 +1,14 @@
-//! Demand 3's facts, and that the own id never joins the set of those who sent StartViewChange, seen at run time on the library's own
-//! bytes after every call that wasn't refused.
+//! Demand 3's facts, that the own id never joins the set of those who sent StartViewChange, and that the client table is that of log,
+//! results and commit number, seen at run time on the library's own bytes after every call that wasn't refused.
 //!
 //! What is held between calls is compared whole each time, so no change goes unnoticed: the applied entries with their results, the
 //! log as it was (one comparison of memory each), and all totals. Only what is new is worked out: entries behind the old log, and
 //! entries that were committed since.
 
+use crate::forgotten::would_forget;
 use crate::takings;
 use schedules::rust::Setup;
-use std::collections::HashMap;
+use std::collections::BTreeMap;
 use vsr_rs::StateMachine;
 use whitherhaul::raw::{state, Memory};
 use wire::fees::{Entry, Ledger};
@@ -21,8 +22,8 @@ pub struct Facts {
     results: Vec<u8>,
     /// The log after the last call.
     log: Vec<u8>,
-    /// The latest request of each client in it.
-    latest: HashMap<u64, u64>,
+    /// The latest request of each client in it, and its place.
+    latest: BTreeMap<u64, (u64, usize)>,
     /// The fee rules, from zero, over the applied entries.
     ledger: Ledger,
     /// Fees taken and refunds paid of each member, from zero.
@@ -35,6 +36,8 @@ pub struct Facts {
     view: u32,
     /// The own id's bit in a set of replicas.
     own: u8,
+    /// Whether by document 01 the last call would have forgotten a reply.
+    pub forgets: bool,
 }
 
 /// The number at a place of the state run.
@@ -62,7 +65,7 @@ impl Facts {
             applied: Vec::new(),
             results: Vec::new(),
             log: Vec::new(),
-            latest: HashMap::new(),
+            latest: BTreeMap::new(),
             ledger: Ledger::new(setup.members),
             fees: vec![0; setup.members],
             refunds: vec![0; setup.members],
@@ -70,6 +73,7 @@ impl Facts {
             takings: 0,
             view,
             own: 1 << setup.id,
+            forgets: false,
         }
     }
 
@@ -109,21 +113,47 @@ impl Facts {
         if memory.totals != self.totals {
             return Err("totals aren't fees less refunds".into());
         }
+        self.remembers(memory)?;
         takings::hold(memory, self.takings)
+    }
+
+    /// The table has a row for each client of the log, in the order of their ids, with its last number and, where that entry is committed,
+    /// its outcome and total.
+    fn remembers(&self, memory: &Memory) -> Result<(), String> {
+        let mut rows = memory.table.chunks_exact(25);
+        for (client, (request, place)) in &self.latest {
+            let mut due = [0; 25];
+            due[..8].copy_from_slice(&client.to_be_bytes());
+            due[8..16].copy_from_slice(&request.to_be_bytes());
+            due[16] = 255;
+            if let Some(result) = self.results.get(9 * place..9 * place + 9) {
+                due[16..].copy_from_slice(result);
+            }
+            if rows.next() != Some(&due[..]) {
+                return Err(format!("the row of client {client} isn't its last entry's"));
+            }
+        }
+        match rows.next() {
+            Some(row) if row[16] != 0 => Err("a row of no client of the log".into()),
+            _ => Ok(()),
+        }
     }
 
     /// The request numbers of each client rise along the log, so no client and number stand twice in it.
     fn rises(&mut self, log: &[u8]) -> Result<(), String> {
+        self.forgets = false;
         if !log.starts_with(&self.log) {
+            self.forgets = would_forget(&self.log, self.applied.len(), log);
             self.log.clear();
             self.latest.clear();
         }
-        for bytes in log[self.log.len()..].chunks_exact(32) {
+        let first = self.log.len() / 32;
+        for (place, bytes) in log.chunks_exact(32).enumerate().skip(first) {
             let entry = entry(bytes);
             if entry_bytes(&entry) != *bytes {
                 return Err("an entry of the log without its three zero bytes".into());
             }
-            if let Some(before) = self.latest.insert(entry.client, entry.request) {
+            if let Some((before, _)) = self.latest.insert(entry.client, (entry.request, place)) {
                 if before >= entry.request {
                     return Err("the log doesn't rise".into());
                 }

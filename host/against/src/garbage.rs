@@ -109,7 +109,6 @@ fn told(memory: &Memory) -> String {
         ("acks", &memory.acks),
         ("stored", &memory.stored),
         ("table", &memory.table),
-        ("old", &memory.old),
     ];
     runs.map(|(name, run)| format!("{name} {}", hex(run)))
         .join(", ")

@@ -9,10 +9,10 @@
 //! from the clock where it isn't given. `--seed N --schedules 1` plays one again. Where the two sides differ, the seed is printed
 //! with the shortest calls that lead there. A run by time begins with a sweep over bad input (`sweep`) and over takings at the edges
 //! of their range (`edges`), and fails where a refusal number, a place of an offset, a kind in a status, a later cause, a
-//! StartViewChange from the own id, or takings that are cut or refused never occurred.
+//! call that meets one of the two exceptions, or takings that are cut or refused never occurred.
 //!
 //! `replay` gives the calls of a recorded trace to the library, and compares its answers. With `--document-01` the trace was written
-//! without the exception (`own_id`): from a run's first call that meets it on the amended Rust stands in for the trace.
+//! without the exceptions (`own_id`, `forgotten`): from a run's first call that meets one on the amended Rust stands in for the trace.
 
 mod big;
 mod case;
@@ -23,6 +23,7 @@ mod damage;
 mod deep;
 mod edges;
 mod facts;
+mod forgotten;
 mod garbage;
 mod lone;
 mod making;

@@ -147,7 +147,7 @@ impl Asked {
     /// Tries it, and compares all of it with what document 01 says; the number.
     fn tried(&self) -> Result<usize, String> {
         let mut memory = Memory::of(&self.setup);
-        let fills: [u8; RUNS] = [0x11, 0x22, 0x33, 0x44, 0x55, 0x66, 0x77, 0x88];
+        let fills: [u8; RUNS] = [0x11, 0x22, 0x33, 0x44, 0x55, 0x66, 0x77];
         for (run, fill) in runs(&mut memory).into_iter().zip(fills) {
             run.fill(fill);
         }

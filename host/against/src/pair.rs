@@ -236,6 +236,7 @@ impl Pair {
         due.count(frame, counts);
         if due.number == 0 {
             self.same()?;
+            counts.forgotten += u64::from(self.facts.forgets);
             let after = status_number(self.rust.replica.status());
             counts.moves[due.status][after] += 1;
         }

@@ -16,7 +16,7 @@ use std::collections::BTreeMap;
 use std::process::ExitCode;
 use whitherhaul::raw::{self, Memory};
 
-/// Plays a trace, and says what was compared. One of document 01 was written without the exception (`instead`).
+/// Plays a trace, and says what was compared. One of document 01 was written without the exceptions (`instead`).
 pub fn replay(file: &str, document_01: bool) -> ExitCode {
     let text = match std::fs::read_to_string(file) {
         Ok(text) => text,
@@ -178,7 +178,7 @@ impl Replay {
     ) -> Result<(), String> {
         let areas = (number_of(words[1])?, number_of(words[2])?);
         if let Running::Replica(replica) = &self.running {
-            if self.document_01 && replica.meets(frame) {
+            if self.document_01 && replica.meets(frame, areas) {
                 self.instead.0 += 1;
                 self.running = Running::Instead(Box::new(replica.so_far.pair()?));
             }
@@ -390,8 +390,8 @@ impl Replay {
         if self.document_01 {
             let (runs, answers) = self.instead;
             told += &format!(
-                "besides, in {runs} runs {answers} answers compared with the amended Rust in place of the trace: from a StartViewChange of \
-                the own id on that by document 01 would have joined the set\n"
+                "besides, in {runs} runs {answers} answers compared with the amended Rust in place of the trace: from the first call \
+                on that meets an exception\n"
             );
         }
         told

@@ -7,7 +7,7 @@ use whitherhaul::raw::{state, Memory};
 /// What refusal 1 has to catch.
 #[derive(Clone, Copy, Debug, PartialEq, Eq)]
 pub enum Wrong {
-    /// A run a byte longer: state, log, results, totals, acks, stored, table, old.
+    /// A run a byte longer: state, log, results, totals, acks, stored, table.
     Longer(u8),
     /// A run a byte shorter.
     Shorter(u8),
@@ -20,7 +20,7 @@ pub enum Wrong {
 }
 
 /// How many runs there are.
-pub const RUNS: usize = 8;
+pub const RUNS: usize = 7;
 
 /// The runs in the order of `Wrong`.
 pub fn runs(memory: &mut Memory) -> [&mut Vec<u8>; RUNS] {
@@ -32,7 +32,6 @@ pub fn runs(memory: &mut Memory) -> [&mut Vec<u8>; RUNS] {
         &mut memory.acks,
         &mut memory.stored,
         &mut memory.table,
-        &mut memory.old,
     ]
 }
 
@@ -63,8 +62,7 @@ pub fn put_right(memory: &mut Memory, right: &Memory, wrong: Wrong) {
         Wrong::Shorter(3) | Wrong::Empty(3) => memory.totals.clone_from(&right.totals),
         Wrong::Shorter(4) | Wrong::Empty(4) => memory.acks.clone_from(&right.acks),
         Wrong::Shorter(5) | Wrong::Empty(5) => memory.stored.clone_from(&right.stored),
-        Wrong::Shorter(6) | Wrong::Empty(6) => memory.table.clone_from(&right.table),
-        Wrong::Shorter(_) | Wrong::Empty(_) => memory.old.clone_from(&right.old),
+        Wrong::Shorter(_) | Wrong::Empty(_) => memory.table.clone_from(&right.table),
     }
 }
 

@@ -11,6 +11,7 @@ mod own_id;
 mod quorum;
 mod recovery;
 mod refusals;
+mod remembered;
 mod statuses;
 mod takings;
 mod views;
@@ -220,6 +221,7 @@ pub fn trace() -> Result<String, String> {
         own_id::all(),
         quorum::all(),
         installs::all(),
+        remembered::all(),
         recovery::all(),
         takings::all(),
     ];

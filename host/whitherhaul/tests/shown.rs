@@ -180,8 +180,7 @@ fn a_replica_in_a_line() {
             takings: 0, .. }"
     );
     let lengths = "Memory { state: 154 bytes, log: 131072 bytes, results: 36864 bytes, \
-        totals: 32768 bytes, acks: 4096 bytes, stored: 917504 bytes, table: 102400 bytes, \
-        old: 102400 bytes }";
+        totals: 32768 bytes, acks: 4096 bytes, stored: 917504 bytes, table: 102400 bytes }";
     assert_eq!(shown(replica.parts()), lengths);
 }
 

@@ -45,20 +45,19 @@ use Rattle.client_table.specs.Rows.{replied, rowsCommitted}
 use Rattle.client_table.proofs.Turns.{commit-turn, commit-nothing}
 use Rattle.walks.proofs.Walk.{env-at, frame as locals-at, gone, gone-room, tests, Less, while-loop, met-by}
 use Rattle.walks.proofs.Calling.{ref, calls-fn}
-use Rattle.walks.proofs.Handing.{uintE, unitE, Arg, arg, plainly, Lent, lent, owned, items, alive, takes, gives, hands, bare, last-of, told, leaves, lend-new, back-new, shared-too}
+use Rattle.walks.proofs.Handing.{uintE, unitE, Arg, arg, plainly, Lent, lent, owned, items, alive, takes, gives, hands, bare, last-of, told, leaves, lend-new, back-new}
 use Rattle.client_table_structs.specs.declared.Row.{Row}
 use Rattle.client_table_structs.specs.Shape.{structRow}
-use Rattle.client_table_structs.proofs.Asking.{EntryIn, asks-entry}
+use Rattle.client_table_structs.proofs.Asking.{EntryIn, asks-entry, ResultIn, asks-result}
 use Rattle.client_table_structs.proofs.Rowed.{rowE, entryE, outcomeE}
 use Rattle.entries.proofs.entry_in.Symbol as entry-in-def
 use Rattle.entries.proofs.entry_in.Met as entry-in-thm
-use Rattle.fees.proofs.result_in as result-in
 use Rattle.fees.proofs.result_in.Symbol as result-in-def
 use Rattle.fees.proofs.result_in.Met as result-in-thm
 use Rattle.client_table_structs.proofs.keep_reply as keep-reply
 use Rattle.client_table_structs.proofs.keep_reply.Symbol as keep-reply-def
 use Rattle.client_table_structs.proofs.keep_reply.Met as keep-reply-thm
-use Rattle.client_table_structs.proofs.commit.Key.{name as #commit}
+use Rattle.client_table_structs.proofs.commit.Key as key
 use Rattle.client_table_structs.proofs.commit as commit
 use Rattle.client_table_structs.proofs.commit.Statement as stated
 use Rattle.client_table_structs.proofs.commit.Code as code
@@ -71,9 +70,6 @@ abbrev stayed : Stays (commit.ended .signature .params) (commit.ended .kept)
 stayed = (stay-slice (0 ∷ []) tt (plain (λ _. R)), (stay-none-slice (1 ∷ []) tt (plain (λ _. u8)) yes, (stay-none-slice (2 ∷ []) tt (plain (λ _. u8)) yes, (stay-none (λ _. usize) yes, (stay-none (λ _. usize) yes, tt)))))
 
 module _ {M : Type 1} (𝓤 : URA M) (H : Heap 𝓤) (A : Atoms 𝓤) (mem : Memory → SProp 𝓤) (run : Routine → Fun 𝓤) where
-  abbrev ResultIn : Contract 𝓤
-  ResultIn = tripleOf 𝓤 H A result-in.signature (result-in.spec 𝓤 H A mem run)
-
   abbrev KeepReply : Contract 𝓤
   KeepReply = tripleOf 𝓤 H A keep-reply.signature (keep-reply.spec 𝓤 H A mem run)
 
@@ -106,11 +102,8 @@ module _ {M : Type 1} (𝓤 : URA M) (H : Heap 𝓤) (A : Atoms 𝓤) (W : Given
   Post = walkOf 𝓤 H A commit.ended stayed (commit.clauses 𝓤 H A mem run) .post bound
 
   -- what the function has: the rows, as they are now, the log, the results, and its plain parameters
-  abbrev results : List Lent
-  results = lent κ₂ q₂ (ShrSlice (named 2) κ₂ u8 .own (ref γ₂ b₂ o₂ rs) (s₂ ∷ [])) ∷ []
-
   abbrev slices : List Row → List Lent
-  slices zs = lent κ₀ q₀ (MutSlice (named 0) κ₀ R .own (ref γ₀ b₀ o₀ zs) (s₀ ∷ [])) ∷ lent κ₁ q₁ (ShrSlice (named 1) κ₁ u8 .own (ref γ₁ b₁ o₁ ls) (s₁ ∷ [])) ∷ results
+  slices zs = lent κ₀ q₀ (MutSlice (named 0) κ₀ R .own (ref γ₀ b₀ o₀ zs) (s₀ ∷ [])) ∷ lent κ₁ q₁ (ShrSlice (named 1) κ₁ u8 .own (ref γ₁ b₁ o₁ ls) (s₁ ∷ [])) ∷ lent κ₂ q₂ (ShrSlice (named 2) κ₂ u8 .own (ref γ₂ b₂ o₂ rs) (s₂ ∷ [])) ∷ []
 
   abbrev params : List Arg
   params = arg (uintE w64) m (are .0) ∷ arg (uintE w64) n (are .1 .0) ∷ []
@@ -135,10 +128,7 @@ module _ {M : Type 1} (𝓤 : URA M) (H : Heap 𝓤) (A : Atoms 𝓤) (W : Given
       suffices ! _ (ends-at 𝓤 H A commit.ended stayed (commit.clauses 𝓤 H A mem run) W bound vunit tt (t .zs, (tt, (tt, (tt, (tt, tt))))) (t .long, (tt, (tt, (tt, (tt, tt)))))) $
       says ! (sym (t .is ∙ commit-nothing structRow (t .zs) (rest (t .k)) (gave (t .k)) (cells-none 9 resultOf n (past (9 * t .k) rs) (t .k) l))) $ leaves ! (slices (t .zs)) params (arg unitE tt refl)
 
-  -- what each callee's triple binds outside
-  abbrev to-result-in : ℕ → ResultIn 𝓤 H A mem run .Ghost
-  to-result-in i = (((κ₂, tt), (q₂, tt), tt, (ref γ₂ b₂ o₂ rs, (i, tt)), (s₂ ∷ [], (vint w64 i ∷ [], tt))), tt)
-
+  -- what `keep_reply`'s triple binds outside
   abbrev to-keep-reply : ℕ → GName → List Row → Entry → Outcome → KeepReply 𝓤 H A mem run .Ghost
   to-keep-reply ν δ zs e o = (((ν ∷ [], tt), (fullShare, tt), tt, (ref δ b₀ o₀ zs, (e, (o, tt))), (s₀ ∷ [], (entryE .val e ∷ [], (outcomeE .val o ∷ [], tt)))), tt)
 
@@ -173,16 +163,14 @@ module _ {M : Type 1} (𝓤 : URA M) (H : Heap 𝓤) (A : Atoms 𝓤) (W : Given
         assigns ! (agg ! (and-then ! (load ! (from ! (stop !)) (look ! 12 refl)) (and-then ! (load ! (from ! (fld ! refl (stop !))) (look-in ! 28 (sub ! 1 refl (whole !)))) (no-more !)))) (from ! (stop !)) (init ! 10 refl (tt, (tt, (record { fits = room₀ .0 }, tt)))) $
         move ! (2 ∷ 3 ∷ []) $ asks-entry mem run ! (fmOf 𝓤 H (W .laws) 𝓣) known-entry-in (named 1) κ₁ q₁ γ₁ b₁ o₁ ls (t .k) (omega (arith, lt h, enough)) (k-fits h) (and-then ! (load ! (from ! (stop !)) (look ! 26 refl)) (and-then ! (load ! (from ! (stop !)) (look ! 18 refl)) (no-more !)))
         6 refl refl (λ e p is.
-        move ! (4 ∷ []) $ shared-too u8 ! (named 2) (ref γ₂ b₂ o₂ rs) (s₂ ∷ []) $ move ! (0 ∷ 6 ∷ []) $ gives W results (ResultIn 𝓤 H A mem run .pre (to-result-in (t .k)))
-        (says ! (omega (arith, lt h, enough′)) $ hands ! results (arg (uintE w64) (t .k) (refl, k-fits h) ∷ [])) $
-        calls-fn ! (fmOf 𝓤 H (W .laws) 𝓣) result-in.ended (result-in.clauses 𝓤 H A mem run) known-result-in (to-result-in (t .k)) (and-then ! (load ! (from ! (stop !)) (look ! 24 refl)) (and-then ! (load ! (from ! (stop !)) (look ! 18 refl)) (no-more !))) (λ v o ws.
-        heard ! (o ≡ resultOf (past (9 * t .k) rs)) (λ p′. told outcomeE ! results 5 o v refl refl (λ is′.
+        move ! (4 ∷ 5 ∷ []) $ asks-result mem run ! (fmOf 𝓤 H (W .laws) 𝓣) known-result-in (named 2) κ₂ q₂ γ₂ b₂ o₂ rs (t .k) (omega (arith, lt h, enough′)) (k-fits h) (and-then ! (load ! (from ! (stop !)) (look ! 24 refl)) (and-then ! (load ! (from ! (stop !)) (look ! 18 refl)) (no-more !)))
+        4 refl refl (λ o p′ is′.
         move ! (4 ∷ 5 ∷ []) $ lend-new R ! tt (named 0) (named 0) γ₀ b₀ o₀ (t .zs) (s₀ ∷ []) (λ ν δ. gives W (lent-rows ν δ (t .zs)) (KeepReply 𝓤 H A mem run .pre (to-keep-reply ν δ (t .zs) e o)) (bare ! $ hands ! (lent-rows ν δ (t .zs)) (arg entryE e is ∷ arg outcomeE o is′ ∷ [])) $
         calls-fn ! (fmOf 𝓤 H (W .laws) 𝓣) keep-reply.ended (keep-reply.clauses 𝓤 H A mem run) known-keep-reply (to-keep-reply ν δ (t .zs) e o) (and-then ! (load ! (from ! (stop !)) (look ! 10 refl)) (and-then ! (load ! (from ! (stop !)) (look ! 8 refl)) (and-then ! (load ! (from ! (stop !)) (look ! 6 refl)) (no-more !)))) (λ u x ws′.
         heard ! (ws′ .0 ≡ replied structRow (t .zs) e o) (λ p″. last-of ! (λ l. told unitE ! (lent-rows ν δ (t .zs)) 14 x u refl refl (λ _.
-        back-new R ! tt (named 0) γ₀ δ b₀ o₀ (t .zs) (ws′ .0) (s₀ ∷ []) l (ap (λ (j : ℕ). sliceVal (b₀, o₀) j ∷ []) (sym (t .long))) (subst (Room R) (sym (t .long)) room₀) $ move ! (0 ∷ 1 ∷ 4 ∷ 5 ∷ 3 ∷ 2 ∷ []) $
+        back-new R ! tt (named 0) γ₀ δ b₀ o₀ (t .zs) (ws′ .0) (s₀ ∷ []) l (ap (λ (j : ℕ). sliceVal (b₀, o₀) j ∷ []) (sym (t .long))) (subst (Room R) (sym (t .long)) room₀) $ move ! (0 ∷ 1 ∷ 4 ∷ 5 ∷ 2 ∷ 3 ∷ []) $
         assigns-last ! (bin ! (load ! (from ! (stop !)) (look ! 18 refl)) (lit ! tt) (record { fits = next-fits h })) (from ! (stop !)) (store ! 18 refl (tt, record { fits = next-fits h })) $
-        forget ! 6 refl $ forget ! 8 refl $ forget ! 10 refl $ forget ! 12 refl $ forget ! 14 refl $ forget ! 16 refl $ again ! (Less left) I t (next h e o (ws′ .0) p p′ p″ l) (omega (arith, lt h))))))))))))
+        forget ! 6 refl $ forget ! 8 refl $ forget ! 10 refl $ forget ! 12 refl $ forget ! 14 refl $ forget ! 16 refl $ again ! (Less left) I t (next h e o (ws′ .0) p p′ p″ l) (omega (arith, lt h))))))))))
         (λ h. exec ! (𝓣 .C) (𝓣 .Λ) En piece.t-3 (atRet En Post) $
         assigns ! (of-opd ! (unit-lit !)) (from ! (stop !)) (init ! 30 refl (tt, tt)) $
         returns ! (look ! 30 refl) $ gone ! 30 refl refl $ gone ! 28 refl refl $ gone ! 26 refl refl $ gone ! 24 refl refl $ gone ! 22 refl refl $ gone ! 20 refl refl $ gone ! 18 refl refl $ gone ! 16 refl refl $ gone-room ! 14 refl refl $ gone-room ! 12 refl refl $ gone-room ! 10 refl refl $ gone-room ! 8 refl refl $ gone-room ! 6 refl refl $ free0 ! $ by ! (exits t (nltb→le (t .k) n h)))
@@ -232,7 +220,7 @@ pub commit-spec : {M : Type 1} → stated.statement M
 unfolding code.routine tablesOf
 commit-spec 𝓤 H 𝓜 𝓖 𝓡 =
     entered 𝓤 H (tripleOf 𝓤 H (𝓖 .A) commit.signature (commit.spec 𝓤 H (𝓖 .A) (𝓜 .mem) (𝓡 .run)))
-    (tables 𝓤 H 𝓜 𝓡 code.env .C) (tables 𝓤 H 𝓜 𝓡 code.env .Λ) #commit code.function (code.unfolded 𝓤 H 𝓜 𝓡)
+    (tables 𝓤 H 𝓜 𝓡 code.env .C) (tables 𝓤 H 𝓜 𝓡 code.env .Λ) key.name code.function (code.unfolded 𝓤 H 𝓜 𝓡)
     (commit-meets 𝓤 H (𝓖 .A) (givenOf 𝓤 H 𝓜 𝓖) (𝓜 .mem) (𝓡 .run) (tablesOf 𝓤 H 𝓜 (tables 𝓤 H 𝓜 𝓡 code.env))
     (cited 𝓤 H (EntryIn 𝓤 H (𝓖 .A) (𝓜 .mem) (𝓡 .run)) 𝓜 𝓡 code.env entry-in-def.name entry-in-def.routine code.calls-entries·entry-in (entry-in-thm.met 𝓤 H 𝓜 𝓖 𝓡))
     (cited 𝓤 H (ResultIn 𝓤 H (𝓖 .A) (𝓜 .mem) (𝓡 .run)) 𝓜 𝓡 code.env result-in-def.name result-in-def.routine code.calls-fees·result-in (result-in-thm.met 𝓤 H 𝓜 𝓖 𝓡))

@@ -8,70 +8,61 @@ use Rattle.replay_structs.proofs.make.Statement.{statement}
 use Rattle.replay_structs.proofs.make.Tie as tie
 
 mul-made : tie.Need-mul-made
-mul-made c = omega (arith, c .before .before .before .before .before .before .before .before .before .before .before .before .before .before .before .before .before .before .within .ensures)
+mul-made c = omega (arith, c .before .before .before .before .before .before .before .before .before .before .before .before .before .before .before .before .within .ensures)
 
 part-log-end : tie.Need-part-log-end
-part-log-end c = omega (arith, c .before .before .before .before .before .before .before .before .before .before .before .before .before .before .before .before .before .before .within .ensures, c .before .before .before .before .before .before .log2 .given)
+part-log-end c = omega (arith, c .before .before .before .before .before .before .before .before .before .before .before .before .before .before .before .before .within .ensures, c .before .before .before .before .before .log2 .given)
 
 mul-made-2 : tie.Need-mul-made-2
-mul-made-2 c = omega (arith, c .before .before .before .before .before .before .before .before .before .before .before .before .before .before .before .before .before .before .before .within .ensures)
+mul-made-2 c = omega (arith, c .before .before .before .before .before .before .before .before .before .before .before .before .before .before .before .before .before .within .ensures)
 
 part-results-end : tie.Need-part-results-end
-part-results-end c = omega (arith, c .before .before .before .before .before .before .before .before .before .before .before .before .before .before .before .before .before .before .before .within .ensures, c .before .before .before .before .before .before .results2 .given)
+part-results-end c = omega (arith, c .before .before .before .before .before .before .before .before .before .before .before .before .before .before .before .before .before .within .ensures, c .before .before .before .before .before .results2 .given)
 
 mul-made-3 : tie.Need-mul-made-3
-mul-made-3 c = omega (arith, c .before .before .before .before .before .before .before .before .before .before .before .before .before .before .before .before .before .before .before .within2 .ensures)
+mul-made-3 c = omega (arith, c .before .before .before .before .before .before .before .before .before .before .before .before .before .before .before .before .before .within2 .ensures)
 
 part-totals-end : tie.Need-part-totals-end
-part-totals-end c = omega (arith, c .before .before .before .before .before .before .before .before .before .before .before .before .before .before .before .before .before .before .before .within2 .ensures, c .before .before .before .before .before .before .totals2 .given)
+part-totals-end c = omega (arith, c .before .before .before .before .before .before .before .before .before .before .before .before .before .before .before .before .before .within2 .ensures, c .before .before .before .before .before .totals2 .given)
 
 part-acks-end : tie.Need-part-acks-end
-part-acks-end c = omega (arith, c .before .before .before .before .before .before .before .before .before .before .before .before .before .before .before .before .before .before .before .before .before .within .ensures, c .before .before .before .before .before .before .acks2 .given)
+part-acks-end c = omega (arith, c .before .before .before .before .before .before .before .before .before .before .before .before .before .before .before .before .before .before .before .within .ensures, c .before .before .before .before .before .acks2 .given)
 
 part-stored-end : tie.Need-part-stored-end
-part-stored-end c = omega (arith, c .before .before .before .before .before .before .before .before .before .before .before .before .before .before .before .before .before .before .before .before .logs .ensures, c .before .before .before .before .before .before .stored2 .given)
+part-stored-end c = omega (arith, c .before .before .before .before .before .before .before .before .before .before .before .before .before .before .before .before .before .before .logs .ensures, c .before .before .before .before .before .stored2 .given)
 
 mul-made-4 : tie.Need-mul-made-4
-mul-made-4 c = omega (arith, c .before .before .before .before .before .before .before .before .before .before .before .before .before .before .before .before .before .before .before .before .before .before .before .within .ensures)
+mul-made-4 c = omega (arith, c .before .before .before .before .before .before .before .before .before .before .before .before .before .before .before .before .before .before .before .before .before .within .ensures)
 
 part-table-end : tie.Need-part-table-end
-part-table-end c = omega (arith, c .before .before .before .before .before .before .before .before .before .before .before .before .before .before .before .before .before .before .before .before .before .before .before .within .ensures, c .before .before .before .before .before .before .table2 .given)
-
-mul-made-5 : tie.Need-mul-made-5
-mul-made-5 c = omega (arith, c .before .before .before .before .before .before .before .before .before .before .before .before .before .before .before .before .before .before .before .before .before .before .before .before .within .ensures)
-
-part-old-end : tie.Need-part-old-end
-part-old-end c = omega (arith, c .before .before .before .before .before .before .before .before .before .before .before .before .before .before .before .before .before .before .before .before .before .before .before .before .within .ensures, c .before .before .before .before .before .before .old2 .given)
+part-table-end c = omega (arith, c .before .before .before .before .before .before .before .before .before .before .before .before .before .before .before .before .before .before .before .before .before .within .ensures, c .before .before .before .before .before .table2 .given)
 
 slice-aggregate-store-all : tie.Need-slice-aggregate-store-all
-slice-aggregate-store-all c = sym (same-len-mid 0 (32 * c .before .before .before .before .before .before .before .before .before .before .before .before .before .before .before .before .before .before .before .before .before .before .before .before .before .before .before .before .before .before .before .before .before .before .before .before .before .before .before .before .before .within .result - 0) (c .before .before .before .before .before .before .before .before .before .before .before .before .before .before .before .before .before .before .before .before .before .before .before .before .before .before .before .before .before .before .fetch-all .last .1 .0) (c .before .before .before .before .before .before .before .before .before .before .before .before .before .made .last .1 .1 .0) (c .before .before .before .before .before .before .before .before .before .before .before .before .log4 .given) ∙ c .before .before .before .before .before .before .before .before .before .before .before .before .before .before .before .before .before .before .before .before .before .before .before .before .before .before .before .before .before .log2 .given)
+slice-aggregate-store-all c = sym (same-len-mid 0 (32 * c .before .before .before .before .before .before .before .before .before .before .before .before .before .before .before .before .before .before .before .before .before .before .before .before .before .before .before .before .before .before .before .before .before .before .before .before .before .within .result - 0) (c .before .before .before .before .before .before .before .before .before .before .before .before .before .before .before .before .before .before .before .before .before .before .before .before .before .before .before .fetch-all .last .1 .0) (c .before .before .before .before .before .before .before .before .before .before .before .before .made .last .1 .1 .0) (c .before .before .before .before .before .before .before .before .before .before .before .log4 .given) ∙ c .before .before .before .before .before .before .before .before .before .before .before .before .before .before .before .before .before .before .before .before .before .before .before .before .before .before .log2 .given)
 
 slice-aggregate-store-all-2 : tie.Need-slice-aggregate-store-all-2
-slice-aggregate-store-all-2 c = sym (same-len-mid 0 (9 * c .before .before .before .before .before .before .before .before .before .before .before .before .before .before .before .before .before .before .before .before .before .before .before .before .before .before .before .before .before .before .before .before .before .before .before .before .before .before .before .before .before .before .within .result - 0) (c .before .before .before .before .before .before .before .before .before .before .before .before .before .before .before .before .before .before .before .before .before .before .before .before .before .before .before .before .before .before .before .fetch-all .last .1 .1 .0) (c .before .before .before .before .before .before .before .before .before .before .before .before .before .before .made .last .1 .1 .1 .0) (c .before .before .before .before .before .before .before .before .before .before .before .before .results4 .given) ∙ c .before .before .before .before .before .before .before .before .before .before .before .before .before .before .before .before .before .before .before .before .before .before .before .before .before .before .before .before .before .results2 .given)
+slice-aggregate-store-all-2 c = sym (same-len-mid 0 (9 * c .before .before .before .before .before .before .before .before .before .before .before .before .before .before .before .before .before .before .before .before .before .before .before .before .before .before .before .before .before .before .before .before .before .before .before .before .before .before .within .result - 0) (c .before .before .before .before .before .before .before .before .before .before .before .before .before .before .before .before .before .before .before .before .before .before .before .before .before .before .before .before .fetch-all .last .1 .1 .0) (c .before .before .before .before .before .before .before .before .before .before .before .before .before .made .last .1 .1 .1 .0) (c .before .before .before .before .before .before .before .before .before .before .before .results4 .given) ∙ c .before .before .before .before .before .before .before .before .before .before .before .before .before .before .before .before .before .before .before .before .before .before .before .before .before .before .results2 .given)
 
 slice-aggregate-store-all-3 : tie.Need-slice-aggregate-store-all-3
-slice-aggregate-store-all-3 c = sym (same-len-mid 0 (8 * c .before .before .before .before .before .before .before .before .before .before .before .before .before .before .before .before .before .before .before .before .before .before .before .before .before .before .before .before .before .before .before .before .before .before .before .before .before .before .before .before .before .before .within2 .result - 0) (c .before .before .before .before .before .before .before .before .before .before .before .before .before .before .before .before .before .before .before .before .before .before .before .before .before .before .before .before .before .before .before .before .fetch-all .last .1 .1 .1 .0) (c .before .before .before .before .before .before .before .before .before .before .before .before .before .before .before .made .last .1 .1 .1 .1 .0) (c .before .before .before .before .before .before .before .before .before .before .before .before .totals4 .given) ∙ c .before .before .before .before .before .before .before .before .before .before .before .before .before .before .before .before .before .before .before .before .before .before .before .before .before .before .before .before .before .totals2 .given)
+slice-aggregate-store-all-3 c = sym (same-len-mid 0 (8 * c .before .before .before .before .before .before .before .before .before .before .before .before .before .before .before .before .before .before .before .before .before .before .before .before .before .before .before .before .before .before .before .before .before .before .before .before .before .before .within2 .result - 0) (c .before .before .before .before .before .before .before .before .before .before .before .before .before .before .before .before .before .before .before .before .before .before .before .before .before .before .before .before .before .fetch-all .last .1 .1 .1 .0) (c .before .before .before .before .before .before .before .before .before .before .before .before .before .before .made .last .1 .1 .1 .1 .0) (c .before .before .before .before .before .before .before .before .before .before .before .totals4 .given) ∙ c .before .before .before .before .before .before .before .before .before .before .before .before .before .before .before .before .before .before .before .before .before .before .before .before .before .before .totals2 .given)
 
 slice-aggregate-store-all-4 : tie.Need-slice-aggregate-store-all-4
-slice-aggregate-store-all-4 c = sym (same-len-mid 0 (c .before .before .before .before .before .before .before .before .before .before .before .before .before .before .before .before .before .before .before .before .before .before .before .before .before .before .before .before .before .before .before .before .before .before .before .before .before .before .before .before .before .before .before .before .within .result - 0) (c .before .before .before .before .before .before .before .before .before .before .before .before .before .before .before .before .before .before .before .before .before .before .before .before .before .before .before .before .before .before .before .before .before .fetch-all .last .1 .1 .1 .1 .0) (c .before .before .before .before .before .before .before .before .before .before .before .before .before .before .before .before .made .last .1 .1 .1 .1 .1 .0) (c .before .before .before .before .before .before .before .before .before .before .before .before .acks4 .given) ∙ c .before .before .before .before .before .before .before .before .before .before .before .before .before .before .before .before .before .before .before .before .before .before .before .before .before .before .before .before .before .acks2 .given)
+slice-aggregate-store-all-4 c = sym (same-len-mid 0 (c .before .before .before .before .before .before .before .before .before .before .before .before .before .before .before .before .before .before .before .before .before .before .before .before .before .before .before .before .before .before .before .before .before .before .before .before .before .before .before .before .within .result - 0) (c .before .before .before .before .before .before .before .before .before .before .before .before .before .before .before .before .before .before .before .before .before .before .before .before .before .before .before .before .before .before .fetch-all .last .1 .1 .1 .1 .0) (c .before .before .before .before .before .before .before .before .before .before .before .before .before .before .before .made .last .1 .1 .1 .1 .1 .0) (c .before .before .before .before .before .before .before .before .before .before .before .acks4 .given) ∙ c .before .before .before .before .before .before .before .before .before .before .before .before .before .before .before .before .before .before .before .before .before .before .before .before .before .before .acks2 .given)
 
 slice-aggregate-store-all-5 : tie.Need-slice-aggregate-store-all-5
-slice-aggregate-store-all-5 c = sym (same-len-mid 0 (c .before .before .before .before .before .before .before .before .before .before .before .before .before .before .before .before .before .before .before .before .before .before .before .before .before .before .before .before .before .before .before .before .before .before .before .before .before .before .before .before .before .before .before .logs .result - 0) (c .before .before .before .before .before .before .before .before .before .before .before .before .before .before .before .before .before .before .before .before .before .before .before .before .before .before .before .before .before .before .before .before .before .before .fetch-all .last .1 .1 .1 .1 .1 .0) (c .before .before .before .before .before .before .before .before .before .before .before .before .before .before .before .before .before .made .last .1 .1 .1 .1 .1 .1 .0) (c .before .before .before .before .before .before .before .before .before .before .before .before .stored4 .given) ∙ c .before .before .before .before .before .before .before .before .before .before .before .before .before .before .before .before .before .before .before .before .before .before .before .before .before .before .before .before .before .stored2 .given)
+slice-aggregate-store-all-5 c = sym (same-len-mid 0 (c .before .before .before .before .before .before .before .before .before .before .before .before .before .before .before .before .before .before .before .before .before .before .before .before .before .before .before .before .before .before .before .before .before .before .before .before .before .before .before .logs .result - 0) (c .before .before .before .before .before .before .before .before .before .before .before .before .before .before .before .before .before .before .before .before .before .before .before .before .before .before .before .before .before .before .before .fetch-all .last .1 .1 .1 .1 .1 .0) (c .before .before .before .before .before .before .before .before .before .before .before .before .before .before .before .before .made .last .1 .1 .1 .1 .1 .1 .0) (c .before .before .before .before .before .before .before .before .before .before .before .stored4 .given) ∙ c .before .before .before .before .before .before .before .before .before .before .before .before .before .before .before .before .before .before .before .before .before .before .before .before .before .before .stored2 .given)
 
 slice-aggregate-store-all-6 : tie.Need-slice-aggregate-store-all-6
-slice-aggregate-store-all-6 c = sym (same-len-mid 0 (25 * c .before .before .before .before .before .before .before .before .before .before .before .before .before .before .before .before .before .before .before .before .before .before .before .before .before .before .before .before .before .before .before .before .before .before .before .before .before .before .before .before .before .before .before .before .before .before .within .result - 0) (c .before .before .before .before .before .before .before .before .before .before .before .before .before .before .before .before .before .before .before .before .before .before .before .before .before .before .before .before .before .before .before .before .before .before .before .fetch-all .last .1 .1 .1 .1 .1 .1 .0) (c .before .before .before .before .before .before .before .before .before .before .before .before .before .before .before .before .before .before .made .last .1 .1 .1 .1 .1 .1 .1 .0) (c .before .before .before .before .before .before .before .before .before .before .before .before .table4 .given) ∙ c .before .before .before .before .before .before .before .before .before .before .before .before .before .before .before .before .before .before .before .before .before .before .before .before .before .before .before .before .before .table2 .given)
-
-slice-aggregate-store-all-7 : tie.Need-slice-aggregate-store-all-7
-slice-aggregate-store-all-7 c = sym (same-len-mid 0 (25 * c .before .before .before .before .before .before .before .before .before .before .before .before .before .before .before .before .before .before .before .before .before .before .before .before .before .before .before .before .before .before .before .before .before .before .before .before .before .before .before .before .before .before .before .before .before .before .before .within .result - 0) (c .before .before .before .before .before .before .before .before .before .before .before .before .before .before .before .before .before .before .before .before .before .before .before .before .before .before .before .before .before .before .before .before .before .before .before .before .fetch-all .last .1 .1 .1 .1 .1 .1 .1 .0) (c .before .before .before .before .before .before .before .before .before .before .before .before .before .before .before .before .before .before .before .made .last .1 .1 .1 .1 .1 .1 .1 .1 .0) (c .before .before .before .before .before .before .before .before .before .before .before .before .old4 .given) ∙ c .before .before .before .before .before .before .before .before .before .before .before .before .before .before .before .before .before .before .before .before .before .before .before .before .before .before .before .before .before .old2 .given)
+slice-aggregate-store-all-6 c = sym (same-len-mid 0 (25 * c .before .before .before .before .before .before .before .before .before .before .before .before .before .before .before .before .before .before .before .before .before .before .before .before .before .before .before .before .before .before .before .before .before .before .before .before .before .before .before .before .before .before .within .result - 0) (c .before .before .before .before .before .before .before .before .before .before .before .before .before .before .before .before .before .before .before .before .before .before .before .before .before .before .before .before .before .before .before .before .fetch-all .last .1 .1 .1 .1 .1 .1 .0) (c .before .before .before .before .before .before .before .before .before .before .before .before .before .before .before .before .before .made .last .1 .1 .1 .1 .1 .1 .1 .0) (c .before .before .before .before .before .before .before .before .before .before .before .table4 .given) ∙ c .before .before .before .before .before .before .before .before .before .before .before .before .before .before .before .before .before .before .before .before .before .before .before .before .before .before .table2 .given)
 
 same-length : tie.Need-same-length
 same-length c = c .before .before .store-all .kept .0
 
 same-length-2 : tie.Need-same-length-2
-same-length-2 c = c .before .before .before .before .before .before .before .before .before .before .before .before .before .before .before .before .before .before .before .before .before .before .made .kept .1 .1 .1 .1 .1 .1 .1 .1 .1 .0
+same-length-2 c = c .before .before .before .before .before .before .before .before .before .before .before .before .before .before .before .before .before .before .before .before .made .kept .1 .1 .1 .1 .1 .1 .1 .1 .0
 
 same-length-3 : tie.Need-same-length-3
-same-length-3 c = c .before .before .before .before .before .before .before .before .before .before .before .before .before .before .before .before .before .before .before .before .before .before .made .kept .1 .1 .1 .1 .1 .1 .1 .1 .1 .1 .0
+same-length-3 c = c .before .before .before .before .before .before .before .before .before .before .before .before .before .before .before .before .before .before .before .before .made .kept .1 .1 .1 .1 .1 .1 .1 .1 .1 .0
 
 pub make-spec : {M : Type 1} → statement M
 make-spec =
@@ -82,7 +73,6 @@ make-spec =
     (λ c κs. search needs)
     (λ c. search needs)
     (λ c κs. search needs)
-    (λ c. refl)
     (λ c. refl)
     (λ c. refl)
     (λ c. refl)
@@ -112,10 +102,6 @@ make-spec =
     (λ c. search needs)
     (λ c. search needs)
     part-table-end
-    mul-made-5
-    (λ c. search needs)
-    (λ c. search needs)
-    part-old-end
     (λ c κs. search needs)
     slice-aggregate-store-all
     slice-aggregate-store-all-2
@@ -123,7 +109,6 @@ make-spec =
     slice-aggregate-store-all-4
     slice-aggregate-store-all-5
     slice-aggregate-store-all-6
-    slice-aggregate-store-all-7
     (λ c κs. search needs)
     same-length
     same-length-2

@@ -1,5 +1,5 @@
-//! A run of a trace that was written without the exception (`own_id`). From the first call that meets it on the trace's answers are
-//! another replica's, so the amended Rust stands in for them: it is given the run so far, and then each further call, on which the
+//! A run of a trace that was written without the exceptions (`own_id`, `forgotten`). From the first call that meets one on the trace's
+//! answers are another replica's, so the amended Rust stands in for them: it is given the run so far, and then each further call, on which the
 //! library is compared with it as everywhere else (`pair`).
 
 use crate::counts::Counts;
@@ -19,8 +19,8 @@ pub struct SoFar {
 }
 
 impl SoFar {
-    /// Whether this frame meets the exception, in a replica of this status and view.
-    pub fn meets(&self, frame: Option<&[u8]>, status: usize, view: usize) -> bool {
+    /// Whether this frame puts the own id into the set by document 01, in a replica of this status and view.
+    pub fn joins(&self, frame: Option<&[u8]>, status: usize, view: usize) -> bool {
         let call = frame.and_then(parse);
         call.is_some_and(|call| own_id::would_join(self.setup, status, view, &call))
     }

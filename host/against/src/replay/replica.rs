@@ -3,6 +3,7 @@
 use super::instead::SoFar;
 use crate::deep;
 use crate::facts::{number, Facts};
+use crate::forgotten::would_forget;
 use crate::offset;
 use crate::pair::answered;
 use schedules::rust::{Setup, Start};
@@ -30,6 +31,11 @@ pub fn kept(code: u8, memory: &Memory, before: &Memory, past: &[u8]) -> Result<(
         true => Ok(()),
         false => Err(String::from("bytes past the count changed")),
     }
+}
+
+/// The log's bytes.
+fn entries(memory: &Memory) -> &[u8] {
+    &memory.log[..32 * number(memory, state::OP_NUMBER) as usize]
 }
 
 impl Replica {
@@ -60,9 +66,7 @@ impl Replica {
 
     /// A frame, or a tick, with areas of these lengths.
     pub fn call(&mut self, frame: Option<&[u8]>, areas: (usize, usize)) -> Result<Given, String> {
-        let most = self.setup.longest_messages() + SLACK;
-        let mut out = vec![0xa5; areas.0.min(most)];
-        let mut reps = vec![0xa5; areas.1.min(most)];
+        let (mut out, mut reps) = self.areas(areas);
         let before = self.memory.clone();
         let (code, counts, offset) = answered(&mut self.memory, frame, &mut out, &mut reps);
         let malformed = frame.filter(|_| code == 2);
@@ -79,11 +83,26 @@ impl Replica {
         Ok((code, offset, out, reps))
     }
 
-    /// Whether this frame meets the exception.
-    pub fn meets(&self, frame: Option<&[u8]>) -> bool {
+    /// Whether this frame, or a tick, meets one of the exceptions.
+    pub fn meets(&self, frame: Option<&[u8]>, areas: (usize, usize)) -> bool {
         let status = self.memory.state[state::STATUS].into();
         let view = number(&self.memory, state::VIEW) as usize;
-        self.so_far.meets(frame, status, view)
+        self.so_far.joins(frame, status, view) || self.forgets(frame, areas)
+    }
+
+    /// Whether by document 01 it would forget a reply.
+    fn forgets(&self, frame: Option<&[u8]>, areas: (usize, usize)) -> bool {
+        let (mut out, mut reps) = self.areas(areas);
+        let mut memory = self.memory.clone();
+        answered(&mut memory, frame, &mut out, &mut reps);
+        let commit = 32 * number(&self.memory, state::COMMIT_NUMBER) as usize;
+        would_forget(entries(&self.memory), commit, entries(&memory))
+    }
+
+    /// Two areas of these lengths, or of little more than any call can need.
+    fn areas(&self, areas: (usize, usize)) -> (Vec<u8>, Vec<u8>) {
+        let most = self.setup.longest_messages() + SLACK;
+        (vec![0xa5; areas.0.min(most)], vec![0xa5; areas.1.min(most)])
     }
 
     /// The takings: as the call answers, as the state keeps them, and all totals added up, each behind the words that say which.
@@ -138,14 +157,13 @@ impl Replica {
     /// Its digests: log, rows, totals, acks, applied.
     fn digests(&self) -> [String; 5] {
         let memory = &self.memory;
-        let log = 32 * number(memory, state::OP_NUMBER) as usize;
         let mut rows = memory.table.clone();
         rows.truncate(25 * rows.chunks_exact(25).filter(|row| row[16] != 0).count());
         for row in rows.chunks_exact_mut(25).filter(|row| row[16] == 255) {
             row[16] = 0;
         }
         let runs: [&[u8]; 5] = [
-            &memory.log[..log],
+            entries(memory),
             &rows,
             &memory.totals,
             &memory.acks,

@@ -109,7 +109,7 @@ fn tables() -> Vec<Example> {
         )
     };
     vec![
-        held("install_log keeps the reply to a committed entry whose number is the old row's; what isn't committed has none")
+        held("install_log leaves the reply to a committed entry that is its client's last one; what isn't committed has none")
             .frame(start_view(1, &[a, c], 1), installed(1, &[a, c], 1, 1))
             .frame(request(a), normal(1, 2, 1).replies(1, a, 1, 105))
             .frame(request(c), nothing()),
@@ -122,12 +122,6 @@ fn tables() -> Vec<Example> {
             .frame(request(a), nothing())
             .frame(request(b), normal(1, 3, 3).replies(1, b, 1, 211))
             .frame(request(c), normal(1, 3, 3).replies(1, c, 1, 100)),
-        fresh(3, 1, "Surprise: the reply is lost. The old row was of number 6, the committed entry is 5, so the row has no reply: no answer, ever")
-            .frame(prepare(0, 1, 0, a), normal(0, 1, 0).sends(&[0], prepare_ok(0, 1, 1)))
-            .frame(prepare(0, 2, 1, b), normal(0, 2, 1).sends(&[0], prepare_ok(0, 2, 1)))
-            .frame(start_view(1, &[a], 1), installed(1, &[a], 1, 1))
-            .frame(request(a), nothing())
-            .frame(request(b), normal(1, 2, 1).sends(&[0, 2], prepare(1, 2, 1, b))),
         held("A client whose entry the new log hasn't may ask again: its row went with it")
             .frame(prepare(0, 2, 1, c), normal(0, 2, 1).sends(&[0], prepare_ok(0, 2, 1)))
             .frame(start_view(1, &[a], 1), installed(1, &[a], 1, 1))

@@ -22,8 +22,6 @@ pub struct Memory {
     pub stored: Vec<u8>,
     /// Rows of 25 bytes: client, request, mark, total.
     pub table: Vec<u8>,
-    /// Where a rebuild of the table keeps the rows that it replaces.
-    pub old: Vec<u8>,
 }
 
 impl Memory {
@@ -41,7 +39,6 @@ impl Memory {
             acks: vec![0; room],
             stored: vec![0; 32 * room * replicas],
             table: vec![0; 25 * room],
-            old: vec![0; 25 * room],
         }
     }
 }
@@ -56,7 +53,6 @@ impl Clone for Memory {
             acks: self.acks.clone(),
             stored: self.stored.clone(),
             table: self.table.clone(),
-            old: self.old.clone(),
         }
     }
 
@@ -69,7 +65,6 @@ impl Clone for Memory {
         self.acks.clone_from(&other.acks);
         self.stored.clone_from(&other.stored);
         self.table.clone_from(&other.table);
-        self.old.clone_from(&other.old);
     }
 }
 
@@ -84,7 +79,6 @@ impl fmt::Debug for Memory {
             .field("acks", &Bytes(self.acks.len()))
             .field("stored", &Bytes(self.stored.len()))
             .field("table", &Bytes(self.table.len()))
-            .field("old", &Bytes(self.old.len()))
             .finish()
     }
 }
@@ -176,8 +170,6 @@ extern "C" {
         stored_length: usize,
         table: *mut u8,
         table_length: usize,
-        old: *const u8,
-        old_length: usize,
     ) -> u8;
     fn whitherhaul_recover(
         n: u32,
@@ -201,8 +193,6 @@ extern "C" {
         stored_length: usize,
         table: *mut u8,
         table_length: usize,
-        old: *const u8,
-        old_length: usize,
         out: *mut u8,
         out_length: usize,
         counts: *mut [u64; 2],
@@ -224,8 +214,6 @@ extern "C" {
         stored_length: usize,
         table: *mut u8,
         table_length: usize,
-        old: *mut u8,
-        old_length: usize,
         out: *mut u8,
         out_length: usize,
         reps: *mut u8,
@@ -248,8 +236,6 @@ extern "C" {
         stored_length: usize,
         table: *mut u8,
         table_length: usize,
-        old: *mut u8,
-        old_length: usize,
         out: *mut u8,
         out_length: usize,
         reps: *mut u8,
@@ -315,8 +301,6 @@ pub fn create(setup: &Setup, memory: &mut Memory) -> u8 {
             m.stored.len(),
             m.table.as_mut_ptr(),
             m.table.len(),
-            m.old.as_ptr(),
-            m.old.len(),
         )
     }
 }
@@ -356,8 +340,6 @@ pub fn recover(
             m.stored.len(),
             m.table.as_mut_ptr(),
             m.table.len(),
-            m.old.as_ptr(),
-            m.old.len(),
             out.as_mut_ptr(),
             out.len(),
             &mut counts,
@@ -397,8 +379,6 @@ pub fn on_message(
             m.stored.len(),
             m.table.as_mut_ptr(),
             m.table.len(),
-            m.old.as_mut_ptr(),
-            m.old.len(),
             out.as_mut_ptr(),
             out.len(),
             reps.as_mut_ptr(),
@@ -431,8 +411,6 @@ pub fn on_idle(memory: &mut Memory, out: &mut [u8], reps: &mut [u8]) -> (u8, Cou
             m.stored.len(),
             m.table.as_mut_ptr(),
             m.table.len(),
-            m.old.as_mut_ptr(),
-            m.old.len(),
             out.as_mut_ptr(),
             out.len(),
             reps.as_mut_ptr(),

@@ -17,7 +17,7 @@ add-at : tie.Need-add-at
 add-at c = omega (arith, c .place .ensures, stored-place-small (c .before .before .before .before .before .args .room) (c .before .before .before .before .before .args .i) (c .before .before .before .before .before .pre .1) (omega (arith, c .before .before .before .before .before .pre .0)))
 
 returns-2 : tie.Need-returns-2
-returns-2 c = let a = c .before .before .before .before .before .before .before .args in report-some (a .h) (a .room) (a .i) (a .d) (a .mem .now) (c .before .before .before .with-numbers .result) (c .with-part .result) (not-false (a .d .there) (c .before .before .before .before .if1 .left)) (c .before .before .before .with-numbers .ensures) (c .with-part .ensures ∙ ap (λ (p : ℕ). digestAfter (c .before .before .before .with-numbers .result) (partAt (800 + p) (32 * a .d .op .0) (a .mem .now))) (c .before .before .place .ensures))
+returns-2 c = let a = c .before .before .before .before .before .before .before .args in report-some (a .h) (a .room) (a .i) (a .d) (a .mem .now) (c .before .before .before .with-numbers .result) (c .with-part .result) (not-false (a .d .there) (c .before .before .before .before .if1 .left)) (c .before .before .before .with-numbers .ensures) (c .with-part .ensures ∙ ap (λ (p : ℕ). digestAfter (c .before .before .before .with-numbers .result) (partAt (600 + p) (32 * a .d .op .0) (a .mem .now))) (c .before .before .place .ensures))
 
 pub with-report-spec : {M : Type 1} → statement M
 with-report-spec =

@@ -34,11 +34,7 @@ returns-5 c = let a = c .before .before .before .before .before .before .before 
 
 returns-6 : tie.Need-returns-6
 unfolding lengthsOk if_then_else_
-returns-6 c = let a = c .before .before .before .before .before .before .before .before .before .before .before .before .before .before .before .args in rw (eq-eqb (a .l .log) (32 * a .u .room) (c .before .before .before .before .before .before .before .before .before .before .before .before .if1 .left), eq-eqb (a .l .results) (9 * a .u .room) (c .before .before .before .before .before .before .before .before .before .before .if2 .left), eq-eqb (a .l .totals) (8 * a .u .members) (c .before .before .before .before .before .before .before .if3 .left), eq-eqb (a .l .acks) (a .u .room) (c .before .before .before .before .before .if4 .left), ← c .before .before .before .before .place .ensures, eq-eqb (a .l .stored) (c .before .before .before .before .place .result) (c .before .before .if5 .left), ne-eqb (a .l .table) (25 * a .u .room) (c .if6 .taken))
-
-returns-7 : tie.Need-returns-7
-unfolding lengthsOk if_then_else_
-returns-7 c = let a = c .before .before .before .before .before .before .before .before .before .before .before .before .before .before .before .before .args in rw (eq-eqb (a .l .log) (32 * a .u .room) (c .before .before .before .before .before .before .before .before .before .before .before .before .before .if1 .left), eq-eqb (a .l .results) (9 * a .u .room) (c .before .before .before .before .before .before .before .before .before .before .before .if2 .left), eq-eqb (a .l .totals) (8 * a .u .members) (c .before .before .before .before .before .before .before .before .if3 .left), eq-eqb (a .l .acks) (a .u .room) (c .before .before .before .before .before .before .if4 .left), ← c .before .before .before .before .before .place .ensures, eq-eqb (a .l .stored) (c .before .before .before .before .before .place .result) (c .before .before .before .if5 .left), eq-eqb (a .l .table) (25 * a .u .room) (c .before .if6 .left))
+returns-6 c = let a = c .before .before .before .before .before .before .before .before .before .before .before .before .before .before .args in rw (eq-eqb (a .l .log) (32 * a .u .room) (c .before .before .before .before .before .before .before .before .before .before .before .if1 .left), eq-eqb (a .l .results) (9 * a .u .room) (c .before .before .before .before .before .before .before .before .before .if2 .left), eq-eqb (a .l .totals) (8 * a .u .members) (c .before .before .before .before .before .before .if3 .left), eq-eqb (a .l .acks) (a .u .room) (c .before .before .before .before .if4 .left), ← c .before .before .before .place .ensures, eq-eqb (a .l .stored) (c .before .before .before .place .result) (c .before .if5 .left))
 
 pub lengths-ok-spec : {M : Type 1} → statement M
 lengths-ok-spec =
@@ -56,6 +52,4 @@ lengths-ok-spec =
     place-requires
     returns-5
     (λ c. search needs)
-    returns-6
-    (λ c. search needs)
-    returns-7)
+    returns-6)

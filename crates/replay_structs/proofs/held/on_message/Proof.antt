@@ -1,5 +1,5 @@
 -- `replay_structs::held::on_message` meets its contract: a walk of its MIR, by hand. All that it knows of `replica_structs::on_message` and of `answered_with_rows` is that each meets its contract.
--- The first rows of its two arrays are lent to the call, which gets the other slices for good. Assumes nothing.
+-- The first rows of its array are lent to the call, which gets the other slices for good. Assumes nothing.
 use mathlib.Core.Path.{_≡_, refl}
 use Prim.Native.Nat.{ℕ, _≤_, zero-le}
 use mathlib.Core.List.{List, [], _∷_, _++_}
@@ -54,7 +54,7 @@ use Rattle.replay_structs.proofs.held.on_message.Statement as stated
 use Rattle.replay_structs.proofs.held.on_message.Code as code
 
 abbrev stayed : Stays (on-message.ended .signature .params) (on-message.ended .kept)
-stayed = (stay-none (λ _. replicaE .R) yes, (stay-none-slice (0 ∷ []) tt (plain (λ _. u8)) yes, (gave-slice (1 ∷ []) tt (plain (λ _. u8)), (gave-slice (2 ∷ []) tt (plain (λ _. u8)), (gave-slice (3 ∷ []) tt (plain (λ _. u8)), (gave-slice (4 ∷ []) tt (plain (λ _. u8)), (gave-slice (5 ∷ []) tt (plain (λ _. u8)), (gave-slice (6 ∷ []) tt (plain (λ _. u8)), (gave-slice (7 ∷ []) tt (plain (λ _. u8)), (stay-none (λ _. (uintE w64) .R) yes, (stay-none (λ _. rowsE .R) yes, (stay-none (λ _. rowsE .R) yes, tt))))))))))))
+stayed = (stay-none (λ _. replicaE .R) yes, (stay-none-slice (0 ∷ []) tt (plain (λ _. u8)) yes, (gave-slice (1 ∷ []) tt (plain (λ _. u8)), (gave-slice (2 ∷ []) tt (plain (λ _. u8)), (gave-slice (3 ∷ []) tt (plain (λ _. u8)), (gave-slice (4 ∷ []) tt (plain (λ _. u8)), (gave-slice (5 ∷ []) tt (plain (λ _. u8)), (gave-slice (6 ∷ []) tt (plain (λ _. u8)), (gave-slice (7 ∷ []) tt (plain (λ _. u8)), (stay-none (λ _. (uintE w64) .R) yes, (stay-none (λ _. rowsE .R) yes, tt)))))))))))
 
 -- the contract of the call
 module _ {M : Type 1} (𝓤 : URA M) (H : Heap 𝓤) (A : Atoms 𝓤) (mem : Memory → SProp 𝓤) (run : Routine → Fun 𝓤) where
@@ -62,9 +62,9 @@ module _ {M : Type 1} (𝓤 : URA M) (H : Heap 𝓤) (A : Atoms 𝓤) (mem : Mem
   Call = tripleOf 𝓤 H A callee.signature (callee.spec 𝓤 H A mem run)
 
 module _ {M : Type 1} (𝓤 : URA M) (H : Heap 𝓤) (A : Atoms 𝓤) (W : Given 𝓤 H A) (mem : Memory → SProp 𝓤) (run : Routine → Fun 𝓤)
-    (s : Replica) (s-is : Is (replicaE .R) s (replicaE .val s ∷ [])) (frame : Part u8) (log : Part u8) (results : Part u8) (totals : Part u8) (acks : Part u8) (stored : Part u8) (out : Part u8) (reps : Part u8) (l : ℕ) (l-is : Is ((uintE w64) .R) l ((uintE w64) .val l ∷ [])) (table : List Row) (table-is : Is (rowsE .R) table (rowsE .val table ∷ [])) (old : List Row) (old-is : Is (rowsE .R) old (rowsE .val old ∷ [])) (fits : l ≤ 8) where
+    (s : Replica) (s-is : Is (replicaE .R) s (replicaE .val s ∷ [])) (frame : Part u8) (log : Part u8) (results : Part u8) (totals : Part u8) (acks : Part u8) (stored : Part u8) (out : Part u8) (reps : Part u8) (l : ℕ) (l-is : Is ((uintE w64) .R) l ((uintE w64) .val l ∷ [])) (table : List Row) (table-is : Is (rowsE .R) table (rowsE .val table ∷ [])) (fits : l ≤ 8) where
   abbrev inputs : List Val
-  inputs = replicaE .val s ∷ at frame ∷ at log ∷ at results ∷ at totals ∷ at acks ∷ at stored ∷ at out ∷ at reps ∷ (uintE w64) .val l ∷ rowsE .val table ∷ rowsE .val old ∷ []
+  inputs = replicaE .val s ∷ at frame ∷ at log ∷ at results ∷ at totals ∷ at acks ∷ at stored ∷ at out ∷ at reps ∷ (uintE w64) .val l ∷ rowsE .val table ∷ []
 
   abbrev lives : Lfts (on-message.signature .lifetimes)
   lives = (frame .κ, (log .κ, (results .κ, (totals .κ, (acks .κ, (stored .κ, (out .κ, (reps .κ, tt))))))))
@@ -75,8 +75,8 @@ module _ {M : Type 1} (𝓤 : URA M) (H : Heap 𝓤) (A : Atoms 𝓤) (W : Given
       lives,
       (frame .q, (log .q, (results .q, (totals .q, (acks .q, (stored .q, (out .q, (reps .q, tt)))))))),
       tt,
-      (s, (as-ref frame (frame .xs), (as-ref log (log .xs), (as-ref results (results .xs), (as-ref totals (totals .xs), (as-ref acks (acks .xs), (as-ref stored (stored .xs), (as-ref out (out .xs), (as-ref reps (reps .xs), (l, (table, (old, tt)))))))))))),
-      (replicaE .val s ∷ [], (at frame ∷ [], (at log ∷ [], (at results ∷ [], (at totals ∷ [], (at acks ∷ [], (at stored ∷ [], (at out ∷ [], (at reps ∷ [], ((uintE w64) .val l ∷ [], (rowsE .val table ∷ [], (rowsE .val old ∷ [], tt)))))))))))),
+      (s, (as-ref frame (frame .xs), (as-ref log (log .xs), (as-ref results (results .xs), (as-ref totals (totals .xs), (as-ref acks (acks .xs), (as-ref stored (stored .xs), (as-ref out (out .xs), (as-ref reps (reps .xs), (l, (table, tt))))))))))),
+      (replicaE .val s ∷ [], (at frame ∷ [], (at log ∷ [], (at results ∷ [], (at totals ∷ [], (at acks ∷ [], (at stored ∷ [], (at out ∷ [], (at reps ∷ [], ((uintE w64) .val l ∷ [], (rowsE .val table ∷ [], tt))))))))))),
     ),
     tt,
   )
@@ -85,98 +85,89 @@ module _ {M : Type 1} (𝓤 : URA M) (H : Heap 𝓤) (A : Atoms 𝓤) (W : Given
   Post = walkOf 𝓤 H A on-message.ended stayed (on-message.clauses 𝓤 H A mem run) .post bound
 
   abbrev params : List Param
-  params = passes (arg replicaE s s-is) ∷ lends (shr frame (named 0)) ∷ lends (mut log (named 1) (log .xs)) ∷ lends (mut results (named 2) (results .xs)) ∷ lends (mut totals (named 3) (totals .xs)) ∷ lends (mut acks (named 4) (acks .xs)) ∷ lends (mut stored (named 5) (stored .xs)) ∷ lends (mut out (named 6) (out .xs)) ∷ lends (mut reps (named 7) (reps .xs)) ∷ passes (arg (uintE w64) l l-is) ∷ passes (arg rowsE table table-is) ∷ passes (arg rowsE old old-is) ∷ []
+  params = passes (arg replicaE s s-is) ∷ lends (shr frame (named 0)) ∷ lends (mut log (named 1) (log .xs)) ∷ lends (mut results (named 2) (results .xs)) ∷ lends (mut totals (named 3) (totals .xs)) ∷ lends (mut acks (named 4) (acks .xs)) ∷ lends (mut stored (named 5) (stored .xs)) ∷ lends (mut out (named 6) (out .xs)) ∷ lends (mut reps (named 7) (reps .xs)) ∷ passes (arg (uintE w64) l l-is) ∷ passes (arg rowsE table table-is) ∷ []
 
   -- at exit: of each `&mut` slice what says its last list
   abbrev ends : (log′ results′ totals′ acks′ stored′ out′ reps′ : List ℕ) → List Param
-  ends log′ results′ totals′ acks′ stored′ out′ reps′ = passes (arg replicaE s s-is) ∷ lends (shr frame (named 0)) ∷ lends (ended log log′) ∷ lends (ended results results′) ∷ lends (ended totals totals′) ∷ lends (ended acks acks′) ∷ lends (ended stored stored′) ∷ lends (ended out out′) ∷ lends (ended reps reps′) ∷ passes (arg (uintE w64) l l-is) ∷ passes (arg rowsE table table-is) ∷ passes (arg rowsE old old-is) ∷ []
+  ends log′ results′ totals′ acks′ stored′ out′ reps′ = passes (arg replicaE s s-is) ∷ lends (shr frame (named 0)) ∷ lends (ended log log′) ∷ lends (ended results results′) ∷ lends (ended totals totals′) ∷ lends (ended acks acks′) ∷ lends (ended stored stored′) ∷ lends (ended out out′) ∷ lends (ended reps reps′) ∷ passes (arg (uintE w64) l l-is) ∷ passes (arg rowsE table table-is) ∷ []
 
   exits : (r : Left) → Is (leftE .R) r (leftE .val r ∷ []) → (log′ results′ totals′ acks′ stored′ out′ reps′ : List ℕ) → length log′ ≡ length (log .xs) → length results′ ≡ length (results .xs) → length totals′ ≡ length (totals .xs) → length acks′ ≡ length (acks .xs) → length stored′ ≡ length (stored .xs) → length out′ ≡ length (out .xs) → length reps′ ≡ length (reps .xs) → ent 𝓤 (⋆ 𝓤 H A (items (slices (ends log′ results′ totals′ acks′ stored′ out′ reps′)))) (Post (leftE .val r))
   exits r is log′ results′ totals′ acks′ stored′ out′ reps′ e-log e-results e-totals e-acks e-stored e-out e-reps =
       qed W (items (slices (ends log′ results′ totals′ acks′ stored′ out′ reps′))) ∵
-      suffices ! _ (ends-at 𝓤 H A on-message.ended stayed (on-message.clauses 𝓤 H A mem run) W bound (leftE .val r) r (tt, (tt, (log′, (results′, (totals′, (acks′, (stored′, (out′, (reps′, (tt, (tt, (tt, tt)))))))))))) (tt, (tt, (e-log, (e-results, (e-totals, (e-acks, (e-stored, (e-out, (e-reps, (tt, (tt, (tt, tt))))))))))))) $
+      suffices ! _ (ends-at 𝓤 H A on-message.ended stayed (on-message.clauses 𝓤 H A mem run) W bound (leftE .val r) r (tt, (tt, (log′, (results′, (totals′, (acks′, (stored′, (out′, (reps′, (tt, (tt, tt))))))))))) (tt, (tt, (e-log, (e-results, (e-totals, (e-acks, (e-stored, (e-out, (e-reps, (tt, (tt, tt)))))))))))) $
       bare ! $ leaves-all ! (ends log′ results′ totals′ acks′ stored′ out′ reps′) (arg leftE r is)
 
   -- what each callee's triple binds outside, and what the call gets
-  abbrev to-call : ℕ → GName → ℕ → GName → ℕ → ℕ → Call 𝓤 H A mem run .Ghost
-  to-call ν₀ δ₀ ν₁ δ₁ b₀ b₁ = (
+  abbrev to-call : ℕ → GName → ℕ → Call 𝓤 H A mem run .Ghost
+  to-call ν δ b = (
     (
-      (frame .κ, (log .κ, (results .κ, (totals .κ, (acks .κ, (stored .κ, (ν₀ ∷ [], (ν₁ ∷ [], (out .κ, (reps .κ, tt)))))))))),
-      (frame .q, (log .q, (results .q, (totals .q, (acks .q, (stored .q, (fullShare, (fullShare, (out .q, (reps .q, tt)))))))))),
+      (frame .κ, (log .κ, (results .κ, (totals .κ, (acks .κ, (stored .κ, (ν ∷ [], (out .κ, (reps .κ, tt))))))))),
+      (frame .q, (log .q, (results .q, (totals .q, (acks .q, (stored .q, (fullShare, (out .q, (reps .q, tt))))))))),
       tt,
-      (s, (as-ref frame (frame .xs), (as-ref log (log .xs), (as-ref results (results .xs), (as-ref totals (totals .xs), (as-ref acks (acks .xs), (as-ref stored (stored .xs), (ref δ₀ b₀ 0 (take l table), (ref δ₁ b₁ 0 (take l old), (as-ref out (out .xs), (as-ref reps (reps .xs), tt))))))))))),
-      (replicaE .val s ∷ [], (at frame ∷ [], (at log ∷ [], (at results ∷ [], (at totals ∷ [], (at acks ∷ [], (at stored ∷ [], (sliceVal (b₀, 0) l ∷ [], (sliceVal (b₁, 0) l ∷ [], (at out ∷ [], (at reps ∷ [], tt))))))))))),
+      (s, (as-ref frame (frame .xs), (as-ref log (log .xs), (as-ref results (results .xs), (as-ref totals (totals .xs), (as-ref acks (acks .xs), (as-ref stored (stored .xs), (ref δ b 0 (take l table), (as-ref out (out .xs), (as-ref reps (reps .xs), tt)))))))))),
+      (replicaE .val s ∷ [], (at frame ∷ [], (at log ∷ [], (at results ∷ [], (at totals ∷ [], (at acks ∷ [], (at stored ∷ [], (sliceVal (b, 0) l ∷ [], (at out ∷ [], (at reps ∷ [], tt)))))))))),
     ),
     tt,
   )
 
-  abbrev to-all : ℕ → GName → ℕ → GName → ℕ → ℕ → List Param
-  to-all ν₀ δ₀ ν₁ δ₁ b₀ b₁ = passes (arg replicaE s s-is) ∷ lends (shr frame (named 0)) ∷ lends (mut log (named 1) (log .xs)) ∷ lends (mut results (named 2) (results .xs)) ∷ lends (mut totals (named 3) (totals .xs)) ∷ lends (mut acks (named 4) (acks .xs)) ∷ lends (mut stored (named 5) (stored .xs)) ∷ lends (lent (ν₀ ∷ []) fullShare (MutSlice (named 6) (ν₀ ∷ []) R .own (ref δ₀ b₀ 0 (take l table)) (sliceVal (b₀, 0) l ∷ []))) ∷ lends (lent (ν₁ ∷ []) fullShare (MutSlice (named 7) (ν₁ ∷ []) R .own (ref δ₁ b₁ 0 (take l old)) (sliceVal (b₁, 0) l ∷ []))) ∷ lends (mut out (named 8) (out .xs)) ∷ lends (mut reps (named 9) (reps .xs)) ∷ []
+  abbrev to-all : ℕ → GName → ℕ → List Param
+  to-all ν δ b = passes (arg replicaE s s-is) ∷ lends (shr frame (named 0)) ∷ lends (mut log (named 1) (log .xs)) ∷ lends (mut results (named 2) (results .xs)) ∷ lends (mut totals (named 3) (totals .xs)) ∷ lends (mut acks (named 4) (acks .xs)) ∷ lends (mut stored (named 5) (stored .xs)) ∷ lends (lent (ν ∷ []) fullShare (MutSlice (named 6) (ν ∷ []) R .own (ref δ b 0 (take l table)) (sliceVal (b, 0) l ∷ []))) ∷ lends (mut out (named 7) (out .xs)) ∷ lends (mut reps (named 8) (reps .xs)) ∷ []
 
-  abbrev to-with-rows : (ans : answeredE .R .Denot) (ts os : List Row) → AnsweredWithRows 𝓤 H A mem run .Ghost
-  to-with-rows ans ts os = ((tt, tt, tt, (ans, (ts, (os, tt))), (answeredE .val ans ∷ [], (rowsE .val ts ∷ [], (rowsE .val os ∷ [], tt)))), tt)
+  abbrev to-with-rows : (ans : answeredE .R .Denot) (ts : List Row) → AnsweredWithRows 𝓤 H A mem run .Ghost
+  to-with-rows ans ts = ((tt, tt, tt, (ans, (ts, tt)), (answeredE .val ans ∷ [], (rowsE .val ts ∷ [], tt))), tt)
 
   module _ (C : Calls 𝓤 H) (Λ : Loops 𝓤 H) (fm : FmC 𝓤 H (W .laws) C) (known-call : Triple 𝓤 (C callee-def.name) (Call 𝓤 H A mem run)) (known-with-rows : Triple 𝓤 (C with-rows-def.name) (AnsweredWithRows 𝓤 H A mem run)) where
     walk : ent 𝓤 (onEntry 𝓤 H A on-message.signature lives (bound .0 .1) (bound .0 .3) (bound .0 .4)) (WpFn 𝓤 H C Λ code.function inputs Post)
     walk =
         qed W (raw (alive 𝓤 A (slices params)) ∷ ‵ (owned-all params) ∷ []) ∵ takes-all W params $ enter ! C Λ code.function inputs _ $
-        alloc1 ! (λ l₀. alloc1 ! (λ l₁. alloc1 ! (λ l₂. alloc1 ! (λ l₃. alloc1 ! (λ l₄. alloc1 ! (λ l₅. alloc1 ! (λ l₆. alloc1 ! (λ l₇. alloc1 ! (λ l₈. alloc1 ! (λ l₉. alloc1 ! (λ l₁₀. alloc1 ! (λ l₁₁. alloc1 ! (λ l₁₂. alloc1 ! (λ l₁₃. alloc1 ! (λ l₁₄. alloc1 ! (λ l₁₅. alloc1 ! (λ l₁₆. alloc1 ! (λ l₁₇. alloc1 ! (λ l₁₈. alloc1 ! (λ l₁₉. alloc1 ! (λ l₂₀. alloc1 ! (λ l₂₁. alloc1 ! (λ l₂₂. alloc1 ! (λ l₂₃. alloc1 ! (λ l₂₄. alloc1 ! (λ l₂₅. alloc1 ! (λ l₂₆. alloc1 ! (λ l₂₇. alloc1 ! (λ l₂₈. alloc1 ! (λ l₂₉. alloc1 ! (λ l₃₀. alloc1 ! (λ l₃₁. alloc1 ! (λ l₃₂. alloc1 ! (λ l₃₃. alloc1 ! (λ l₃₄. alloc1 ! (λ l₃₅. alloc1 ! (λ l₃₆. alloc1 ! (λ l₃₇. alloc1 ! (λ l₃₈. alloc1 ! (λ l₃₉. alloc1 ! (λ l₄₀. alloc1 ! (λ l₄₁. alloc0 ! $ params1 ! $
-        pass1 ! (init ! 80 refl (replicaE .lawful 𝓤 H A W s s-is)) $ pass1 ! (init ! 78 refl (tt, (tt, (record { fits = frame .room .0 }, tt)))) $ pass1 ! (init ! 76 refl (tt, (tt, (record { fits = log .room .0 }, tt)))) $ pass1 ! (init ! 74 refl (tt, (tt, (record { fits = results .room .0 }, tt)))) $ pass1 ! (init ! 72 refl (tt, (tt, (record { fits = totals .room .0 }, tt)))) $ pass1 ! (init ! 70 refl (tt, (tt, (record { fits = acks .room .0 }, tt)))) $ pass1 ! (init ! 68 refl (tt, (tt, (record { fits = stored .room .0 }, tt)))) $ pass1 ! (init ! 66 refl (tt, (tt, (record { fits = out .room .0 }, tt)))) $ pass1 ! (init ! 64 refl (tt, (tt, (record { fits = reps .room .0 }, tt)))) $ pass1 ! (init ! 62 refl ((uintE w64) .lawful 𝓤 H A W l l-is)) $ pass1 ! (init ! 60 refl (rowsE .lawful 𝓤 H A W table table-is)) $ pass1 ! (init ! 58 refl (rowsE .lawful 𝓤 H A W old old-is)) $ pass0 ! $
-        -- [_41; …; … _0; …; the slices, each with its token]
-        assigns ! (of-opd ! (load ! (from ! (stop !)) (look ! 60 refl))) (from ! (stop !)) (init ! 56 refl (rowsE .lawful 𝓤 H A W table table-is)) $
-        assigns ! (of-opd ! (load ! (from ! (stop !)) (look ! 58 refl))) (from ! (stop !)) (init ! 54 refl (rowsE .lawful 𝓤 H A W old old-is)) $
-        assigns ! (addr ! (from ! (fld ! refl (hop ! (look-in ! 76 (sub ! 0 refl (whole !))) (stop !))))) (from ! (stop !)) (init ! 50 refl (tt, tt)) $
-        assigns ! (agg ! (and-then ! (load ! (from ! (stop !)) (look ! 50 refl)) (and-then ! (load ! (from ! (fld ! refl (stop !))) (look-in ! 76 (sub ! 1 refl (whole !)))) (no-more !)))) (from ! (stop !)) (init ! 48 refl (tt, (tt, (record { fits = log .room .0 }, tt)))) $
-        assigns ! (addr ! (from ! (fld ! refl (hop ! (look-in ! 74 (sub ! 0 refl (whole !))) (stop !))))) (from ! (stop !)) (init ! 46 refl (tt, tt)) $
-        assigns ! (agg ! (and-then ! (load ! (from ! (stop !)) (look ! 46 refl)) (and-then ! (load ! (from ! (fld ! refl (stop !))) (look-in ! 74 (sub ! 1 refl (whole !)))) (no-more !)))) (from ! (stop !)) (init ! 44 refl (tt, (tt, (record { fits = results .room .0 }, tt)))) $
-        assigns ! (addr ! (from ! (fld ! refl (hop ! (look-in ! 72 (sub ! 0 refl (whole !))) (stop !))))) (from ! (stop !)) (init ! 42 refl (tt, tt)) $
-        assigns ! (agg ! (and-then ! (load ! (from ! (stop !)) (look ! 42 refl)) (and-then ! (load ! (from ! (fld ! refl (stop !))) (look-in ! 72 (sub ! 1 refl (whole !)))) (no-more !)))) (from ! (stop !)) (init ! 40 refl (tt, (tt, (record { fits = totals .room .0 }, tt)))) $
-        assigns ! (addr ! (from ! (fld ! refl (hop ! (look-in ! 70 (sub ! 0 refl (whole !))) (stop !))))) (from ! (stop !)) (init ! 38 refl (tt, tt)) $
-        assigns ! (agg ! (and-then ! (load ! (from ! (stop !)) (look ! 38 refl)) (and-then ! (load ! (from ! (fld ! refl (stop !))) (look-in ! 70 (sub ! 1 refl (whole !)))) (no-more !)))) (from ! (stop !)) (init ! 36 refl (tt, (tt, (record { fits = acks .room .0 }, tt)))) $
-        assigns ! (addr ! (from ! (fld ! refl (hop ! (look-in ! 68 (sub ! 0 refl (whole !))) (stop !))))) (from ! (stop !)) (init ! 34 refl (tt, tt)) $
-        assigns ! (agg ! (and-then ! (load ! (from ! (stop !)) (look ! 34 refl)) (and-then ! (load ! (from ! (fld ! refl (stop !))) (look-in ! 68 (sub ! 1 refl (whole !)))) (no-more !)))) (from ! (stop !)) (init ! 32 refl (tt, (tt, (record { fits = stored .room .0 }, tt)))) $
-        assigns ! (addr ! (from ! (stop !))) (from ! (stop !)) (init ! 30 refl (tt, tt)) $
-        assigns ! (bin ! (load ! (from ! (stop !)) (look ! 30 refl)) (lit ! tt) tt) (from ! (stop !)) (init ! 28 refl (tt, tt)) $
-        assigns ! (bin ! (load ! (from ! (stop !)) (look ! 62 refl)) (lit ! tt) zero-le) (from ! (stop !)) (init ! 26 refl (tt, record { fits = less-none-fits l (l-is .1) })) $ rewrite ! 26 (λ (n : ℕ). ‵ (fat fullShare (tyInt w64) l₂₈ 0 (vint w64 n))) (less-none l) refl $
-        assigns ! (addr ! (from ! (hop ! (look ! 28 refl) (stop !)))) (from ! (stop !)) (init ! 24 refl (tt, tt)) $
-        assigns ! (agg ! (and-then ! (load ! (from ! (stop !)) (look ! 24 refl)) (and-then ! (load ! (from ! (stop !)) (look ! 26 refl)) (no-more !)))) (from ! (stop !)) (init ! 22 refl (tt, (tt, (record { fits = l-is .1 }, tt)))) $
-        assigns ! (addr ! (from ! (stop !))) (from ! (stop !)) (init ! 20 refl (tt, tt)) $
-        assigns ! (bin ! (load ! (from ! (stop !)) (look ! 20 refl)) (lit ! tt) tt) (from ! (stop !)) (init ! 18 refl (tt, tt)) $
-        assigns ! (bin ! (load ! (from ! (stop !)) (look ! 62 refl)) (lit ! tt) zero-le) (from ! (stop !)) (init ! 16 refl (tt, record { fits = less-none-fits l (l-is .1) })) $ rewrite ! 16 (λ (n : ℕ). ‵ (fat fullShare (tyInt w64) l₃₃ 0 (vint w64 n))) (less-none l) refl $
-        assigns ! (addr ! (from ! (hop ! (look ! 18 refl) (stop !)))) (from ! (stop !)) (init ! 14 refl (tt, tt)) $
-        assigns ! (agg ! (and-then ! (load ! (from ! (stop !)) (look ! 14 refl)) (and-then ! (load ! (from ! (stop !)) (look ! 16 refl)) (no-more !)))) (from ! (stop !)) (init ! 12 refl (tt, (tt, (record { fits = l-is .1 }, tt)))) $
-        assigns ! (addr ! (from ! (fld ! refl (hop ! (look-in ! 66 (sub ! 0 refl (whole !))) (stop !))))) (from ! (stop !)) (init ! 10 refl (tt, tt)) $
-        assigns ! (agg ! (and-then ! (load ! (from ! (stop !)) (look ! 10 refl)) (and-then ! (load ! (from ! (fld ! refl (stop !))) (look-in ! 66 (sub ! 1 refl (whole !)))) (no-more !)))) (from ! (stop !)) (init ! 8 refl (tt, (tt, (record { fits = out .room .0 }, tt)))) $
-        assigns ! (addr ! (from ! (fld ! refl (hop ! (look-in ! 64 (sub ! 0 refl (whole !))) (stop !))))) (from ! (stop !)) (init ! 6 refl (tt, tt)) $
-        assigns ! (agg ! (and-then ! (load ! (from ! (stop !)) (look ! 6 refl)) (and-then ! (load ! (from ! (fld ! refl (stop !))) (look-in ! 64 (sub ! 1 refl (whole !)))) (no-more !)))) (from ! (stop !)) (init ! 4 refl (tt, (tt, (record { fits = reps .room .0 }, tt)))) $
+        alloc1 ! (λ l₀. alloc1 ! (λ l₁. alloc1 ! (λ l₂. alloc1 ! (λ l₃. alloc1 ! (λ l₄. alloc1 ! (λ l₅. alloc1 ! (λ l₆. alloc1 ! (λ l₇. alloc1 ! (λ l₈. alloc1 ! (λ l₉. alloc1 ! (λ l₁₀. alloc1 ! (λ l₁₁. alloc1 ! (λ l₁₂. alloc1 ! (λ l₁₃. alloc1 ! (λ l₁₄. alloc1 ! (λ l₁₅. alloc1 ! (λ l₁₆. alloc1 ! (λ l₁₇. alloc1 ! (λ l₁₈. alloc1 ! (λ l₁₉. alloc1 ! (λ l₂₀. alloc1 ! (λ l₂₁. alloc1 ! (λ l₂₂. alloc1 ! (λ l₂₃. alloc1 ! (λ l₂₄. alloc1 ! (λ l₂₅. alloc1 ! (λ l₂₆. alloc1 ! (λ l₂₇. alloc1 ! (λ l₂₈. alloc1 ! (λ l₂₉. alloc1 ! (λ l₃₀. alloc1 ! (λ l₃₁. alloc1 ! (λ l₃₂. alloc1 ! (λ l₃₃. alloc0 ! $ params1 ! $
+        pass1 ! (init ! 64 refl (replicaE .lawful 𝓤 H A W s s-is)) $ pass1 ! (init ! 62 refl (tt, (tt, (record { fits = frame .room .0 }, tt)))) $ pass1 ! (init ! 60 refl (tt, (tt, (record { fits = log .room .0 }, tt)))) $ pass1 ! (init ! 58 refl (tt, (tt, (record { fits = results .room .0 }, tt)))) $ pass1 ! (init ! 56 refl (tt, (tt, (record { fits = totals .room .0 }, tt)))) $ pass1 ! (init ! 54 refl (tt, (tt, (record { fits = acks .room .0 }, tt)))) $ pass1 ! (init ! 52 refl (tt, (tt, (record { fits = stored .room .0 }, tt)))) $ pass1 ! (init ! 50 refl (tt, (tt, (record { fits = out .room .0 }, tt)))) $ pass1 ! (init ! 48 refl (tt, (tt, (record { fits = reps .room .0 }, tt)))) $ pass1 ! (init ! 46 refl ((uintE w64) .lawful 𝓤 H A W l l-is)) $ pass1 ! (init ! 44 refl (rowsE .lawful 𝓤 H A W table table-is)) $ pass0 ! $
+        -- [_33; …; … _0; …; the slices, each with its token]
+        assigns ! (of-opd ! (load ! (from ! (stop !)) (look ! 44 refl))) (from ! (stop !)) (init ! 42 refl (rowsE .lawful 𝓤 H A W table table-is)) $
+        assigns ! (addr ! (from ! (fld ! refl (hop ! (look-in ! 60 (sub ! 0 refl (whole !))) (stop !))))) (from ! (stop !)) (init ! 38 refl (tt, tt)) $
+        assigns ! (agg ! (and-then ! (load ! (from ! (stop !)) (look ! 38 refl)) (and-then ! (load ! (from ! (fld ! refl (stop !))) (look-in ! 60 (sub ! 1 refl (whole !)))) (no-more !)))) (from ! (stop !)) (init ! 36 refl (tt, (tt, (record { fits = log .room .0 }, tt)))) $
+        assigns ! (addr ! (from ! (fld ! refl (hop ! (look-in ! 58 (sub ! 0 refl (whole !))) (stop !))))) (from ! (stop !)) (init ! 34 refl (tt, tt)) $
+        assigns ! (agg ! (and-then ! (load ! (from ! (stop !)) (look ! 34 refl)) (and-then ! (load ! (from ! (fld ! refl (stop !))) (look-in ! 58 (sub ! 1 refl (whole !)))) (no-more !)))) (from ! (stop !)) (init ! 32 refl (tt, (tt, (record { fits = results .room .0 }, tt)))) $
+        assigns ! (addr ! (from ! (fld ! refl (hop ! (look-in ! 56 (sub ! 0 refl (whole !))) (stop !))))) (from ! (stop !)) (init ! 30 refl (tt, tt)) $
+        assigns ! (agg ! (and-then ! (load ! (from ! (stop !)) (look ! 30 refl)) (and-then ! (load ! (from ! (fld ! refl (stop !))) (look-in ! 56 (sub ! 1 refl (whole !)))) (no-more !)))) (from ! (stop !)) (init ! 28 refl (tt, (tt, (record { fits = totals .room .0 }, tt)))) $
+        assigns ! (addr ! (from ! (fld ! refl (hop ! (look-in ! 54 (sub ! 0 refl (whole !))) (stop !))))) (from ! (stop !)) (init ! 26 refl (tt, tt)) $
+        assigns ! (agg ! (and-then ! (load ! (from ! (stop !)) (look ! 26 refl)) (and-then ! (load ! (from ! (fld ! refl (stop !))) (look-in ! 54 (sub ! 1 refl (whole !)))) (no-more !)))) (from ! (stop !)) (init ! 24 refl (tt, (tt, (record { fits = acks .room .0 }, tt)))) $
+        assigns ! (addr ! (from ! (fld ! refl (hop ! (look-in ! 52 (sub ! 0 refl (whole !))) (stop !))))) (from ! (stop !)) (init ! 22 refl (tt, tt)) $
+        assigns ! (agg ! (and-then ! (load ! (from ! (stop !)) (look ! 22 refl)) (and-then ! (load ! (from ! (fld ! refl (stop !))) (look-in ! 52 (sub ! 1 refl (whole !)))) (no-more !)))) (from ! (stop !)) (init ! 20 refl (tt, (tt, (record { fits = stored .room .0 }, tt)))) $
+        assigns ! (addr ! (from ! (stop !))) (from ! (stop !)) (init ! 18 refl (tt, tt)) $
+        assigns ! (bin ! (load ! (from ! (stop !)) (look ! 18 refl)) (lit ! tt) tt) (from ! (stop !)) (init ! 16 refl (tt, tt)) $
+        assigns ! (bin ! (load ! (from ! (stop !)) (look ! 46 refl)) (lit ! tt) zero-le) (from ! (stop !)) (init ! 14 refl (tt, record { fits = less-none-fits l (l-is .1) })) $ rewrite ! 14 (λ (n : ℕ). ‵ (fat fullShare (tyInt w64) l₂₆ 0 (vint w64 n))) (less-none l) refl $
+        assigns ! (addr ! (from ! (hop ! (look ! 16 refl) (stop !)))) (from ! (stop !)) (init ! 12 refl (tt, tt)) $
+        assigns ! (agg ! (and-then ! (load ! (from ! (stop !)) (look ! 12 refl)) (and-then ! (load ! (from ! (stop !)) (look ! 14 refl)) (no-more !)))) (from ! (stop !)) (init ! 10 refl (tt, (tt, (record { fits = l-is .1 }, tt)))) $
+        assigns ! (addr ! (from ! (fld ! refl (hop ! (look-in ! 50 (sub ! 0 refl (whole !))) (stop !))))) (from ! (stop !)) (init ! 8 refl (tt, tt)) $
+        assigns ! (agg ! (and-then ! (load ! (from ! (stop !)) (look ! 8 refl)) (and-then ! (load ! (from ! (fld ! refl (stop !))) (look-in ! 50 (sub ! 1 refl (whole !)))) (no-more !)))) (from ! (stop !)) (init ! 6 refl (tt, (tt, (record { fits = out .room .0 }, tt)))) $
+        assigns ! (addr ! (from ! (fld ! refl (hop ! (look-in ! 48 (sub ! 0 refl (whole !))) (stop !))))) (from ! (stop !)) (init ! 4 refl (tt, tt)) $
+        assigns ! (agg ! (and-then ! (load ! (from ! (stop !)) (look ! 4 refl)) (and-then ! (load ! (from ! (fld ! refl (stop !))) (look-in ! 48 (sub ! 1 refl (whole !)))) (no-more !)))) (from ! (stop !)) (init ! 2 refl (tt, (tt, (record { fits = reps .room .0 }, tt)))) $
         -- the rows are lent
-        move ! (54 ∷ []) $ lend-first rowE 8 ! tt tt (named 7) l old l₁₄ old-is (rows-room old old-is l) (rows-long old old-is l fits) (λ ν₁ δ₁.
-        move ! (58 ∷ []) $ lend-first rowE 8 ! tt tt (named 6) l table l₁₃ table-is (rows-room table table-is l) (rows-long table table-is l fits) (λ ν₀ δ₀.
-        move ! (88 ∷ []) $ shared-too u8 ! (named 0) (as-ref frame (frame .xs)) (at frame ∷ []) $
-        move ! (0 ∷ 90 ∷ 91 ∷ 92 ∷ 93 ∷ 94 ∷ 95 ∷ 96 ∷ 97 ∷ 98 ∷ 99 ∷ 100 ∷ 2 ∷ 3 ∷ 5 ∷ 6 ∷ 101 ∷ 102 ∷ 103 ∷ 104 ∷ []) $ gives W (slices (to-all ν₀ δ₀ ν₁ δ₁ l₁₃ l₁₄)) (Call 𝓤 H A mem run .pre (to-call ν₀ δ₀ ν₁ δ₁ l₁₃ l₁₄)) (bare ! $ hands-all ! (to-all ν₀ δ₀ ν₁ δ₁ l₁₃ l₁₄)) $
-        calls-fn ! fm callee.ended (callee.clauses 𝓤 H A mem run) known-call (to-call ν₀ δ₀ ν₁ δ₁ l₁₃ l₁₄) (and-then ! (load ! (from ! (stop !)) (look ! 82 refl)) (and-then ! (load ! (from ! (stop !)) (look ! 80 refl)) (and-then ! (load ! (from ! (stop !)) (look ! 52 refl)) (and-then ! (load ! (from ! (stop !)) (look ! 48 refl)) (and-then ! (load ! (from ! (stop !)) (look ! 44 refl)) (and-then ! (load ! (from ! (stop !)) (look ! 40 refl)) (and-then ! (load ! (from ! (stop !)) (look ! 36 refl)) (and-then ! (load ! (from ! (stop !)) (look ! 26 refl)) (and-then ! (load ! (from ! (stop !)) (look ! 16 refl)) (and-then ! (load ! (from ! (stop !)) (look ! 12 refl)) (and-then ! (load ! (from ! (stop !)) (look ! 8 refl)) (no-more !)))))))))))) (λ v ans ws.
-        drop ! $ none-of ! $ none-of ! $ last-of ! (λ e-log. last-of ! (λ e-results. last-of ! (λ e-totals. last-of ! (λ e-acks. last-of ! (λ e-stored. last-of ! (λ e-table. last-of ! (λ e-old. last-of ! (λ e-out. last-of ! (λ e-reps.
-        told answeredE ! (slices (to-all ν₀ δ₀ ν₁ δ₁ l₁₃ l₁₄)) 64 ans v refl refl (λ ans-is.
+        move ! (42 ∷ []) $ lend-first rowE 8 ! tt tt (named 6) l table l₁₂ table-is (rows-room table table-is l) (rows-long table table-is l fits) (λ ν δ.
+        move ! (70 ∷ []) $ shared-too u8 ! (named 0) (as-ref frame (frame .xs)) (at frame ∷ []) $
+        move ! (0 ∷ 72 ∷ 73 ∷ 74 ∷ 75 ∷ 76 ∷ 77 ∷ 78 ∷ 79 ∷ 80 ∷ 81 ∷ 82 ∷ 2 ∷ 3 ∷ 83 ∷ 84 ∷ 85 ∷ 86 ∷ []) $ gives W (slices (to-all ν δ l₁₂)) (Call 𝓤 H A mem run .pre (to-call ν δ l₁₂)) (bare ! $ hands-all ! (to-all ν δ l₁₂)) $
+        calls-fn ! fm callee.ended (callee.clauses 𝓤 H A mem run) known-call (to-call ν δ l₁₂) (and-then ! (load ! (from ! (stop !)) (look ! 66 refl)) (and-then ! (load ! (from ! (stop !)) (look ! 64 refl)) (and-then ! (load ! (from ! (stop !)) (look ! 39 refl)) (and-then ! (load ! (from ! (stop !)) (look ! 35 refl)) (and-then ! (load ! (from ! (stop !)) (look ! 31 refl)) (and-then ! (load ! (from ! (stop !)) (look ! 27 refl)) (and-then ! (load ! (from ! (stop !)) (look ! 23 refl)) (and-then ! (load ! (from ! (stop !)) (look ! 13 refl)) (and-then ! (load ! (from ! (stop !)) (look ! 9 refl)) (and-then ! (load ! (from ! (stop !)) (look ! 5 refl)) (no-more !))))))))))) (λ v ans ws.
+        drop ! $ none-of ! $ none-of ! $ last-of ! (λ e-log. last-of ! (λ e-results. last-of ! (λ e-totals. last-of ! (λ e-acks. last-of ! (λ e-stored. last-of ! (λ e-table. last-of ! (λ e-out. last-of ! (λ e-reps.
+        told answeredE ! (slices (to-all ν δ l₁₂)) 50 ans v refl refl (λ ans-is.
         -- and come back
-        move ! (6 ∷ 13 ∷ 20 ∷ []) $ back-first rowE 8 ! tt δ₀ l table (ws .1 .1 .1 .1 .1 .1 .1 .0) l₁₃ (table-is .1 .0 .1) e-table (λ table-is′.
-        move ! (7 ∷ 12 ∷ 19 ∷ []) $ back-first rowE 8 ! tt δ₁ l old (ws .1 .1 .1 .1 .1 .1 .1 .1 .0) l₁₄ (old-is .1 .0 .1) e-old (λ old-is′.
-        assigns ! (of-opd ! (load ! (from ! (stop !)) (look ! 1 refl))) (from ! (stop !)) (init ! 20 refl (rowsE .lawful 𝓤 H A W ((ws .1 .1 .1 .1 .1 .1 .1 .0) ++ (drop-list l table)) table-is′)) $
-        assigns ! (of-opd ! (load ! (from ! (stop !)) (look ! 0 refl))) (from ! (stop !)) (init ! 18 refl (rowsE .lawful 𝓤 H A W ((ws .1 .1 .1 .1 .1 .1 .1 .1 .0) ++ (drop-list l old)) old-is′)) $
-        gives W [] (AnsweredWithRows 𝓤 H A mem run .pre (to-with-rows ans ((ws .1 .1 .1 .1 .1 .1 .1 .0) ++ (drop-list l table)) ((ws .1 .1 .1 .1 .1 .1 .1 .1 .0) ++ (drop-list l old)))) (bare ! $ hands ! [] (arg answeredE ans ans-is ∷ arg rowsE ((ws .1 .1 .1 .1 .1 .1 .1 .0) ++ (drop-list l table)) table-is′ ∷ arg rowsE ((ws .1 .1 .1 .1 .1 .1 .1 .1 .0) ++ (drop-list l old)) old-is′ ∷ [])) $
-        calls-fn ! fm with-rows.ended (with-rows.clauses 𝓤 H A mem run) known-with-rows (to-with-rows ans ((ws .1 .1 .1 .1 .1 .1 .1 .0) ++ (drop-list l table)) ((ws .1 .1 .1 .1 .1 .1 .1 .1 .0) ++ (drop-list l old))) (and-then ! (load ! (from ! (stop !)) (look ! 71 refl)) (and-then ! (load ! (from ! (stop !)) (look ! 21 refl)) (and-then ! (load ! (from ! (stop !)) (look ! 19 refl)) (no-more !)))) (λ v′ r ws′.
-        drop ! $ told leftE ! [] 98 r v′ refl refl (λ r-is.
-        move ! (17 ∷ 2 ∷ 16 ∷ 3 ∷ 15 ∷ 4 ∷ 14 ∷ 5 ∷ 13 ∷ 6 ∷ 12 ∷ 7 ∷ 11 ∷ 8 ∷ 10 ∷ 9 ∷ 0 ∷ 72 ∷ 1 ∷ 73 ∷ []) $
-        returns ! (look ! 98 refl) $ gone ! 98 refl refl $ gone ! 96 refl refl $ gone ! 94 refl refl $ gone ! 92 refl refl $ gone ! 90 refl refl $ gone ! 88 refl refl $ gone ! 86 refl refl $ gone ! 84 refl refl $ gone ! 82 refl refl $ gone ! 80 refl refl $ gone ! 78 refl refl $ gone ! 76 refl refl $ gone ! 74 refl refl $ gone ! 18 refl refl $ gone ! 16 refl refl $ gone ! 68 refl refl $ gone ! 66 refl refl $ gone ! 64 refl refl $ gone ! 62 refl refl $ gone ! 60 refl refl $ gone ! 58 refl refl $ gone ! 56 refl refl $ gone ! 54 refl refl $ gone ! 52 refl refl $ gone ! 50 refl refl $ gone ! 48 refl refl $ gone ! 46 refl refl $ gone ! 44 refl refl $ gone ! 42 refl refl $ gone ! 40 refl refl $ gone ! 38 refl refl $ gone ! 36 refl refl $ gone ! 34 refl refl $ gone ! 32 refl refl $ gone ! 30 refl refl $ gone ! 28 refl refl $ gone ! 26 refl refl $ gone ! 24 refl refl $ gone ! 22 refl refl $ gone ! 20 refl refl $ gone ! 18 refl refl $ gone ! 16 refl refl $ free0 ! $ by ! (exits r r-is (ws .1 .1 .0) (ws .1 .1 .1 .0) (ws .1 .1 .1 .1 .0) (ws .1 .1 .1 .1 .1 .0) (ws .1 .1 .1 .1 .1 .1 .0) (ws .1 .1 .1 .1 .1 .1 .1 .1 .1 .0) (ws .1 .1 .1 .1 .1 .1 .1 .1 .1 .1 .0) e-log e-results e-totals e-acks e-stored e-out e-reps))))))))))))))))))))))))))))))))))))))))))))))))))))))))))))
+        move ! (6 ∷ 11 ∷ 18 ∷ []) $ back-first rowE 8 ! tt δ l table (ws .1 .1 .1 .1 .1 .1 .1 .0) l₁₂ (table-is .1 .0 .1) e-table (λ table-is′.
+        assigns ! (of-opd ! (load ! (from ! (stop !)) (look ! 0 refl))) (from ! (stop !)) (init ! 17 refl (rowsE .lawful 𝓤 H A W ((ws .1 .1 .1 .1 .1 .1 .1 .0) ++ (drop-list l table)) table-is′)) $
+        gives W [] (AnsweredWithRows 𝓤 H A mem run .pre (to-with-rows ans ((ws .1 .1 .1 .1 .1 .1 .1 .0) ++ (drop-list l table)))) (bare ! $ hands ! [] (arg answeredE ans ans-is ∷ arg rowsE ((ws .1 .1 .1 .1 .1 .1 .1 .0) ++ (drop-list l table)) table-is′ ∷ [])) $
+        calls-fn ! fm with-rows.ended (with-rows.clauses 𝓤 H A mem run) known-with-rows (to-with-rows ans ((ws .1 .1 .1 .1 .1 .1 .1 .0) ++ (drop-list l table))) (and-then ! (load ! (from ! (stop !)) (look ! 58 refl)) (and-then ! (load ! (from ! (stop !)) (look ! 18 refl)) (no-more !))) (λ v′ r ws′.
+        drop ! $ told leftE ! [] 82 r v′ refl refl (λ r-is.
+        move ! (16 ∷ 1 ∷ 15 ∷ 2 ∷ 14 ∷ 3 ∷ 13 ∷ 4 ∷ 12 ∷ 5 ∷ 11 ∷ 6 ∷ 10 ∷ 7 ∷ 9 ∷ 8 ∷ 0 ∷ 59 ∷ []) $
+        returns ! (look ! 82 refl) $ gone ! 82 refl refl $ gone ! 80 refl refl $ gone ! 78 refl refl $ gone ! 76 refl refl $ gone ! 74 refl refl $ gone ! 72 refl refl $ gone ! 70 refl refl $ gone ! 68 refl refl $ gone ! 66 refl refl $ gone ! 64 refl refl $ gone ! 62 refl refl $ gone ! 60 refl refl $ gone ! 16 refl refl $ gone ! 56 refl refl $ gone ! 54 refl refl $ gone ! 52 refl refl $ gone ! 50 refl refl $ gone ! 48 refl refl $ gone ! 46 refl refl $ gone ! 44 refl refl $ gone ! 42 refl refl $ gone ! 40 refl refl $ gone ! 38 refl refl $ gone ! 36 refl refl $ gone ! 34 refl refl $ gone ! 32 refl refl $ gone ! 30 refl refl $ gone ! 28 refl refl $ gone ! 26 refl refl $ gone ! 24 refl refl $ gone ! 22 refl refl $ gone ! 20 refl refl $ gone ! 18 refl refl $ gone ! 16 refl refl $ free0 ! $ by ! (exits r r-is (ws .1 .1 .0) (ws .1 .1 .1 .0) (ws .1 .1 .1 .1 .0) (ws .1 .1 .1 .1 .1 .0) (ws .1 .1 .1 .1 .1 .1 .0) (ws .1 .1 .1 .1 .1 .1 .1 .1 .0) (ws .1 .1 .1 .1 .1 .1 .1 .1 .1 .0) e-log e-results e-totals e-acks e-stored e-out e-reps)))))))))))))))))))))))))))))))))))))))))))))))))
 
 on-message-meets : {M : Type 1} (𝓤 : URA M) (H : Heap 𝓤) (A : Atoms 𝓤) (W : Given 𝓤 H A) (mem : Memory → SProp 𝓤) (run : Routine → Fun 𝓤) (𝓣 : Tables 𝓤 H)
     → Triple 𝓤 (𝓣 .C callee-def.name) (Call 𝓤 H A mem run) → Triple 𝓤 (𝓣 .C with-rows-def.name) (AnsweredWithRows 𝓤 H A mem run) → Meets 𝓤 H A on-message.signature (WpFn 𝓤 H (𝓣 .C) (𝓣 .Λ) code.function) (on-message.spec 𝓤 H A mem run)
 on-message-meets 𝓤 H A W mem run 𝓣 known-call known-with-rows =
     met-by 𝓤 H A W on-message.ended stayed (on-message.clauses 𝓤 H A mem run) 𝓣 code.function
-    (goes-none 𝓤 H A W 8 (λ _. replicaE .R) yes (λ κs x f. refl), (goes-none-slice 𝓤 H A W 8 (0 ∷ []) tt (plain (λ _. u8)) yes, (goes-gave-slice 𝓤 H A W 8 1 tt (plain (λ _. u8)), (goes-gave-slice 𝓤 H A W 8 2 tt (plain (λ _. u8)), (goes-gave-slice 𝓤 H A W 8 3 tt (plain (λ _. u8)), (goes-gave-slice 𝓤 H A W 8 4 tt (plain (λ _. u8)), (goes-gave-slice 𝓤 H A W 8 5 tt (plain (λ _. u8)), (goes-gave-slice 𝓤 H A W 8 6 tt (plain (λ _. u8)), (goes-gave-slice 𝓤 H A W 8 7 tt (plain (λ _. u8)), (goes-none 𝓤 H A W 8 (λ _. (uintE w64) .R) yes (λ κs x f. refl), (goes-none 𝓤 H A W 8 (λ _. rowsE .R) yes (λ κs x f. refl), (goes-none 𝓤 H A W 8 (λ _. rowsE .R) yes (λ κs x f. refl), tt))))))))))))
-    (λ κs. ((λ d. replicaE .val d ∷ []), (slice-vals, (slice-vals, (slice-vals, (slice-vals, (slice-vals, (slice-vals, (slice-vals, (slice-vals, ((λ d. (uintE w64) .val d ∷ []), ((λ d. rowsE .val d ∷ []), ((λ d. rowsE .val d ∷ []), tt)))))))))))))
-    (λ κs. (replicaE .tells, (shr-slice-tells (named 0) (κs .0) u8, (mut-slice-tells (named 1) (κs .1 .0) u8, (mut-slice-tells (named 2) (κs .1 .1 .0) u8, (mut-slice-tells (named 3) (κs .1 .1 .1 .0) u8, (mut-slice-tells (named 4) (κs .1 .1 .1 .1 .0) u8, (mut-slice-tells (named 5) (κs .1 .1 .1 .1 .1 .0) u8, (mut-slice-tells (named 6) (κs .1 .1 .1 .1 .1 .1 .0) u8, (mut-slice-tells (named 7) (κs .1 .1 .1 .1 .1 .1 .1 .0) u8, ((uintE w64) .tells, (rowsE .tells, (rowsE .tells, tt)))))))))))))
+    (goes-none 𝓤 H A W 8 (λ _. replicaE .R) yes (λ κs x f. refl), (goes-none-slice 𝓤 H A W 8 (0 ∷ []) tt (plain (λ _. u8)) yes, (goes-gave-slice 𝓤 H A W 8 1 tt (plain (λ _. u8)), (goes-gave-slice 𝓤 H A W 8 2 tt (plain (λ _. u8)), (goes-gave-slice 𝓤 H A W 8 3 tt (plain (λ _. u8)), (goes-gave-slice 𝓤 H A W 8 4 tt (plain (λ _. u8)), (goes-gave-slice 𝓤 H A W 8 5 tt (plain (λ _. u8)), (goes-gave-slice 𝓤 H A W 8 6 tt (plain (λ _. u8)), (goes-gave-slice 𝓤 H A W 8 7 tt (plain (λ _. u8)), (goes-none 𝓤 H A W 8 (λ _. (uintE w64) .R) yes (λ κs x f. refl), (goes-none 𝓤 H A W 8 (λ _. rowsE .R) yes (λ κs x f. refl), tt)))))))))))
+    (λ κs. ((λ d. replicaE .val d ∷ []), (slice-vals, (slice-vals, (slice-vals, (slice-vals, (slice-vals, (slice-vals, (slice-vals, (slice-vals, ((λ d. (uintE w64) .val d ∷ []), ((λ d. rowsE .val d ∷ []), tt))))))))))))
+    (λ κs. (replicaE .tells, (shr-slice-tells (named 0) (κs .0) u8, (mut-slice-tells (named 1) (κs .1 .0) u8, (mut-slice-tells (named 2) (κs .1 .1 .0) u8, (mut-slice-tells (named 3) (κs .1 .1 .1 .0) u8, (mut-slice-tells (named 4) (κs .1 .1 .1 .1 .0) u8, (mut-slice-tells (named 5) (κs .1 .1 .1 .1 .1 .0) u8, (mut-slice-tells (named 6) (κs .1 .1 .1 .1 .1 .1 .0) u8, (mut-slice-tells (named 7) (κs .1 .1 .1 .1 .1 .1 .1 .0) u8, ((uintE w64) .tells, (rowsE .tells, tt))))))))))))
     (λ κs qs bounds a g are. needs 𝓤 (a .1 .1 .1 .1 .1 .1 .1 .1 .1 .0 ≤ 8) _ (λ pre.
-    walk 𝓤 H A W mem run (a .0) (are .0) (part-of (κs .0) (qs .0) (a .1 .0) (are .1 .0 .0 .1)) (part-of (κs .1 .0) (qs .1 .0) (a .1 .1 .0) (are .1 .1 .0 .0 .1)) (part-of (κs .1 .1 .0) (qs .1 .1 .0) (a .1 .1 .1 .0) (are .1 .1 .1 .0 .0 .1)) (part-of (κs .1 .1 .1 .0) (qs .1 .1 .1 .0) (a .1 .1 .1 .1 .0) (are .1 .1 .1 .1 .0 .0 .1)) (part-of (κs .1 .1 .1 .1 .0) (qs .1 .1 .1 .1 .0) (a .1 .1 .1 .1 .1 .0) (are .1 .1 .1 .1 .1 .0 .0 .1)) (part-of (κs .1 .1 .1 .1 .1 .0) (qs .1 .1 .1 .1 .1 .0) (a .1 .1 .1 .1 .1 .1 .0) (are .1 .1 .1 .1 .1 .1 .0 .0 .1)) (part-of (κs .1 .1 .1 .1 .1 .1 .0) (qs .1 .1 .1 .1 .1 .1 .0) (a .1 .1 .1 .1 .1 .1 .1 .0) (are .1 .1 .1 .1 .1 .1 .1 .0 .0 .1)) (part-of (κs .1 .1 .1 .1 .1 .1 .1 .0) (qs .1 .1 .1 .1 .1 .1 .1 .0) (a .1 .1 .1 .1 .1 .1 .1 .1 .0) (are .1 .1 .1 .1 .1 .1 .1 .1 .0 .0 .1)) (a .1 .1 .1 .1 .1 .1 .1 .1 .1 .0) (are .1 .1 .1 .1 .1 .1 .1 .1 .1 .0) (a .1 .1 .1 .1 .1 .1 .1 .1 .1 .1 .0) (are .1 .1 .1 .1 .1 .1 .1 .1 .1 .1 .0) (a .1 .1 .1 .1 .1 .1 .1 .1 .1 .1 .1 .0) (are .1 .1 .1 .1 .1 .1 .1 .1 .1 .1 .1 .0) pre
+    walk 𝓤 H A W mem run (a .0) (are .0) (part-of (κs .0) (qs .0) (a .1 .0) (are .1 .0 .0 .1)) (part-of (κs .1 .0) (qs .1 .0) (a .1 .1 .0) (are .1 .1 .0 .0 .1)) (part-of (κs .1 .1 .0) (qs .1 .1 .0) (a .1 .1 .1 .0) (are .1 .1 .1 .0 .0 .1)) (part-of (κs .1 .1 .1 .0) (qs .1 .1 .1 .0) (a .1 .1 .1 .1 .0) (are .1 .1 .1 .1 .0 .0 .1)) (part-of (κs .1 .1 .1 .1 .0) (qs .1 .1 .1 .1 .0) (a .1 .1 .1 .1 .1 .0) (are .1 .1 .1 .1 .1 .0 .0 .1)) (part-of (κs .1 .1 .1 .1 .1 .0) (qs .1 .1 .1 .1 .1 .0) (a .1 .1 .1 .1 .1 .1 .0) (are .1 .1 .1 .1 .1 .1 .0 .0 .1)) (part-of (κs .1 .1 .1 .1 .1 .1 .0) (qs .1 .1 .1 .1 .1 .1 .0) (a .1 .1 .1 .1 .1 .1 .1 .0) (are .1 .1 .1 .1 .1 .1 .1 .0 .0 .1)) (part-of (κs .1 .1 .1 .1 .1 .1 .1 .0) (qs .1 .1 .1 .1 .1 .1 .1 .0) (a .1 .1 .1 .1 .1 .1 .1 .1 .0) (are .1 .1 .1 .1 .1 .1 .1 .1 .0 .0 .1)) (a .1 .1 .1 .1 .1 .1 .1 .1 .1 .0) (are .1 .1 .1 .1 .1 .1 .1 .1 .1 .0) (a .1 .1 .1 .1 .1 .1 .1 .1 .1 .1 .0) (are .1 .1 .1 .1 .1 .1 .1 .1 .1 .1 .0) pre
     (𝓣 .C) (𝓣 .Λ) (fmOf 𝓤 H (W .laws) 𝓣) known-call known-with-rows))
 
 pub on-message-spec : {M : Type 1} → stated.statement M

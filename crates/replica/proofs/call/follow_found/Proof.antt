@@ -1,23 +1,18 @@
 -- `replica::call::follow_found` meets its contract. Assumes nothing.
-use mathlib.Core.Path.{sym, ap, _∙_}
 use native.Mathlib.Omega.{arith}
-use Rattle.numbers.proofs.WordLaws.{if-false}
-use Rattle.client_table.specs.declared.Change.{Change}
-use Rattle.client_table_bytes.specs.Steps.{oldAfter}
 use Rattle.replica.proofs.CallLaws.{follow-refused, follow-done}
 use borrow.Author.Needs.{needs}
 use Rattle.replica.proofs.call.follow_found.Statement.{statement}
 use Rattle.replica.proofs.call.follow_found.Tie as tie
 
 returns : tie.Need-returns
-returns c = follow-refused (c .before .before .before .before .before .before .args .s) (c .before .before .before .before .before .before .args .a) (c .before .before .before .before .before .before .args .log .now) (c .before .before .before .before .before .before .args .results .now) (c .before .before .before .before .before .before .args .table .now) (c .before .before .before .before .before .before .args .old .now) (c .if1 .taken)
+returns c = follow-refused (c .before .before .before .before .before .args .s) (c .before .before .before .before .before .args .a) (c .before .before .before .before .before .args .log .now) (c .before .before .before .before .before .args .results .now) (c .before .before .before .before .before .args .table .now) (c .if1 .taken)
 
 follow-found-requires : tie.Need-follow-found-requires
-follow-found-requires c κs = let f = c .before .before .before .before .before .before .before .before .before .pre .0 in rw (c .before .before .change-by .ensures) (omega (arith, f .table-long), (omega (arith, f .log-long, f .op-le), (omega (arith, f .results-long, f .commit-le, f .op-le), (f .commit-le, c .before .before .before .before .before .before .before .before .before .pre .1 (c .before .before .before .if1 .left)))))
+follow-found-requires c κs = let f = c .before .before .before .before .before .before .before .before .pre .0 in rw (c .before .before .change-by .ensures) (omega (arith, f .table-long), (omega (arith, f .log-long, f .op-le), (omega (arith, f .results-long, f .commit-le, f .op-le), (f .commit-le, c .before .before .before .before .before .before .before .before .pre .1 (c .before .before .before .if1 .left)))))
 
 returns-2 : tie.Need-returns-2
-unfolding oldAfter
-returns-2 c = follow-done (c .before .before .before .before .before .before .before .before .before .before .before .before .args .s) (c .before .before .before .before .before .before .before .before .before .before .before .before .args .a) (c .before .before .before .before .before .before .before .before .before .before .before .before .args .log .now) (c .before .before .before .before .before .before .before .before .before .before .before .before .args .results .now) (c .before .before .before .before .before .before .before .before .before .before .before .before .args .table .now) (c .before .before .before .before .before .before .before .before .before .before .before .before .args .old .now) (c .before .before .before .before .before .before .if1 .left) (c .before .before .before .before .before .change-by .result) (c .before .before .before .before .before .change-by .ensures) (c .before .before .follow-found .ensures) (sym (if-false _ _ _ (ap (λ (k : Change). k .installed) (c .before .before .before .before .before .change-by .ensures) ∙ c .before .before .before .before .before .before .before .before .before .before .before .before .pre .1 (c .before .before .before .before .before .before .if1 .left) .kept)))
+returns-2 c = follow-done (c .before .before .before .before .before .before .before .before .before .before .before .args .s) (c .before .before .before .before .before .before .before .before .before .before .before .args .a) (c .before .before .before .before .before .before .before .before .before .before .before .args .log .now) (c .before .before .before .before .before .before .before .before .before .before .before .args .results .now) (c .before .before .before .before .before .before .before .before .before .before .before .args .table .now) (c .before .before .before .before .before .before .if1 .left) (c .before .before .before .before .before .change-by .result) (c .before .before .before .before .before .change-by .ensures) (c .before .before .follow-found .ensures)
 
 pub follow-found-spec : {M : Type 1} → statement M
 follow-found-spec =

@@ -7,13 +7,12 @@ use Rattle.replica_structs.proofs.core.create.Statement.{statement}
 use Rattle.replica_structs.proofs.core.create.Tie as tie
 
 returns : tie.Need-returns
-returns c = let a = c .before .before .before .before .before .before .before .before .before .before .before .before .before .before .args in create-counted (memory (a .log .now) (a .results .now) (a .totals .now) (a .acks .now) (a .stored .now) [] []) (a .rows) (a .old) (c .before .before .before .before .before .before .before .before .in-bytes .ensures) (c .before .before .before .before .before .before .before .in-bytes2 .ensures) (a .u) (c .before .before .before .before .create .ensures)
+returns c = let a = c .before .before .before .before .before .before .before .before .before .before .before .before .before .args in create-counted (memory (a .log .now) (a .results .now) (a .totals .now) (a .acks .now) (a .stored .now) [] []) (a .rows) (c .before .before .before .before .before .before .before .in-bytes .ensures) (a .u) (c .before .before .before .before .create .ensures)
 
 pub create-spec : {M : Type 1} → statement M
 create-spec =
     tie.close
     (tie.spec
-    (λ c κs. search needs)
     (λ c κs. search needs)
     (λ c κs. search needs)
     (λ c. search needs)

@@ -7,13 +7,12 @@ use Rattle.replica_structs.proofs.core.recover.Statement.{statement}
 use Rattle.replica_structs.proofs.core.recover.Tie as tie
 
 returns : tie.Need-returns
-returns c = let a = c .before .before .before .before .before .before .before .before .before .before .before .before .before .before .before .before .before .before .args in recover-counted (memory (a .log .now) (a .results .now) (a .totals .now) (a .acks .now) (a .stored .now) (a .out .now) []) (a .rows) (a .old) (c .before .before .before .before .before .before .before .before .before .before .before .in-bytes .ensures) (c .before .before .before .before .before .before .before .before .before .before .in-bytes2 .ensures) (a .u) (a .v) (a .nonce) (c .before .before .before .before .before .before .recover .ensures)
+returns c = let a = c .before .before .before .before .before .before .before .before .before .before .before .before .before .before .before .before .before .args in recover-counted (memory (a .log .now) (a .results .now) (a .totals .now) (a .acks .now) (a .stored .now) (a .out .now) []) (a .rows) (c .before .before .before .before .before .before .before .before .before .before .in-bytes .ensures) (a .u) (a .v) (a .nonce) (c .before .before .before .before .before .before .recover .ensures)
 
 pub recover-spec : {M : Type 1} → statement M
 recover-spec =
     tie.close
     (tie.spec
-    (λ c κs. search needs)
     (λ c κs. search needs)
     (λ c κs. search needs)
     (λ c. search needs)
