@@ -329,9 +329,9 @@ static void block_lengths(void)
         {3, 65544, 8},      {3, UINT32_MAX, 8}, {3, 8, 0},    {3, 8, 4097},
         {3, 8, 0x20000001}, {3, 8, UINT32_MAX}, {UINT32_MAX, UINT32_MAX, UINT32_MAX}};
     size_t i;
-    expect(whitherhaul_replica_bytes(3, 8, 8) == 2856, "a block for n=3, L=8, M=8");
-    expect(whitherhaul_replica_bytes(3, 1, 1) == 518, "a block for the least numbers");
-    expect(whitherhaul_replica_bytes(7, 4096, 4096) == 2728180, "a block for the greatest numbers");
+    expect(whitherhaul_replica_bytes(3, 8, 8) == 2656, "a block for n=3, L=8, M=8");
+    expect(whitherhaul_replica_bytes(3, 1, 1) == 493, "a block for the least numbers");
+    expect(whitherhaul_replica_bytes(7, 4096, 4096) == 2625780, "a block for the greatest numbers");
     expect(whitherhaul_replica_bytes(5, 2, 9) == WHITHERHAUL_REPLICA_BYTES(5, 2, 9), "the macro");
     for (i = 0; i < sizeof outside / sizeof outside[0]; i++)
         expect(whitherhaul_replica_bytes(outside[i][0], outside[i][1], outside[i][2]) == 0,
