@@ -16,6 +16,7 @@ use Rattle.model.specs.State.{Book}
 use Rattle.model.specs.Book.{find, Rises}
 use Rattle.model.proofs.TableOf.{same-rows}
 use Rattle.safety.specs.Remembered.{LastAt, NoneOf, Remembers}
+use Rattle.safety.proofs.Tables.{none-such}
 
 -- ---- a client's last entry, or none
 
@@ -68,9 +69,6 @@ module _ (b c : Book) (p : Remembers b) (q : Remembers c) (l : b .log ≡ c .log
   found-last : (x : ℕ) → LastOf (b .log) x → find (b .table) x ≡ find (c .table) x
   found-last x y = rw (← y .mine none-such) (found-at none-such nothing (y .place) (y .last))
     where
-      none-such : Entry
-      none-such = record { client = 0; request = 0; operation = 0; member = 0; cents = 0 }
-
       nothing : Outcome
       nothing = record { code = 0; total = 0 }
 

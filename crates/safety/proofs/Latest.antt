@@ -17,6 +17,7 @@ use Rattle.model.specs.Book.{find}
 use Rattle.model.proofs.LatestLaws.{Latest, unbroken, latest-lift}
 use Rattle.model.proofs.TableOf.{table-latest}
 use Rattle.safety.specs.Demand.{Safe}
+use Rattle.safety.proofs.Tables.{none-such}
 
 -- ---- each client's requests once, in rising order: the log rises
 
@@ -40,9 +41,6 @@ rising-all (x ∷ l) d f =
 module _ (u : Setup) (m : State) (s : Safe u m) where
   pub safe-rising : rising (m .book .log) ≡ true
   safe-rising = rising-all (m .book .log) none-such (s .once none-such)
-    where
-      none-such : Entry
-      none-such = record { client = 0; request = 0; operation = 0; member = 0; cents = 0 }
 
   pub safe-latest : Latest (m .book .table) (m .book .log)
   safe-latest = rw (s .table-is) (table-latest (m .book .log) (m .book .results) (m .book .commit) safe-rising)

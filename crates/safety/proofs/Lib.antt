@@ -11,3 +11,4 @@ pub mod Latest
 pub mod Fixed
 pub mod Earned
 pub mod Again
+pub mod AgainHolds
