@@ -3,7 +3,8 @@
 use super::*;
 use crate::takings::MOST;
 use schedules::directed::{
-    back, commit, do_view_change, fee, prepare_ok, response, start_view_change, NEW,
+    back, commit, do_view_change, fee, prepare, prepare_ok, response, start_view,
+    start_view_change, NEW,
 };
 use vsr_rs::Message;
 use wire::fees::{Entry, FEE};
@@ -264,6 +265,38 @@ fn calls_that_meet_the_exception_are_counted() {
     ];
     counted(given(setup, NEW, vec![]), &normal);
     counted(given(setup, back(1), vec![]), &[(ask(2, 1), 0)]);
+}
+
+/// By the log, the results and the commit number alone, after any call: the first row has its reply, the second none.
+#[test]
+fn a_row_of_another_entry_is_noticed() {
+    let Pair { facts, memory, .. } = &mut pair();
+    assert_eq!(facts.hold(memory), Ok(()));
+    for place in (0..50).chain([50 + 16]) {
+        memory.table[place] ^= 1;
+        let held = facts.hold(memory);
+        assert!(held.is_err(), "byte {place} of the table");
+        memory.table[place] ^= 1;
+    }
+    assert_eq!(facts.hold(memory), Ok(()));
+}
+
+/// By document 01 an install forgets a reply where it drops a later entry of a client whose last one is committed then.
+#[test]
+fn installs_that_would_forget_are_counted() {
+    let setup = looped().case.setup;
+    let (five, six) = (fee(1, 5), fee(1, 6));
+    let frames = vec![prepare(0, 1, 0, five), prepare(0, 2, 1, six)];
+    let mut pair = given(setup, NEW, frames);
+    let mut counts = Counts::default();
+    for (view, log, met) in [(1, &[five, six][..], 0), (2, &[five], 1), (3, &[five], 1)] {
+        let step = Step {
+            frame: Some(frame(setup.id, &start_view(view, log, 1))),
+            lends: Lends::default(),
+        };
+        assert_eq!(pair.step(step, &mut counts), Ok(true));
+        assert_eq!(counts.forgotten, met, "view {view}");
+    }
 }
 
 #[test]
