@@ -8,8 +8,7 @@ ghost use Rattle.book.specs.Log.{with_entries, rises_after, none_breaks, is_same
 ghost use Rattle.fees.specs.Fees.{outcome_on};
 ghost use Rattle.fees.specs.Takings.{takings_after};
 ghost use Rattle.book.specs.Runs.{applied, money_committed, takings_committed, replies};
-ghost use Rattle.book.specs.Memory.{money_before, money_after};
-ghost use Rattle.numbers.specs.Lending.{was, last};
+ghost use Rattle.book.specs.Memory.{money};
 
 use entries::Entry;
 use numbers::View;
@@ -17,7 +16,7 @@ use numbers::View;
 // One entry after the first n.
 pub fn append(log: &mut [u8], n: usize, e: Entry)
     requires { (n < 4096) × (entry_place (n + 1) ≤ length log.old) }
-    ensures { last log ≡ with_entries n (encode_entry e) (was log) }
+    ensures { log.new ≡ with_entries n (encode_entry e) log.old }
 {
     let p = entries::entry_place(n);
     entries::write_entry(&mut log[p..], e);
@@ -26,7 +25,7 @@ pub fn append(log: &mut [u8], n: usize, e: Entry)
 // The first k entries of `part` after the first n. With n = 0 a log is installed.
 pub fn append_part(log: &mut [u8], n: usize, part: &[u8], k: usize)
     requires { (n + k ≤ 4096) × ((entry_place (n + k) ≤ length log.old) × (32 * k ≤ length part.now)) }
-    ensures { last log ≡ with_entries n (take (32 * k) (was part)) (was log) }
+    ensures { log.new ≡ with_entries n (take (32 * k) part.now) log.old }
 {
     let p = entries::entry_place(n);
     numbers::copy(&mut log[p..], part, 32 * k);
@@ -36,7 +35,7 @@ pub fn append_part(log: &mut [u8], n: usize, part: &[u8], k: usize)
 // Up to 2 entries every pair is looked at sooner than the chains are cleared. The chains have places for 4,096 entries, the most that a log has.
 fn none_breaks(log: &[u8], n: usize, part: &[u8], k: usize) -> bool
     requires { (n ≤ 4096) × ((entry_place n ≤ length log.now) × ((32 * k ≤ length part.now) × (rising (entries k part.now) ≡ true))) }
-    ensures { result ≡ none_breaks (entries n (was log)) (entries k (was part)) }
+    ensures { result ≡ none_breaks (entries n log.now) (entries k part.now) }
 {
     if k <= 2 {
         return none_by_pairs(log, n, part, k);
@@ -50,7 +49,7 @@ fn none_breaks(log: &[u8], n: usize, part: &[u8], k: usize) -> bool
 // Each entry of the log is compared with every one of `part`.
 fn none_by_pairs(log: &[u8], n: usize, part: &[u8], k: usize) -> bool
     requires { (n ≤ 4096) × ((entry_place n ≤ length log.now) × (32 * k ≤ length part.now)) }
-    ensures { result ≡ none_breaks (entries n (was log)) (entries k (was part)) }
+    ensures { result ≡ none_breaks (entries n log.now) (entries k part.now) }
 {
     let mut ok = true;
     let mut i = 0;
@@ -75,7 +74,7 @@ fn none_by_pairs(log: &[u8], n: usize, part: &[u8], k: usize) -> bool
 // Where too many ids have one remainder, the pairs are looked at instead.
 fn none_by_chain(log: &[u8], n: usize, part: &[u8], k: usize) -> bool
     requires { (n ≤ 4096) × ((entry_place n ≤ length log.now) × ((k ≤ 4096) × ((32 * k ≤ length part.now) × (rising (entries k part.now) ≡ true)))) }
-    ensures { result ≡ none_breaks (entries n (was log)) (entries k (was part)) }
+    ensures { result ≡ none_breaks (entries n log.now) (entries k part.now) }
 {
     let mut first: [u16; 1021] = [0; 1021];
     let mut next: [u16; 4096] = [0; 4096];
@@ -116,7 +115,7 @@ fn none_by_chain(log: &[u8], n: usize, part: &[u8], k: usize) -> bool
 // Whether the first n entries of a log that is rising, followed by the first k of `part`, are rising.
 pub fn rises_after(log: &[u8], n: usize, part: &[u8], k: usize) -> bool
     requires { (n ≤ 4096) × ((entry_place n ≤ length log.now) × (32 * k ≤ length part.now)) }
-    ensures { result ≡ rises_after (entries n (was log)) (entries k (was part)) }
+    ensures { result ≡ rises_after (entries n log.now) (entries k part.now) }
 {
     if !entries::is_rising(part, k) {
         return false;
@@ -127,7 +126,7 @@ pub fn rises_after(log: &[u8], n: usize, part: &[u8], k: usize) -> bool
 // Whether the first n bytes of two runs are equal.
 fn same(xs: &[u8], ys: &[u8], n: usize) -> bool
     requires { (n ≤ length xs.now) × (n ≤ length ys.now) }
-    ensures { result ≡ is_same (take n (was xs)) (take n (was ys)) }
+    ensures { result ≡ is_same (take n xs.now) (take n ys.now) }
 {
     let mut i = 0;
     while i < n {
@@ -142,7 +141,7 @@ fn same(xs: &[u8], ys: &[u8], n: usize) -> bool
 // Whether a log of k entries in `part` keeps the first n of ours, all 32 bytes of each.
 pub fn keeps(log: &[u8], n: usize, part: &[u8], k: usize) -> bool
     requires { (n ≤ 4096) × ((entry_place n ≤ length log.now) × (32 * k ≤ length part.now)) }
-    ensures { result ≡ keeps_first n (was log) k (was part) }
+    ensures { result ≡ keeps_first n log.now k part.now }
 {
     if k < n {
         return false;
@@ -160,7 +159,7 @@ fn commit_one(
     i: usize,
 ) -> u64
     requires { (8 * members ≤ length totals.old) × (result_place (i + 1) ≤ length results.old) }
-    ensures { (money_after results totals ≡ applied members e i (money_before results totals)) × (result ≡ takings_after takings (outcome_on members (was totals) e) e.cents) }
+    ensures { (money results.new totals.new ≡ applied members e i (money results.old totals.old)) × (result ≡ takings_after takings (outcome_on members totals.old e) e.cents) }
 {
     let o = fees::apply(totals, members, e);
     let p = entries::result_place(i);
@@ -179,7 +178,7 @@ pub fn commit_up_to(
     count: usize,
 ) -> u64
     requires { (from + count ≤ 4096) × ((8 * members ≤ length totals.old) × ((9 * (from + count) ≤ length results.old) × (entry_place (from + count) ≤ length log.now))) }
-    ensures { (money_after results totals ≡ money_committed members (was log) from count (money_before results totals)) × (result ≡ takings_committed members (was log) from count (money_before results totals) takings) }
+    ensures { (money results.new totals.new ≡ money_committed members log.now from count (money results.old totals.old)) × (result ≡ takings_committed members log.now from count (money results.old totals.old) takings) }
 {
     let mut sum = takings;
     let mut k = 0;
@@ -201,7 +200,7 @@ pub fn write_replies(
     area: &mut [u8],
 )
     requires { (from + count ≤ 4096) × ((36 * count ≤ length area.old) × ((9 * (from + count) ≤ length results.now) × (entry_place (from + count) ≤ length log.now))) }
-    ensures { last area ≡ over (replies v (was log) (was results) from count) (was area) }
+    ensures { area.new ≡ over (replies v log.now results.now from count) area.old }
 {
     let mut k: usize = 0;
     while k < count {

@@ -30,7 +30,7 @@ use Rattle.client.specs.declared.ReplyOutcome.TheVariants.{Fee, Refund, Ask, NoM
 use Rattle.client.specs.declared.Read.{Read}
 use Rattle.client.specs.declared.Read.TheVariants.{Reply, Malformed}
 use Rattle.client.proofs.PlaceLaws.{reply-rules}
-use Rattle.client.specs.Replies.{outcome_number, outcome_of, reply_ok, reply_rule, reply_offset, reply_said, read_reply, read_number_lem, read_offset, read_numbers, Reads}
+use Rattle.client.specs.Replies.{outcome_number, outcome_of, reply_ok, reply_rule, reply_offset, reply_said, read_reply, read_number, read_offset, read_numbers, Reads}
 
 pub reply-long : (s : List ℕ) → reply_ok s ≡ true → length s ≡ 36
 unfolding reply_ok
@@ -78,11 +78,11 @@ pub malformed-back : (s : List ℕ) → reply_ok s ≡ false → read_reply s �
 unfolding read_reply
 malformed-back s h = if-false (reply_ok s) (reply_said s) (Malformed (reply_offset s)) h
 
-pub malformed-exactly : (s : List ℕ) → (read_number_lem (read_reply s)).number ≡ 2 → reply_ok s ≡ false
+pub malformed-exactly : (s : List ℕ) → (read_number (read_reply s)).number ≡ 2 → reply_ok s ≡ false
 malformed-exactly s h = go (reply_ok s) refl
   where
     go : (b : Bool) → reply_ok s ≡ b → reply_ok s ≡ false
-    go true e = absurd (omega (arith, sym h ∙ ap (λ (r : Read). (read_number_lem r).number) (accepted s e)))
+    go true e = absurd (omega (arith, sym h ∙ ap (λ (r : Read). (read_number r).number) (accepted s e)))
     go false e = e
 
 -- ---- the number and the values
@@ -102,30 +102,30 @@ reply-outcome s h =
     let w = within_both 1 6 (num 1 27 s) (and_both d e t).1 in
     outcome-forth (num 1 27 s) w.0 w.1
 
-pub read_number_lem : (s : List ℕ) → read_number_lem (read_reply s) ≡ read_numbers s
+pub read_number_lem : (s : List ℕ) → read_number (read_reply s) ≡ read_numbers s
 unfolding read_numbers in_turn
 read_number_lem s = go (reply_ok s) refl
   where
-    go : (b : Bool) → reply_ok s ≡ b → read_number_lem (read_reply s) ≡ read_numbers s
+    go : (b : Bool) → reply_ok s ≡ b → read_number (read_reply s) ≡ read_numbers s
     go true e =
-        ap read_number_lem (accepted s e)
+        ap read_number (accepted s e)
         ∙ ap (λ (o : ℕ). numbered 0 (num 4 7 s ∷ num 8 11 s ∷ num 8 19 s ∷ o ∷ num 8 28 s ∷ [])) (reply-outcome s e)
         ∙ sym (if-true (reply_ok s) _ _ e)
-    go false e = ap read_number_lem (malformed-back s e) ∙ sym (if-false (reply_ok s) _ _ e)
+    go false e = ap read_number (malformed-back s e) ∙ sym (if-false (reply_ok s) _ _ e)
 
 -- 2 comes with the offset of the first wrong byte, 0 with 0
-read-points : (s : List ℕ) → Points reply_ok s (read_number_lem (read_reply s)).number (read_offset (read_reply s))
+read-points : (s : List ℕ) → Points reply_ok s (read_number (read_reply s)).number (read_offset (read_reply s))
 unfolding reply_offset
 read-points s = go (reply_ok s) refl
   where
-    go : (b : Bool) → reply_ok s ≡ b → Points reply_ok s (read_number_lem (read_reply s)).number (read_offset (read_reply s))
+    go : (b : Bool) → reply_ok s ≡ b → Points reply_ok s (read_number (read_reply s)).number (read_offset (read_reply s))
     go true e =
-        subst (λ (r : Read). Points reply_ok s (read_number_lem r).number (read_offset r)) (sym (accepted s e)) (unpointed reply_ok s {k = 0} (λ q. omega (arith, q)))
+        subst (λ (r : Read). Points reply_ok s (read_number r).number (read_offset r)) (sym (accepted s e)) (unpointed reply_ok s {k = 0} (λ q. omega (arith, q)))
     go false e =
-        subst (λ (r : Read). Points reply_ok s (read_number_lem r).number (read_offset r)) (sym (malformed-back s e)) (points reply_ok s reply_rule reply-rules)
+        subst (λ (r : Read). Points reply_ok s (read_number r).number (read_offset r)) (sym (malformed-back s e)) (points reply_ok s reply_rule reply-rules)
 
 pub reads : (s : List ℕ) (r : Read) → r ≡ read_reply s → Reads s r
-reads s r e = record { exact = e; number = ap read_number_lem e ∙ read_number_lem s; points = rw e (read-points s) }
+reads s r e = record { exact = e; number = ap read_number e ∙ read_number_lem s; points = rw e (read-points s) }
 
 -- ---- what is written is read
 

@@ -3,7 +3,6 @@ ghost use Rattle.std.specs.Prelude.{◌≡◌, ◌*◌, ◌≤◌, length};
 ghost use Rattle.numbers.specs.Numbers.{Wrote};
 ghost use Rattle.client.specs.Client.{fresh_client, create_of, request_refusal, requested_of, requested_area, raised_view, awaits, left_pending, replied_of, frames_to, frames_again, idle_refusal, idled_of, idled_area};
 ghost use Rattle.client.specs.Replies.{outcome_of, reply_ok, Reads};
-ghost use Rattle.numbers.specs.Lending.{was, last};
 
 use entries::Entry;
 use numbers::View;
@@ -11,14 +10,14 @@ use numbers::View;
 mod offset; // which byte of a malformed Reply is wrong
 
 // The request that waits for its reply, whole, so that it can be sent again.
-#[derive(Drop)]
+#[derive(Clone, Copy)]
 pub enum Pending {
     Nothing,
     Waiting { entry: Entry },
 }
 
 // n replicas, the client's id, the latest view heard of, the next request number.
-#[derive(Drop)]
+#[derive(Clone, Copy)]
 pub struct Client {
     pub n: u8,
     pub id: u64,
@@ -27,41 +26,41 @@ pub struct Client {
     pub pending: Pending,
 }
 
-#[derive(Drop)]
+#[derive(Clone, Copy)]
 pub struct AfterCreate {
     pub client: Client,
     pub refusal: u8,
 }
 
 // What a request answers: the refusal number, the request's number, and the bytes written.
-#[derive(Drop)]
+#[derive(Clone, Copy)]
 pub struct RequestSent {
     pub refusal: u8,
     pub number: u64,
     pub written: usize,
 }
 
-#[derive(Drop)]
+#[derive(Clone, Copy)]
 pub struct AfterRequest {
     pub client: Client,
     pub answer: RequestSent,
 }
 
 // What a reply answers: the refusal number, and whether the pending request is done.
-#[derive(Drop)]
+#[derive(Clone, Copy)]
 pub struct Heard {
     pub refusal: u8,
     pub done: bool,
 }
 
-#[derive(Drop)]
+#[derive(Clone, Copy)]
 pub struct AfterReply {
     pub client: Client,
     pub answer: Heard,
 }
 
 // What an idle call answers: the refusal number, and the bytes written.
-#[derive(Drop)]
+#[derive(Clone, Copy)]
 pub struct Resent {
     pub refusal: u8,
     pub written: usize,
@@ -123,7 +122,7 @@ fn request_refusal(c: Client, operation: u8, cents: u64, room: usize) -> u8
 
 // The Rust's `on_request`: one frame to the primary of the view known.
 pub fn requested(c: Client, operation: u8, member: u32, cents: u64, area: &mut [u8]) -> AfterRequest
-    ensures { (result ≡ requested_of c operation member cents (length (was area))) × (last area ≡ requested_area c operation member cents (was area)) }
+    ensures { (result ≡ requested_of c operation member cents (length area.old)) × (area.new ≡ requested_area c operation member cents area.old) }
 {
     let no = request_refusal(c, operation, cents, area.len());
     if no != 0 {
@@ -252,7 +251,7 @@ fn idle_refusal(c: Client, room: usize) -> u8
 // The entry's frame to each of n replicas: the rest of the area is lent to the next frame.
 fn send_all(area: &mut [u8], n: u8, e: Entry) -> usize
     requires { n * 39 ≤ length area.old }
-    ensures { Wrote (frames_to n e) (was area) (last area) result }
+    ensures { Wrote (frames_to n e) area.old area.new result }
 {
     let mut at = 0;
     let mut to = 0;
@@ -265,7 +264,7 @@ fn send_all(area: &mut [u8], n: u8, e: Entry) -> usize
 
 // The Rust's `on_idle`: the pending request, if any, to every replica. The record stays as it is.
 pub fn idled(c: Client, area: &mut [u8]) -> Resent
-    ensures { (result ≡ idled_of c (length (was area))) × (last area ≡ idled_area c (was area)) }
+    ensures { (result ≡ idled_of c (length area.old)) × (area.new ≡ idled_area c area.old) }
 {
     let no = idle_refusal(c, area.len());
     if no != 0 {
@@ -290,7 +289,7 @@ pub fn idled(c: Client, area: &mut [u8]) -> Resent
 // ---- a Reply, read
 
 // What the fee rules gave: document 01's outcomes 1 to 6.
-#[derive(Drop)]
+#[derive(Clone, Copy)]
 pub enum ReplyOutcome {
     Fee,
     Refund,
@@ -300,7 +299,7 @@ pub enum ReplyOutcome {
     PastTotal,
 }
 
-#[derive(Drop)]
+#[derive(Clone, Copy)]
 pub enum Read {
     Reply {
         view: View,
@@ -330,7 +329,7 @@ fn outcome_of(number: u8) -> ReplyOutcome
 
 // Whether the frame is a Reply.
 fn reply_ok(frame: &[u8]) -> bool
-    ensures { result ≡ reply_ok (was frame) }
+    ensures { result ≡ reply_ok frame.now }
 {
     if frame.len() != 36 {
         return false;
@@ -352,7 +351,7 @@ fn reply_ok(frame: &[u8]) -> bool
 
 // What a Reply says, or that the frame is malformed, which is refusal 2, and its first wrong byte.
 pub fn read_reply(frame: &[u8]) -> Read
-    ensures { Reads (was frame) result }
+    ensures { Reads frame.now result }
 {
     if !reply_ok(frame) {
         return Read::Malformed {

@@ -1,11 +1,10 @@
 // Which byte of a Reply is wrong: the readers of its fields, from left to right.
 ghost use Rattle.std.specs.Prelude.{◌≡◌};
-ghost use Rattle.numbers.specs.Lending.{was};
 ghost use Rattle.client.specs.Replies.{reply_offset};
 
 // How many bytes keep the rules of a Reply: of a malformed one the offset of the first wrong byte, or its length where only bytes are missing.
 pub fn offset(frame: &[u8]) -> usize
-    ensures { result ≡ reply_offset (was frame) }
+    ensures { result ≡ reply_offset frame.now }
 {
     let version = offsets::number(frame, 0, 4, 32, 32);
     if version < 4 {

@@ -2,14 +2,13 @@
 ghost use Rattle.std.specs.Prelude.{◌≡◌, ◌≤◌, length, drop};
 ghost use Rattle.numbers.specs.Numbers.{over};
 ghost use Rattle.client_bytes.specs.Layout.{pending_of, encode_pending, record_of, record_ok, HoldsClient};
-ghost use Rattle.numbers.specs.Lending.{was, last};
 
 use client::{Client, Pending};
 
 // What is pending, 33 bytes from byte 21 on: 0, or 1 and the entry.
 fn pending_in(run: &[u8]) -> Pending
     requires { 54 ≤ length run.now }
-    ensures { result ≡ pending_of (drop 21 (was run)) }
+    ensures { result ≡ pending_of (drop 21 run.now) }
 {
     if numbers::read_u8(run, 21) == 0 {
         return Pending::Nothing;
@@ -22,7 +21,7 @@ fn pending_in(run: &[u8]) -> Pending
 // The record that the run holds.
 pub fn read_client(run: &[u8]) -> Client
     requires { 54 ≤ length run.now }
-    ensures { result ≡ record_of (was run) }
+    ensures { result ≡ record_of run.now }
 {
     Client {
         n: numbers::read_u8(run, 0),
@@ -36,7 +35,7 @@ pub fn read_client(run: &[u8]) -> Client
 // That it is read back is told to whoever writes it.
 fn write_pending(area: &mut [u8], p: Pending)
     requires { 33 ≤ length area.old }
-    ensures { (last area ≡ over (encode_pending p) (was area)) × (pending_of (encode_pending p) ≡ p) }
+    ensures { (area.new ≡ over (encode_pending p) area.old) × (pending_of (encode_pending p) ≡ p) }
 {
     match p {
         Pending::Nothing => numbers::fill(area, 33, 0),
@@ -50,7 +49,7 @@ fn write_pending(area: &mut [u8], p: Pending)
 // The run holds the record.
 pub fn write_client(run: &mut [u8], c: Client)
     requires { length run.old ≡ 54 }
-    ensures { HoldsClient c (last run) }
+    ensures { HoldsClient c run.new }
 {
     numbers::write_u8(run, c.n);
     numbers::write_u64(&mut run[1..], c.id);
@@ -62,7 +61,7 @@ pub fn write_client(run: &mut [u8], c: Client)
 
 // Whether the run is one that holds a record: its length, and no byte without meaning.
 pub fn client_ok(run: &[u8]) -> bool
-    ensures { result ≡ record_ok (was run) }
+    ensures { result ≡ record_ok run.now }
 {
     if run.len() != 54 {
         return false;

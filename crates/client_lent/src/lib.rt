@@ -1,7 +1,6 @@
 // The client's record, lent and changed in its place: thin functions over `&mut Client` that call the covered ones of `client` by value.
 ghost use Rattle.std.specs.Prelude.{◌≡◌, length};
 ghost use Rattle.client.specs.Client.{Requests, replied_of, idled_of, idled_area};
-ghost use Rattle.numbers.specs.Lending.{was, last};
 
 use client::{Client, Heard, RequestSent, Resent};
 use numbers::View;
@@ -14,7 +13,7 @@ pub fn request(
     cents: u64,
     area: &mut [u8],
 ) -> RequestSent
-    ensures { Requests (was c) operation member cents (was area) result (last c) (last area) }
+    ensures { Requests c.old operation member cents area.old result c.new area.new }
 {
     let r = client::requested(*c, operation, member, cents, area);
     *c = r.client;
@@ -23,7 +22,7 @@ pub fn request(
 
 // The Rust's `on_reply`.
 pub fn reply(c: &mut Client, number: u64, view: View) -> Heard
-    ensures { (result ≡ (replied_of (was c) number view).answer) × (last c ≡ (replied_of (was c) number view).client) }
+    ensures { (result ≡ (replied_of c.old number view).answer) × (c.new ≡ (replied_of c.old number view).client) }
 {
     let r = client::replied(*c, number, view);
     *c = r.client;
@@ -32,7 +31,7 @@ pub fn reply(c: &mut Client, number: u64, view: View) -> Heard
 
 // The Rust's `on_idle`: the record is only read.
 pub fn idle(c: &mut Client, area: &mut [u8]) -> Resent
-    ensures { (result ≡ idled_of (was c) (length (was area))) × ((last c ≡ was c) × (last area ≡ idled_area (was c) (was area))) }
+    ensures { (result ≡ idled_of c.old (length area.old)) × ((c.new ≡ c.old) × (area.new ≡ idled_area c.old area.old)) }
 {
     client::idled(*c, area)
 }

@@ -7,21 +7,21 @@ use fees::Outcome;
 use numbers::Op;
 
 // Where a search has come to: the place is from `lo` up to `hi`.
-#[derive(Drop)]
+#[derive(Clone, Copy)]
 pub struct Span {
     pub lo: usize,
     pub hi: usize,
 }
 
 // What is sought: the place of a client's row, or the first unused row.
-#[derive(Drop)]
+#[derive(Clone, Copy)]
 pub enum Goal {
     Client { id: u64 },
     End,
 }
 
 // What the client table holds of a client's latest request.
-#[derive(Drop)]
+#[derive(Clone, Copy)]
 pub enum Latest {
     Nothing, // the client has no row
     Waiting { request: u64 }, // it has no reply yet
@@ -30,7 +30,7 @@ pub enum Latest {
 
 // What a call did to a log that had `op` entries, `commit` of them committed: it was installed anew, or appended to, and has `to` entries now,
 // `done` of them committed.
-#[derive(Drop)]
+#[derive(Clone, Copy)]
 pub struct Change {
     pub installed: bool,
     pub op: Op,

@@ -3,7 +3,6 @@ ghost use Rattle.std.specs.Prelude.{◌≡◌, not, ◌+◌, ◌≤◌, eqb, len
 ghost use Rattle.numbers.specs.Numbers.{over};
 ghost use Rattle.numbers.specs.Words.{◌and◌};
 ghost use Rattle.client_table_bytes.specs.Layout.{no_row, row_with, fresh_of, row_of, encode_row};
-ghost use Rattle.numbers.specs.Lending.{was, last};
 
 use crate::MarkedRow;
 use entries::Entry;
@@ -12,7 +11,7 @@ use fees::Outcome;
 // The row at byte p.
 pub fn row_at(table: &[u8], p: usize) -> MarkedRow
     requires { p + 25 ≤ length table.now }
-    ensures { result ≡ row_of (drop p (was table)) }
+    ensures { result ≡ row_of (drop p table.now) }
 {
     MarkedRow {
         client: numbers::read_u64(table, p),
@@ -24,7 +23,7 @@ pub fn row_at(table: &[u8], p: usize) -> MarkedRow
 
 pub fn write_row(area: &mut [u8], row: MarkedRow)
     requires { 25 ≤ length area.old }
-    ensures { last area ≡ over (encode_row row) (was area) }
+    ensures { area.new ≡ over (encode_row row) area.old }
 {
     numbers::write_u64(area, row.client);
     numbers::write_u64(&mut area[8..], row.request);

@@ -6,7 +6,6 @@ ghost use Rattle.fees.specs.Results.{outcomes};
 ghost use Rattle.client_table.specs.Rows.{spot_of, inserted, put_row, appended, replied, rows_committed, rebuilt, followed};
 ghost use Rattle.client_table_bytes.specs.Layout.{no_row, byte_row, rows_of};
 ghost use Rattle.client_table_bytes.specs.Steps.{found_in, latest_of, RowsLeft, AppendsFor};
-ghost use Rattle.numbers.specs.Lending.{was, last};
 
 use client_table::{Change, Goal, Latest};
 use entries::Entry;
@@ -16,7 +15,7 @@ mod cell; // a row read, written and made
 mod place; // places: the search by halves, and a row stored
 
 // A row: mark 0 is an unused row, 1 to 6 the outcome of the reply that is kept, whose total follows; any other is a row in use that keeps no reply.
-#[derive(Drop)]
+#[derive(Clone, Copy)]
 pub struct MarkedRow {
     pub client: u64,
     pub request: u64,
@@ -25,7 +24,7 @@ pub struct MarkedRow {
 }
 
 // Where a client's row is or would go, whether it is there, and the row at that place.
-#[derive(Drop)]
+#[derive(Clone, Copy)]
 pub struct Found {
     pub at: usize,
     pub there: bool,
@@ -35,7 +34,7 @@ pub struct Found {
 // The client's row, its place, or the place where it would go.
 pub fn find(table: &[u8], n: usize, client: u64) -> Found
     requires { 25 * n ≤ length table.now }
-    ensures { result ≡ found_in (rows_of n (was table)) client }
+    ensures { result ≡ found_in (rows_of n table.now) client }
 {
     let at = place::seek(table, n, 0, Goal::Client { id: client });
     let row = place::peek(table, n, at);
@@ -59,7 +58,7 @@ pub fn latest(f: Found) -> Latest
 // The row of a client that has none; a full table takes none.
 fn insert(table: &mut [u8], n: usize, at: usize, row: MarkedRow)
     requires { 25 * n ≤ length table.old × (at ≡ spot_of byte_row (rows_of n table.old) row.client) }
-    ensures { RowsLeft n (was table) (last table) (inserted byte_row (rows_of n (was table)) row) }
+    ensures { RowsLeft n table.old table.new (inserted byte_row (rows_of n table.old) row) }
 {
     let to = place::seek(table, n, at, Goal::End);
     if n <= to {
@@ -71,7 +70,7 @@ fn insert(table: &mut [u8], n: usize, at: usize, row: MarkedRow)
 // `row` becomes its client's row; f is what was found of him.
 fn put_found(table: &mut [u8], n: usize, f: Found, row: MarkedRow)
     requires { (25 * n ≤ length table.old) × (f ≡ found_in (rows_of n table.old) row.client) }
-    ensures { RowsLeft n (was table) (last table) (put_row byte_row (rows_of n (was table)) row) }
+    ensures { RowsLeft n table.old table.new (put_row byte_row (rows_of n table.old) row) }
 {
     if f.there {
         place::store(table, n, f.at, f.at, row);
@@ -83,7 +82,7 @@ fn put_found(table: &mut [u8], n: usize, f: Found, row: MarkedRow)
 // `row` becomes its client's row.
 fn put(table: &mut [u8], n: usize, row: MarkedRow)
     requires { 25 * n ≤ length table.old }
-    ensures { RowsLeft n (was table) (last table) (put_row byte_row (rows_of n (was table)) row) }
+    ensures { RowsLeft n table.old table.new (put_row byte_row (rows_of n table.old) row) }
 {
     let f = find(table, n, row.client);
     put_found(table, n, f, row);
@@ -92,7 +91,7 @@ fn put(table: &mut [u8], n: usize, row: MarkedRow)
 // The entries from .. to of the log, in order, become their clients' rows.
 pub fn follow_append(table: &mut [u8], n: usize, log: &[u8], from: usize, to: usize)
     requires { (25 * n ≤ length table.old) × ((32 * to ≤ length log.now) × (from ≤ to)) }
-    ensures { RowsLeft n (was table) (last table) (appended byte_row (rows_of n (was table)) (entries (to - from) (drop (entry_place from) (was log)))) }
+    ensures { RowsLeft n table.old table.new (appended byte_row (rows_of n table.old) (entries (to - from) (drop (entry_place from) log.now))) }
 {
     let mut k = from;
     while k < to {
@@ -104,7 +103,7 @@ pub fn follow_append(table: &mut [u8], n: usize, log: &[u8], from: usize, to: us
 // The entry was executed: its reply is kept where it is its client's latest request.
 fn reply(table: &mut [u8], n: usize, e: Entry, o: Outcome)
     requires { 25 * n ≤ length table.old }
-    ensures { RowsLeft n (was table) (last table) (replied byte_row (rows_of n (was table)) e o) }
+    ensures { RowsLeft n table.old table.new (replied byte_row (rows_of n table.old) e o) }
 {
     let f = find(table, n, e.client);
     if !f.there {
@@ -119,7 +118,7 @@ fn reply(table: &mut [u8], n: usize, e: Entry, o: Outcome)
 // The entries from .. to were executed, and gave these results.
 pub fn follow_commit(table: &mut [u8], n: usize, log: &[u8], results: &[u8], from: usize, to: usize)
     requires { (25 * n ≤ length table.old) × ((32 * to ≤ length log.now) × ((9 * to ≤ length results.now) × (from ≤ to))) }
-    ensures { RowsLeft n (was table) (last table) (rows_committed byte_row (rows_of n (was table)) (entries (to - from) (drop (entry_place from) (was log))) (outcomes (to - from) (drop (result_place from) (was results)))) }
+    ensures { RowsLeft n table.old table.new (rows_committed byte_row (rows_of n table.old) (entries (to - from) (drop (entry_place from) log.now)) (outcomes (to - from) (drop (result_place from) results.now))) }
 {
     let mut k = from;
     while k < to {
@@ -133,7 +132,7 @@ pub fn follow_commit(table: &mut [u8], n: usize, log: &[u8], results: &[u8], fro
 // The first `done` entries of the log become their clients' rows, in order, each with what it gave.
 fn refill(table: &mut [u8], n: usize, log: &[u8], results: &[u8], done: usize)
     requires { (25 * n ≤ length table.old) × ((32 * done ≤ length log.now) × (9 * done ≤ length results.now)) }
-    ensures { RowsLeft n (was table) (last table) (rebuilt byte_row (rows_of n (was table)) (entries done (was log)) (outcomes done (was results))) }
+    ensures { RowsLeft n table.old table.new (rebuilt byte_row (rows_of n table.old) (entries done log.now) (outcomes done results.now)) }
 {
     let mut k = 0;
     while k < done {
@@ -147,7 +146,7 @@ fn refill(table: &mut [u8], n: usize, log: &[u8], results: &[u8], done: usize)
 // All n rows become unused.
 pub fn clear(table: &mut [u8], n: usize)
     requires { 25 * n ≤ length table.old }
-    ensures { RowsLeft n (was table) (last table) (replicate n no_row) }
+    ensures { RowsLeft n table.old table.new (replicate n no_row) }
 {
     numbers::fill(table, 25 * n, 0);
 }
@@ -155,7 +154,7 @@ pub fn clear(table: &mut [u8], n: usize)
 // The table of a log of `op` entries, the first `done` of them committed, which gave these results; whatever was there before.
 pub fn rebuild(table: &mut [u8], n: usize, log: &[u8], results: &[u8], op: usize, done: usize)
     requires { (25 * n ≤ length table.old) × ((32 * op ≤ length log.now) × ((9 * done ≤ length results.now) × (done ≤ op))) }
-    ensures { RowsLeft n (was table) (last table) (rebuilt byte_row (replicate n no_row) (entries op (was log)) (outcomes done (was results))) }
+    ensures { RowsLeft n table.old table.new (rebuilt byte_row (replicate n no_row) (entries op log.now) (outcomes done results.now)) }
 {
     clear(table, n);
     refill(table, n, log, results, done);
@@ -165,7 +164,7 @@ pub fn rebuild(table: &mut [u8], n: usize, log: &[u8], results: &[u8], op: usize
 // The rows brought up to what was appended to the log.
 fn follow_more(table: &mut [u8], n: usize, log: &[u8], change: Change)
     requires { (25 * n ≤ length table.old) × (32 * change.to.0 ≤ length log.now) }
-    ensures { RowsLeft n (was table) (last table) (appended byte_row (rows_of n (was table)) (drop change.op.0 (entries change.to.0 (was log)))) }
+    ensures { RowsLeft n table.old table.new (appended byte_row (rows_of n table.old) (drop change.op.0 (entries change.to.0 log.now))) }
 {
     if change.to.0 <= change.op.0 {
         return;
@@ -176,7 +175,7 @@ fn follow_more(table: &mut [u8], n: usize, log: &[u8], change: Change)
 // The table brought up to what a call did to the log.
 pub fn follow(table: &mut [u8], n: usize, log: &[u8], results: &[u8], change: Change)
     requires { (25 * n ≤ length table.old) × ((32 * change.to.0 ≤ length log.now) × ((9 * change.done.0 ≤ length results.now) × (change.done.0 ≤ change.to.0))) }
-    ensures { RowsLeft n (was table) (last table) (followed byte_row change (rows_of n (was table)) (entries change.to.0 (was log)) (outcomes change.done.0 (was results))) }
+    ensures { RowsLeft n table.old table.new (followed byte_row change (rows_of n table.old) (entries change.to.0 log.now) (outcomes change.done.0 results.now)) }
 {
     let done = change.done.0 as usize;
     if change.installed {
@@ -200,7 +199,7 @@ pub fn follow_found(
     change: Change,
 )
     requires { (25 * n ≤ length table.old) × ((32 * change.to.0 ≤ length log.now) × ((9 * change.done.0 ≤ length results.now) × ((change.done.0 ≤ change.to.0) × AppendsFor n change f table.old log.now))) }
-    ensures { RowsLeft n (was table) (last table) (followed byte_row change (rows_of n (was table)) (entries change.to.0 (was log)) (outcomes change.done.0 (was results))) }
+    ensures { RowsLeft n table.old table.new (followed byte_row change (rows_of n table.old) (entries change.to.0 log.now) (outcomes change.done.0 results.now)) }
 {
     if change.op.0 < change.to.0 {
         let e = entries::entry_in(log, change.op.0 as usize);

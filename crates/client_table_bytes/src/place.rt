@@ -3,7 +3,6 @@ ghost use Rattle.std.specs.Prelude.{◌≡◌, ◌++◌, ◌-◌, ◌*◌, ◌�
 ghost use Rattle.client_table.specs.Rows.{seek, stored};
 ghost use Rattle.client_table_bytes.specs.Layout.{no_row, byte_row, rows_of};
 ghost use Rattle.client_table_bytes.specs.Steps.{RowsLeft};
-ghost use Rattle.numbers.specs.Lending.{was, last};
 
 use crate::{MarkedRow, cell};
 use client_table::{Goal, Span};
@@ -11,7 +10,7 @@ use client_table::{Goal, Span};
 // The first place, from `from` on, that isn't before the goal; by halves.
 pub fn seek(table: &[u8], n: usize, from: usize, goal: Goal) -> usize
     requires { 25 * n ≤ length table.now }
-    ensures { result ≡ seek byte_row from goal (rows_of n (was table)) }
+    ensures { result ≡ seek byte_row from goal (rows_of n table.now) }
 {
     let mut s = Span { lo: from, hi: n };
     while s.lo < s.hi {
@@ -24,7 +23,7 @@ pub fn seek(table: &[u8], n: usize, from: usize, goal: Goal) -> usize
 // The row at a place; past the end an unused one.
 pub fn peek(table: &[u8], n: usize, at: usize) -> MarkedRow
     requires { 25 * n ≤ length table.now }
-    ensures { result ≡ get_or (rows_of n (was table)) at no_row }
+    ensures { result ≡ get_or (rows_of n table.now) at no_row }
 {
     if n <= at {
         return cell::no_row();
@@ -35,7 +34,7 @@ pub fn peek(table: &[u8], n: usize, at: usize) -> MarkedRow
 // All bytes but the last 25 go up 25 places: one move.
 fn shift(part: &mut [u8])
     requires { 25 ≤ length part.old }
-    ensures { last part ≡ take 25 (was part) ++ take (length (was part) - 25) (was part) }
+    ensures { part.new ≡ take 25 part.old ++ take (length part.old - 25) part.old }
 {
     let mut i = part.len() - 25;
     while 0 < i {
@@ -47,7 +46,7 @@ fn shift(part: &mut [u8])
 // `row` takes place `at`, after the rows from there up to `to` have gone up one place.
 pub fn store(table: &mut [u8], n: usize, at: usize, to: usize, row: MarkedRow)
     requires { (at ≤ to) × ((to < n) × (25 * n ≤ length table.old)) }
-    ensures { RowsLeft n (was table) (last table) (stored byte_row at to row (rows_of n (was table))) }
+    ensures { RowsLeft n table.old table.new (stored byte_row at to row (rows_of n table.old)) }
 {
     let p = 25 * at;
     let e = 25 * to + 25;

@@ -7,7 +7,6 @@ ghost use Rattle.fees.specs.Results.{outcomes};
 ghost use Rattle.client_table.specs.Rows.{seek, stored, put_row, appended, replied, rows_committed, rebuilt, followed};
 ghost use Rattle.client_table.specs.Shape.{row_at};
 ghost use Rattle.client_table_structs.specs.Shape.{unused_row, struct_row, found_among, latest_among};
-ghost use Rattle.numbers.specs.Lending.{was, last};
 
 use client_table::{Change, Goal, Latest, Span};
 use entries::Entry;
@@ -16,7 +15,7 @@ use fees::Outcome;
 pub mod cell; // what a row says, and the rows of entries
 
 // What a row is used for: nothing, a request that has no reply yet, or one whose reply is kept, with an outcome of 1 to 6; any other code is no reply.
-#[derive(Drop)]
+#[derive(Clone, Copy)]
 pub enum KeptReply {
     Unused,
     Waiting,
@@ -24,7 +23,7 @@ pub enum KeptReply {
 }
 
 // A client's latest request, and its reply.
-#[derive(Drop)]
+#[derive(Clone, Copy)]
 pub struct Row {
     pub client: u64,
     pub request: u64,
@@ -32,7 +31,7 @@ pub struct Row {
 }
 
 // Where a client's row is or would go, whether it is there, and the row at that place.
-#[derive(Drop)]
+#[derive(Clone, Copy)]
 pub struct FoundRow {
     pub at: usize,
     pub there: bool,
@@ -41,7 +40,7 @@ pub struct FoundRow {
 
 // The row at a place; past the end an unused one.
 fn peek(table: &[Row], at: usize) -> Row
-    ensures { result ≡ row_at struct_row (was table) at }
+    ensures { result ≡ row_at struct_row table.now at }
 {
     if at < table.len() {
         return table[at];
@@ -51,7 +50,7 @@ fn peek(table: &[Row], at: usize) -> Row
 
 // The first place, from `from` on, that isn't before the goal; by halves.
 fn seek(table: &[Row], from: usize, goal: Goal) -> usize
-    ensures { result ≡ seek struct_row from goal (was table) }
+    ensures { result ≡ seek struct_row from goal table.now }
 {
     let mut s = Span {
         lo: from,
@@ -65,7 +64,7 @@ fn seek(table: &[Row], from: usize, goal: Goal) -> usize
 
 // The client's row, its place, or the place where it would go.
 pub fn find(table: &[Row], client: u64) -> FoundRow
-    ensures { result ≡ found_among (was table) client }
+    ensures { result ≡ found_among table.now client }
 {
     let at = seek(table, 0, Goal::Client { id: client });
     cell::found(at, peek(table, at), client)
@@ -74,7 +73,7 @@ pub fn find(table: &[Row], client: u64) -> FoundRow
 // `row` takes place `at`, after the rows from there up to `to` have gone up one place.
 pub fn store(table: &mut [Row], at: usize, to: usize, row: Row)
     requires { (at ≤ to) × (to < length table.old) }
-    ensures { last table ≡ stored struct_row at to row (was table) }
+    ensures { table.new ≡ stored struct_row at to row table.old }
 {
     let mut i = to;
     while at < i {
@@ -86,7 +85,7 @@ pub fn store(table: &mut [Row], at: usize, to: usize, row: Row)
 
 // `row` becomes its client's row: in place of the one that is there, or as a new one; a full table takes no new one.
 fn put(table: &mut [Row], row: Row)
-    ensures { last table ≡ put_row struct_row (was table) row }
+    ensures { table.new ≡ put_row struct_row table.old row }
 {
     let f = find(table, row.client);
     let to = cell::end_of(f, seek(table, f.at, Goal::End));
@@ -99,7 +98,7 @@ fn put(table: &mut [Row], row: Row)
 // The entries from .. to of the log, in order, become their clients' rows.
 fn append(table: &mut [Row], log: &[u8], from: usize, to: usize)
     requires { (32 * to ≤ length log.now) × (from ≤ to) }
-    ensures { last table ≡ appended struct_row (was table) (entries (to - from) (drop (entry_place from) (was log))) }
+    ensures { table.new ≡ appended struct_row table.old (entries (to - from) (drop (entry_place from) log.now)) }
 {
     let mut k = from;
     while k < to {
@@ -110,7 +109,7 @@ fn append(table: &mut [Row], log: &[u8], from: usize, to: usize)
 
 // The entry was executed: its reply is kept where it is its client's latest request.
 fn keep_reply(table: &mut [Row], e: Entry, o: Outcome)
-    ensures { last table ≡ replied struct_row (was table) e o }
+    ensures { table.new ≡ replied struct_row table.old e o }
 {
     let f = find(table, e.client);
     if !cell::is_latest(f, e) {
@@ -122,7 +121,7 @@ fn keep_reply(table: &mut [Row], e: Entry, o: Outcome)
 // The entries from .. to were executed, and gave these results.
 fn commit(table: &mut [Row], log: &[u8], results: &[u8], from: usize, to: usize)
     requires { (32 * to ≤ length log.now) × ((9 * to ≤ length results.now) × (from ≤ to)) }
-    ensures { last table ≡ rows_committed struct_row (was table) (entries (to - from) (drop (entry_place from) (was log))) (outcomes (to - from) (drop (result_place from) (was results))) }
+    ensures { table.new ≡ rows_committed struct_row table.old (entries (to - from) (drop (entry_place from) log.now)) (outcomes (to - from) (drop (result_place from) results.now)) }
 {
     let mut k = from;
     while k < to {
@@ -138,7 +137,7 @@ fn commit(table: &mut [Row], log: &[u8], results: &[u8], from: usize, to: usize)
 // The first `done` entries of the log become their clients' rows, in order, each with what it gave.
 fn refill(table: &mut [Row], log: &[u8], results: &[u8], done: usize)
     requires { (32 * done ≤ length log.now) × (9 * done ≤ length results.now) }
-    ensures { last table ≡ rebuilt struct_row (was table) (entries done (was log)) (outcomes done (was results)) }
+    ensures { table.new ≡ rebuilt struct_row table.old (entries done log.now) (outcomes done results.now) }
 {
     let mut k = 0;
     while k < done {
@@ -152,7 +151,7 @@ fn refill(table: &mut [Row], log: &[u8], results: &[u8], done: usize)
 
 // All rows become unused.
 pub fn clear(table: &mut [Row])
-    ensures { last table ≡ replicate (length (was table)) unused_row }
+    ensures { table.new ≡ replicate (length table.old) unused_row }
 {
     let mut i = 0;
     while i < table.len() {
@@ -164,7 +163,7 @@ pub fn clear(table: &mut [Row])
 // The table of a log of `op` entries, the first `done` of them committed, which gave these results; whatever was there before.
 fn rebuild(table: &mut [Row], log: &[u8], results: &[u8], op: usize, done: usize)
     requires { (32 * op ≤ length log.now) × ((9 * done ≤ length results.now) × (done ≤ op)) }
-    ensures { last table ≡ rebuilt struct_row (replicate (length (was table)) unused_row) (entries op (was log)) (outcomes done (was results)) }
+    ensures { table.new ≡ rebuilt struct_row (replicate (length table.old) unused_row) (entries op log.now) (outcomes done results.now) }
 {
     clear(table);
     refill(table, log, results, done);
@@ -173,7 +172,7 @@ fn rebuild(table: &mut [Row], log: &[u8], results: &[u8], op: usize, done: usize
 
 // What the table has of a client.
 pub fn latest(table: &[Row], client: u64) -> Latest
-    ensures { result ≡ latest_among (was table) client }
+    ensures { result ≡ latest_among table.now client }
 {
     cell::latest(find(table, client))
 }
@@ -181,7 +180,7 @@ pub fn latest(table: &[Row], client: u64) -> Latest
 // The table brought up to what a call did to the log.
 pub fn follow(table: &mut [Row], log: &[u8], results: &[u8], change: Change)
     requires { (32 * change.to.0 ≤ length log.now) × ((9 * change.done.0 ≤ length results.now) × (change.done.0 ≤ change.to.0)) }
-    ensures { last table ≡ followed struct_row change (was table) (entries change.to.0 (was log)) (outcomes change.done.0 (was results)) }
+    ensures { table.new ≡ followed struct_row change table.old (entries change.to.0 log.now) (outcomes change.done.0 results.now) }
 {
     if change.installed {
         rebuild(

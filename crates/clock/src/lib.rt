@@ -1,10 +1,12 @@
 // The idle clock: a struct by value; each method hands back the new clock and whether time is up.
+#![tactic(auto)]
+
 ghost use Rattle.std.specs.Prelude.{◌≡◌, min};
 ghost use Rattle.clock.specs.Clock.{fresh_clock, limit_of, waited_of, stable_tick, wait_tick, tick_of, heard_of, reset_of, start_of, restart_of};
 
 // `heard`: from the primary since the last tick. `waiting`: ticks without it, or in a view change. `stable`: ticks with it, counted to T.
 // `attempts`: view changes with no stable stretch in between, counted to 10.
-#[derive(Drop)]
+#[derive(Clone, Copy)]
 pub struct Clock {
     pub heard: bool,
     pub waiting: u32,
@@ -13,14 +15,14 @@ pub struct Clock {
 }
 
 // A clock, and whether time is up: a view change is due.
-#[derive(Drop)]
+#[derive(Clone, Copy)]
 pub struct Ticked {
     pub clock: Clock,
     pub up: bool,
 }
 
 // What a replica does as a tick comes: leads in Normal, follows in Normal or StateTransfer, or is in ViewChange.
-#[derive(Drop)]
+#[derive(Clone, Copy)]
 pub enum Duty {
     Lead,
     Follow,

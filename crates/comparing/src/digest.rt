@@ -1,6 +1,5 @@
 // FNV-1a digests of 64 bits. The prime is 2^40 + 435, and a product with it a sum of shifts.
 ghost use Rattle.std.specs.Prelude.{◌≡◌, ◌+◌, ◌*◌, ◌%◌, ◌^◌};
-ghost use Rattle.numbers.specs.Lending.{was};
 ghost use Rattle.comparing.specs.Digests.{hashed, digest_after, part_at, offset_basis};
 
 pub const EMPTY: u64 = 0xcbf29ce484222325;
@@ -28,7 +27,7 @@ fn with_byte(h: u64, b: u8) -> u64
 
 // The digest with more bytes.
 pub fn with_bytes(h: u64, s: &[u8]) -> u64
-    ensures { result ≡ digest_after h (was s) }
+    ensures { result ≡ digest_after h s.now }
 {
     let mut d = h;
     let mut i = 0;
@@ -41,7 +40,7 @@ pub fn with_bytes(h: u64, s: &[u8]) -> u64
 
 // The digest with n bytes of a run, from a place on, where there are so many.
 pub fn with_part(h: u64, s: &[u8], at: usize, n: usize) -> u64
-    ensures { result ≡ digest_after h (part_at at n (was s)) }
+    ensures { result ≡ digest_after h (part_at at n s.now) }
 {
     if s.len() < at {
         return h;

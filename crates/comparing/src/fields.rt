@@ -1,7 +1,6 @@
 // The state line: nineteen numbers, by their place in it; and the digest of the reports that are held.
 ghost use Rattle.std.specs.Prelude.{◌≡◌, ◌+◌, ◌*◌, ◌^◌, ◌<◌, ◌≤◌, true, false, [], ◌∷◌, length};
 ghost use Rattle.numbers.specs.Numbers.{big};
-ghost use Rattle.numbers.specs.Lending.{was};
 ghost use Rattle.frames.specs.Looks.{status_number};
 ghost use Rattle.state.specs.Statuses.{is_recovering};
 ghost use Rattle.comparing.specs.Digests.{digest_after, digest_of, part_at};
@@ -111,7 +110,7 @@ fn responses(s: Replica) -> u64
 // One row of the client table: mark 0 is an unused one, 1 to 6 one with a reply, any other one without.
 fn with_row(h: u64, row: &[u8]) -> u64
     requires { length row.now ≡ 25 }
-    ensures { result ≡ digest_after h (row_text (was row)) }
+    ensures { result ≡ digest_after h (row_text row.now) }
 {
     let mark = row[16];
     if mark == 0 {
@@ -125,7 +124,7 @@ fn with_row(h: u64, row: &[u8]) -> u64
 
 // Row i, where the memory has so many.
 fn with_nth(h: u64, mem: &[u8], i: u32) -> u64
-    ensures { result ≡ digest_after h (row_text (part_at (400 + 25 * i) 25 (was mem))) }
+    ensures { result ≡ digest_after h (row_text (part_at (400 + 25 * i) 25 mem.now)) }
 {
     let at = memory::TABLE + 25 * (i as usize);
     if mem.len() < at {
@@ -138,7 +137,7 @@ fn with_nth(h: u64, mem: &[u8], i: u32) -> u64
 }
 
 fn clients(mem: &[u8], room: u32) -> u64
-    ensures { result ≡ digest_of (table_text room (was mem)) }
+    ensures { result ≡ digest_of (table_text room mem.now) }
 {
     let mut h = digest::EMPTY;
     let mut i = 0;
@@ -150,14 +149,14 @@ fn clients(mem: &[u8], room: u32) -> u64
 }
 
 fn part(mem: &[u8], at: usize, n: usize) -> u64
-    ensures { result ≡ digest_of (part_at at n (was mem)) }
+    ensures { result ≡ digest_of (part_at at n mem.now) }
 {
     digest::with_part(digest::EMPTY, mem, at, n)
 }
 
 // What the state has at each place of the line.
 pub fn values(s: Replica, mem: &[u8]) -> [u64; 19]
-    ensures { result ≡ state_line s (was mem) }
+    ensures { result ≡ state_line s mem.now }
 {
     let status = s.status;
     let c = s.clock;
@@ -189,7 +188,7 @@ pub fn values(s: Replica, mem: &[u8]) -> [u64; 19]
 // What a line has at place k.
 fn wanted(line: &[u8], k: usize) -> u64
     requires { k < 2 ^ 63 }
-    ensures { result ≡ field_in k (was line) }
+    ensures { result ≡ field_in k line.now }
 {
     if k < 14 {
         return words::decimal(line, k + 1);
@@ -199,7 +198,7 @@ fn wanted(line: &[u8], k: usize) -> u64
 
 // The first place at which a line and the state differ, 19: none.
 pub fn differing(line: &[u8], values: &[u64]) -> usize
-    ensures { result ≡ first_differing (was line) 0 (was values) }
+    ensures { result ≡ first_differing line.now 0 values.now }
 {
     let mut k = 0;
     while k < values.len() {
@@ -242,7 +241,7 @@ fn with_numbers(h: u64, i: u8, d: Report) -> u64
 // The report of replica i, where it is there.
 fn with_report(h: u64, i: u8, d: Report, room: u32, mem: &[u8]) -> u64
     requires { (i < 7) × (room ≤ 4096) }
-    ensures { result ≡ digest_after h (report_text room i d (was mem)) }
+    ensures { result ≡ digest_after h (report_text room i d mem.now) }
 {
     if !d.there {
         return h;
@@ -255,7 +254,7 @@ fn with_report(h: u64, i: u8, d: Report, room: u32, mem: &[u8]) -> u64
 // The reports of the first n.
 fn with_reports(t: Reports, n: u8, room: u32, mem: &[u8]) -> u64
     requires { (n ≤ 7) × (room ≤ 4096) }
-    ensures { result ≡ digest_of (reports_text room n t.rows (was mem)) }
+    ensures { result ≡ digest_of (reports_text room n t.rows mem.now) }
 {
     let mut h = digest::EMPTY;
     let mut i = 0;
@@ -268,7 +267,7 @@ fn with_reports(t: Reports, n: u8, room: u32, mem: &[u8]) -> u64
 
 // The digest of the reports that are held.
 pub fn reports(s: Replica, mem: &[u8]) -> u64
-    ensures { result ≡ reports_digest s (was mem) }
+    ensures { result ≡ reports_digest s mem.now }
 {
     let rows = s.reports;
     if 4096 < s.setup.room {

@@ -1,6 +1,5 @@
 // The lent runs but for the areas, one behind the other in one array, each with room for n = 7, L = 8 and M = 8; and bytes that a call has to leave alone.
 ghost use Rattle.std.specs.Prelude.{◌≡◌};
-ghost use Rattle.numbers.specs.Lending.{was, last};
 ghost use Rattle.comparing.specs.Areas.{fetched_at, stored_at, spoilt_to, all_spoilt, left_alone};
 
 pub const LOG: usize = 0;
@@ -17,7 +16,7 @@ pub const STORED: usize = 600;
 
 // The run at a place, copied out.
 pub fn fetch(memory: &[u8], at: usize, area: &mut [u8])
-    ensures { last area ≡ fetched_at at (was memory) (was area) }
+    ensures { area.new ≡ fetched_at at memory.now area.old }
 {
     let n = area.len();
     if memory.len() < at {
@@ -31,7 +30,7 @@ pub fn fetch(memory: &[u8], at: usize, area: &mut [u8])
 
 // The run at a place, copied back.
 pub fn store(memory: &mut [u8], at: usize, run: &[u8])
-    ensures { last memory ≡ stored_at at (was run) (was memory) }
+    ensures { memory.new ≡ stored_at at run.now memory.old }
 {
     let n = run.len();
     if memory.len() < at {
@@ -45,7 +44,7 @@ pub fn store(memory: &mut [u8], at: usize, run: &[u8])
 
 // n bytes set to what no call writes by chance, so that what it leaves alone shows.
 pub fn spoil(area: &mut [u8], n: usize)
-    ensures { last area ≡ spoilt_to n (was area) }
+    ensures { area.new ≡ spoilt_to n area.old }
 {
     if area.len() < n {
         return;
@@ -54,7 +53,7 @@ pub fn spoil(area: &mut [u8], n: usize)
 }
 
 fn spoilt(s: &[u8]) -> bool
-    ensures { result ≡ all_spoilt (was s) }
+    ensures { result ≡ all_spoilt s.now }
 {
     let mut i = 0;
     while i < s.len() {
@@ -68,7 +67,7 @@ fn spoilt(s: &[u8]) -> bool
 
 // Whether the bytes from one place to another are still as `spoil` left them.
 pub fn untouched(area: &[u8], from: usize, to: usize) -> bool
-    ensures { result ≡ left_alone from to (was area) }
+    ensures { result ≡ left_alone from to area.now }
 {
     if area.len() < to {
         return false;

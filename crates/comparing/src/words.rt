@@ -1,12 +1,11 @@
 // A line's words, parted by one space: numbers, and byte runs in hexadecimal, `-` where empty.
 ghost use Rattle.std.specs.Prelude.{◌≡◌, ◌+◌, ◌*◌, ◌/◌, ◌%◌, ◌^◌, ◌<◌, ◌≤◌, true, false, [], ◌∷◌, length};
 ghost use Rattle.numbers.specs.Numbers.{over};
-ghost use Rattle.numbers.specs.Lending.{was, last};
 ghost use Rattle.comparing.specs.Text.{place_of, times_in, behind_word, word_start, first_word, word_at, digit_of, base_of, with_digit, number_after, number_at, hex_digit, hex_text, run_text, same_bytes, byte_at, bytes_in, lesser_of};
 
 // The first place of a byte, or the length.
 pub fn find(s: &[u8], b: u8) -> usize
-    ensures { (result ≡ place_of b (was s)) × (result ≤ length (was s)) }
+    ensures { (result ≡ place_of b s.now) × (result ≤ length s.now) }
 {
     let mut i = 0;
     while i < s.len() {
@@ -30,7 +29,7 @@ fn one_more(n: usize, x: u8, b: u8) -> usize
 
 // How often a byte is there.
 pub fn count(s: &[u8], b: u8) -> usize
-    ensures { result ≡ times_in b (was s) }
+    ensures { result ≡ times_in b s.now }
 {
     let mut n = 0;
     let mut i = 0;
@@ -44,7 +43,7 @@ pub fn count(s: &[u8], b: u8) -> usize
 // Behind the space that ends the word at a place.
 fn behind(s: &[u8], at: usize) -> usize
     requires { at ≤ length s.now }
-    ensures { (result ≡ behind_word (was s) at) × (result ≤ length (was s)) }
+    ensures { (result ≡ behind_word s.now at) × (result ≤ length s.now) }
 {
     let n = find(&s[at..], 32);
     if s.len() - at <= n {
@@ -55,7 +54,7 @@ fn behind(s: &[u8], at: usize) -> usize
 
 // Where word k begins, the first being word 0, or the length.
 pub fn start(s: &[u8], k: usize) -> usize
-    ensures { (result ≡ word_start k (was s)) × (result ≤ length (was s)) }
+    ensures { (result ≡ word_start k s.now) × (result ≤ length s.now) }
 {
     let mut at = 0;
     let mut i = 0;
@@ -103,7 +102,7 @@ fn with_digit(x: u64, c: u8, hex: bool) -> u64
 }
 
 fn number(w: &[u8], hex: bool) -> u64
-    ensures { result ≡ number_after hex 0 (was w) }
+    ensures { result ≡ number_after hex 0 w.now }
 {
     let mut x = 0;
     let mut i = 0;
@@ -115,14 +114,14 @@ fn number(w: &[u8], hex: bool) -> u64
 }
 
 fn first_number(r: &[u8], hex: bool) -> u64
-    ensures { result ≡ number_after hex 0 (first_word (was r)) }
+    ensures { result ≡ number_after hex 0 (first_word r.now) }
 {
     let n = find(r, 32);
     number(&r[0..n], hex)
 }
 
 fn number_at(line: &[u8], k: usize, hex: bool) -> u64
-    ensures { result ≡ number_at hex k (was line) }
+    ensures { result ≡ number_at hex k line.now }
 {
     let from = start(line, k);
     first_number(&line[from..], hex)
@@ -130,14 +129,14 @@ fn number_at(line: &[u8], k: usize, hex: bool) -> u64
 
 // Word k in decimal.
 pub fn decimal(line: &[u8], k: usize) -> u64
-    ensures { result ≡ number_at false k (was line) }
+    ensures { result ≡ number_at false k line.now }
 {
     number_at(line, k, false)
 }
 
 // Word k in hexadecimal.
 pub fn hexadecimal(line: &[u8], k: usize) -> u64
-    ensures { result ≡ number_at true k (was line) }
+    ensures { result ≡ number_at true k line.now }
 {
     number_at(line, k, true)
 }
@@ -154,7 +153,7 @@ fn lesser(a: usize, b: usize) -> usize
 // Byte i of a run in hexadecimal.
 fn byte(w: &[u8], i: usize) -> u8
     requires { 2 * i + 1 < length w.now }
-    ensures { result ≡ byte_at (was w) i }
+    ensures { result ≡ byte_at w.now i }
 {
     let high = digit(w[2 * i]);
     let low = digit(w[2 * i + 1]);
@@ -163,7 +162,7 @@ fn byte(w: &[u8], i: usize) -> u8
 
 // The bytes of a run over the front of an area, and how many they are.
 fn decoded(w: &[u8], area: &mut [u8]) -> usize
-    ensures { (result ≡ lesser_of (length (was w) / 2) (length (was area))) × (last area ≡ over (bytes_in result (was w)) (was area)) }
+    ensures { (result ≡ lesser_of (length w.now / 2) (length area.old)) × (area.new ≡ over (bytes_in result w.now) area.old) }
 {
     let n = lesser(w.len() / 2, area.len());
     let mut i = 0;
@@ -175,7 +174,7 @@ fn decoded(w: &[u8], area: &mut [u8]) -> usize
 }
 
 fn decode_first(r: &[u8], area: &mut [u8]) -> usize
-    ensures { (result ≡ lesser_of (length (first_word (was r)) / 2) (length (was area))) × (last area ≡ over (bytes_in result (first_word (was r))) (was area)) }
+    ensures { (result ≡ lesser_of (length (first_word r.now) / 2) (length area.old)) × (area.new ≡ over (bytes_in result (first_word r.now)) area.old) }
 {
     let n = find(r, 32);
     decoded(&r[0..n], area)
@@ -183,7 +182,7 @@ fn decode_first(r: &[u8], area: &mut [u8]) -> usize
 
 // The bytes of word k over the front of an area, and how many they are.
 pub fn bytes(line: &[u8], k: usize, area: &mut [u8]) -> usize
-    ensures { (result ≡ lesser_of (length (word_at k (was line)) / 2) (length (was area))) × (last area ≡ over (bytes_in result (word_at k (was line))) (was area)) }
+    ensures { (result ≡ lesser_of (length (word_at k line.now) / 2) (length area.old)) × (area.new ≡ over (bytes_in result (word_at k line.now)) area.old) }
 {
     let from = start(line, k);
     decode_first(&line[from..], area)
@@ -201,7 +200,7 @@ fn letter(d: u8) -> u8
 
 // Whether bytes of a run stand in hexadecimal in a word, two digits each.
 fn same_text(w: &[u8], s: &[u8]) -> bool
-    ensures { result ≡ same_bytes (was w) (hex_text (was s)) }
+    ensures { result ≡ same_bytes w.now (hex_text s.now) }
 {
     if w.len() / 2 != s.len() {
         return false;
@@ -224,7 +223,7 @@ fn same_text(w: &[u8], s: &[u8]) -> bool
 
 // Whether a word is `-`.
 fn dash(w: &[u8]) -> bool
-    ensures { result ≡ same_bytes (was w) (45 ∷ []) }
+    ensures { result ≡ same_bytes w.now (45 ∷ []) }
 {
     if w.len() != 1 {
         return false;
@@ -233,7 +232,7 @@ fn dash(w: &[u8]) -> bool
 }
 
 fn same_run(w: &[u8], s: &[u8]) -> bool
-    ensures { result ≡ same_bytes (was w) (run_text (was s)) }
+    ensures { result ≡ same_bytes w.now (run_text s.now) }
 {
     if s.len() == 0 {
         return dash(w);
@@ -242,7 +241,7 @@ fn same_run(w: &[u8], s: &[u8]) -> bool
 }
 
 fn same_first(r: &[u8], s: &[u8]) -> bool
-    ensures { result ≡ same_bytes (first_word (was r)) (run_text (was s)) }
+    ensures { result ≡ same_bytes (first_word r.now) (run_text s.now) }
 {
     let n = find(r, 32);
     same_run(&r[0..n], s)
@@ -250,7 +249,7 @@ fn same_first(r: &[u8], s: &[u8]) -> bool
 
 // Whether word k is these bytes.
 pub fn same(line: &[u8], k: usize, s: &[u8]) -> bool
-    ensures { result ≡ same_bytes (word_at k (was line)) (run_text (was s)) }
+    ensures { result ≡ same_bytes (word_at k line.now) (run_text s.now) }
 {
     let from = start(line, k);
     same_first(&line[from..], s)

@@ -1,4 +1,6 @@
 // The setup and its sizes, who leads a view, and sets of replicas as bits.
+#![tactic(auto)]
+
 ghost use Rattle.std.specs.Prelude.{◌≡◌, true, ◌<◌, eqb};
 ghost use Rattle.config.specs.Setup.{replicas_ok, timeout_ok, room_ok, setup_ok, primary_of};
 ghost use Rattle.config.specs.Replicas.{bit, with_member, with_another, count_below, quorum_of};
@@ -6,7 +8,7 @@ ghost use Rattle.config.specs.Replicas.{bit, with_member, with_another, count_be
 use numbers::View;
 
 // What is chosen at creation: n replicas, the own id, `primary_timeout` T, log room L and members M.
-#[derive(Drop)]
+#[derive(Clone, Copy)]
 pub struct Setup {
     pub n: u8,
     pub id: u8,

@@ -1,7 +1,6 @@
 // Rows into an area, each straight after the one before it, with no quotes.
 ghost use Rattle.std.specs.Prelude.{◌≡◌, [], ◌∷◌, ◌++◌, ◌+◌, ◌*◌, ◌/◌, ◌≤◌, ◌<◌, leb, length};
 ghost use Rattle.numbers.specs.Numbers.{over, Wrote};
-ghost use Rattle.numbers.specs.Lending.{was, last};
 ghost use Rattle.entries.specs.Entries.{entries, run_count};
 ghost use Rattle.decimal.specs.Decimal.{decimal};
 ghost use Rattle.csv.specs.Rows.{comma};
@@ -14,7 +13,7 @@ const HEADER: [u8; 37] = *b"op,client,request,kind,member,cents\r\n";
 // A number in decimal and a comma over the front of the area.
 fn put_number(area: &mut [u8], x: u64) -> usize
     requires { length (decimal x) + 1 ≤ length area.old }
-    ensures { Wrote (decimal x ++ comma ∷ []) (was area) (last area) result }
+    ensures { Wrote (decimal x ++ comma ∷ []) area.old area.new result }
 {
     let k = decimal::write(area, x);
     area[k] = 44;
@@ -34,7 +33,7 @@ fn kind_size(operation: u8) -> usize
 // The word of an operation and a comma.
 fn put_kind(area: &mut [u8], operation: u8) -> usize
     requires { length (kind_word operation) + 1 ≤ length area.old }
-    ensures { Wrote (kind_word operation ++ comma ∷ []) (was area) (last area) result }
+    ensures { Wrote (kind_word operation ++ comma ∷ []) area.old area.new result }
 {
     if operation == 1 {
         numbers::copy(area, b"fee,", 4);
@@ -51,7 +50,7 @@ fn put_kind(area: &mut [u8], operation: u8) -> usize
 // A row's first three fields: op, client and request.
 fn put_front(area: &mut [u8], op: u64, e: Entry) -> usize
     requires { length (front_of op e) ≤ length area.old }
-    ensures { Wrote (front_of op e) (was area) (last area) result }
+    ensures { Wrote (front_of op e) area.old area.new result }
 {
     let a = put_number(area, op);
     let b = a + put_number(&mut area[a..], e.client);
@@ -61,7 +60,7 @@ fn put_front(area: &mut [u8], op: u64, e: Entry) -> usize
 // Its last three, kind, member and cents, and CRLF.
 fn put_back(area: &mut [u8], e: Entry) -> usize
     requires { length (back_of e) ≤ length area.old }
-    ensures { Wrote (back_of e) (was area) (last area) result }
+    ensures { Wrote (back_of e) area.old area.new result }
 {
     let a = put_kind(area, e.operation);
     let b = a + put_number(&mut area[a..], e.member as u64);
@@ -73,7 +72,7 @@ fn put_back(area: &mut [u8], e: Entry) -> usize
 // A row.
 fn put_row(area: &mut [u8], op: u64, e: Entry) -> usize
     requires { length (plain_row (entry_fields op e)) ≤ length area.old }
-    ensures { Wrote (plain_row (entry_fields op e)) (was area) (last area) result }
+    ensures { Wrote (plain_row (entry_fields op e)) area.old area.new result }
 {
     let a = put_front(area, op, e);
     a + put_back(&mut area[a..], e)
@@ -90,7 +89,7 @@ fn row_size(op: u64, e: Entry) -> usize
 
 // Whether so many bytes hold the table of a run. No row has more than 113: where that much is there for each, none is measured.
 pub fn fits(run: &[u8], room: usize) -> bool
-    ensures { result ≡ leb (length (exported (entries (run_count (was run)) (was run)))) room }
+    ensures { result ≡ leb (length (exported (entries (run_count run.now) run.now))) room }
 {
     if room < 37 {
         return false;
@@ -115,7 +114,7 @@ pub fn fits(run: &[u8], room: usize) -> bool
 // The table of a run of entries.
 pub fn write_table(run: &[u8], area: &mut [u8]) -> usize
     requires { length (exported (entries (run_count run.now) run.now)) ≤ length area.old }
-    ensures { Wrote (exported (entries (run_count (was run)) (was run))) (was area) (last area) result }
+    ensures { Wrote (exported (entries (run_count run.now) run.now)) area.old area.new result }
 {
     numbers::copy(area, &HEADER, 37);
     let n = run.len() / 32;

@@ -1,6 +1,5 @@
 // A field at the front of what is left of a file: where it stands, how it ends, and what it says.
 ghost use Rattle.std.specs.Prelude.{◌≡◌, true, ◌+◌, ◌≤◌, ◌<◌, length, drop};
-ghost use Rattle.numbers.specs.Lending.{was, last};
 ghost use Rattle.decimal.specs.Decimal.{said, no_number};
 ghost use Rattle.csv.specs.Table.{header_words};
 ghost use Rattle.csv.specs.Fields.{stops, stretch, ending, ending_size, plain_field, quoted_field, field_at_front, same, row_op_in, kind_in, cents_in, header_in, sense, wrong_field, judged_field, field_told};
@@ -21,7 +20,7 @@ fn stops(b: u8) -> bool
 // The place of the first such byte from `at` on, or the end.
 fn stretch_end(s: &[u8], at: usize) -> usize
     requires { at ≤ length s.now }
-    ensures { result ≡ at + stretch (drop at (was s)) }
+    ensures { result ≡ at + stretch (drop at s.now) }
 {
     let mut i = at;
     while i < s.len() {
@@ -36,7 +35,7 @@ fn stretch_end(s: &[u8], at: usize) -> usize
 // How a field ends whose text ends at `at`.
 fn ending(s: &[u8], at: usize) -> u8
     requires { at ≤ length s.now }
-    ensures { result ≡ ending (drop at (was s)) }
+    ensures { result ≡ ending (drop at s.now) }
 {
     if s.len() <= at {
         return 3;
@@ -67,7 +66,7 @@ fn ending_size(ends: u8) -> usize
 }
 
 fn plain_field(s: &[u8]) -> Field
-    ensures { result ≡ plain_field (was s) }
+    ensures { result ≡ plain_field s.now }
 {
     let n = stretch_end(s, 0);
     let ends = ending(s, n);
@@ -81,7 +80,7 @@ fn plain_field(s: &[u8]) -> Field
 
 fn quoted_field(s: &[u8]) -> Field
     requires { 1 ≤ length s.now }
-    ensures { result ≡ quoted_field (was s) }
+    ensures { result ≡ quoted_field s.now }
 {
     let e = stretch_end(s, 1);
     if s.len() <= e {
@@ -111,7 +110,7 @@ fn quoted_field(s: &[u8]) -> Field
 
 // The field at the front.
 pub fn field(s: &[u8]) -> Field
-    ensures { result ≡ field_at_front (was s) }
+    ensures { result ≡ field_at_front s.now }
 {
     if s.len() == 0 {
         return plain_field(s);
@@ -124,7 +123,7 @@ pub fn field(s: &[u8]) -> Field
 
 // Whether two texts are the same.
 fn same(s: &[u8], t: &[u8]) -> bool
-    ensures { result ≡ same (was s) (was t) }
+    ensures { result ≡ same s.now t.now }
 {
     if s.len() != t.len() {
         return false;
@@ -156,7 +155,7 @@ fn no_number() -> Number
 
 // The op of row i.
 fn op_in(t: &[u8], i: u64) -> Number
-    ensures { result ≡ row_op_in i (was t) }
+    ensures { result ≡ row_op_in i t.now }
 {
     let n = decimal::read(t, i);
     if n.value == i {
@@ -167,7 +166,7 @@ fn op_in(t: &[u8], i: u64) -> Number
 
 // An operation's number, by its word.
 fn kind_in(t: &[u8]) -> Number
-    ensures { result ≡ kind_in (was t) }
+    ensures { result ≡ kind_in t.now }
 {
     if same(t, b"fee") {
         return said(1);
@@ -183,7 +182,7 @@ fn kind_in(t: &[u8]) -> Number
 
 // Cents that the entry rules allow this operation.
 fn cents_in(t: &[u8], operation: u8) -> Number
-    ensures { result ≡ cents_in operation (was t) }
+    ensures { result ≡ cents_in operation t.now }
 {
     let n = decimal::read(t, 1_000_000);
     if entries::operation_ok(operation, n.value) {
@@ -195,7 +194,7 @@ fn cents_in(t: &[u8], operation: u8) -> Number
 // Word k of the header.
 fn header_in(t: &[u8], k: usize) -> Number
     requires { k < 6 }
-    ensures { result ≡ header_in k (was t) }
+    ensures { result ≡ header_in k t.now }
 {
     let there = match k {
         0 => same(t, b"op"),
@@ -211,7 +210,7 @@ fn header_in(t: &[u8], k: usize) -> Number
 // What a content says as field k of row i, whose operation is known from field 3 on.
 fn sense(t: &[u8], i: u64, k: usize, operation: u8) -> Number
     requires { k < 6 }
-    ensures { result ≡ sense i k operation (was t) }
+    ensures { result ≡ sense i k operation t.now }
 {
     if i == 0 {
         return header_in(t, k);
@@ -268,7 +267,7 @@ fn judged(last: bool, f: Field, n: Number) -> FieldTold
 // Field k of row i, at the front.
 pub fn told(s: &[u8], i: u64, k: usize, operation: u8) -> FieldTold
     requires { k < 6 }
-    ensures { result ≡ field_told i k operation (was s) }
+    ensures { result ≡ field_told i k operation s.now }
 {
     let f = field(s);
     let start = f.start;

@@ -1,6 +1,5 @@
 // The treasurer's table of entries as CSV by RFC 4180: exported from a run of entries, and imported, with fields plain or quoted.
 ghost use Rattle.std.specs.Prelude.{◌≡◌};
-ghost use Rattle.numbers.specs.Lending.{was, last};
 ghost use Rattle.csv.specs.Calls.{export_call, import_call};
 
 use entries::Entry;
@@ -10,14 +9,14 @@ mod fields; // a field of a row: where it stands, how it ends, what it says
 mod reading; // rows of a file, up to the first bad one
 
 // The refusal's number, 0 where the call is done, and how many bytes were written.
-#[derive(Drop)]
+#[derive(Clone, Copy)]
 pub struct Exported {
     pub code: u8,
     pub bytes: usize,
 }
 
 // A field of a file, from its front: where its content begins and how many bytes it has, how many bytes the field takes with its end, and how it ends: 1 a comma, 2 CRLF, 3 the file's end. 0: it is none.
-#[derive(Drop)]
+#[derive(Clone, Copy)]
 pub struct Field {
     pub start: usize,
     pub size: usize,
@@ -27,7 +26,7 @@ pub struct Field {
 
 // A field judged: what is wrong with it, by number: 1 its quotes or what stands behind it, 2 what it says, 3 the row ends behind it too early, 4 the row goes on behind its last field. 0: nothing;
 // then what it says, and how many bytes it takes with its end.
-#[derive(Drop)]
+#[derive(Clone, Copy)]
 pub struct FieldTold {
     pub fault: u8,
     pub value: u64,
@@ -35,7 +34,7 @@ pub struct FieldTold {
 }
 
 // A row judged: what is wrong with its first bad field, its column, 1 to 6, and how far behind the row's beginning it stands. Fault 0: nothing; then how many bytes the row takes, and its entry.
-#[derive(Drop)]
+#[derive(Clone, Copy)]
 pub struct RowRead {
     pub fault: u8,
     pub column: u8,
@@ -45,7 +44,7 @@ pub struct RowRead {
 }
 
 // So many good rows, and what is wrong with the next, in which column, and where in the file that field begins. Fault 0: none is bad.
-#[derive(Drop)]
+#[derive(Clone, Copy)]
 pub struct Scanned {
     pub rows: usize,
     pub fault: u8,
@@ -54,7 +53,7 @@ pub struct Scanned {
 }
 
 // The refusal's number, how many entries were imported, and with 13 the first bad row, the header being 1, the column of its first bad field, what is wrong with that, and where in the file it begins.
-#[derive(Drop)]
+#[derive(Clone, Copy)]
 pub struct Imported {
     pub code: u8,
     pub entries: usize,
@@ -72,7 +71,7 @@ fn not_exported(code: u8) -> Exported
 
 // The table of a run of entries, 32 bytes each, into the area.
 pub fn export(run: &[u8], area: &mut [u8]) -> Exported
-    ensures { (record { answer = result; area = last area }) ≡ export_call (was run) (was area) }
+    ensures { (record { answer = result; area = area.new }) ≡ export_call run.now area.old }
 {
     if !entries::run_ok(run) {
         return not_exported(2);
@@ -99,7 +98,7 @@ fn not_imported(code: u8) -> Imported
 
 // A table's entries into the area, 32 bytes each. The whole file is looked over before any byte is written: what is lent keeps no trace of a bad one.
 pub fn import(file: &[u8], area: &mut [u8]) -> Imported
-    ensures { (record { answer = result; area = last area }) ≡ import_call (was file) (was area) }
+    ensures { (record { answer = result; area = area.new }) ≡ import_call file.now area.old }
 {
     let t = reading::scan(file);
     if t.fault != 0 {

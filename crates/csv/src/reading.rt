@@ -2,7 +2,6 @@
 ghost use Rattle.std.specs.Prelude.{◌≡◌, ◌+◌, ◌*◌, ◌≤◌, ◌<◌, length};
 ghost use Rattle.numbers.specs.Numbers.{over};
 ghost use Rattle.numbers.specs.Cells.{packed};
-ghost use Rattle.numbers.specs.Lending.{was, last};
 ghost use Rattle.entries.specs.Entries.{encode_entry};
 ghost use Rattle.csv.specs.Reading.{bad_row, row_in, scanned, table_entries};
 
@@ -29,7 +28,7 @@ fn bad_row(fault: u8, column: u8, place: usize) -> RowRead
 
 // Row i, at the front: the header where i is 0, else that of op i.
 fn row(s: &[u8], i: u64) -> RowRead
-    ensures { (result ≡ row_in i (was s)) × (result.used ≤ length (was s)) }
+    ensures { (result ≡ row_in i s.now) × (result.used ≤ length s.now) }
 {
     let mut values: [u64; 6] = [0; 6];
     let mut p: usize = 0;
@@ -60,7 +59,7 @@ fn row(s: &[u8], i: u64) -> RowRead
 
 // A file up to its first bad row.
 pub fn scan(file: &[u8]) -> Scanned
-    ensures { result ≡ scanned (was file) }
+    ensures { result ≡ scanned file.now }
 {
     let mut p: usize = 0;
     let mut i: usize = 0;
@@ -90,7 +89,7 @@ pub fn scan(file: &[u8]) -> Scanned
 // The entries of the first n rows behind the header into the area, 32 bytes each.
 pub fn copy_entries(file: &[u8], n: usize, area: &mut [u8])
     requires { 32 * n ≤ length area.old }
-    ensures { last area ≡ over (packed encode_entry (table_entries n (was file))) (was area) }
+    ensures { area.new ≡ over (packed encode_entry (table_entries n file.now)) area.old }
 {
     let first = row(file, 0);
     let mut p = first.used;

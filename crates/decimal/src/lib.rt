@@ -1,11 +1,12 @@
 // Numbers in decimal without leading zeros: read from a text, and written.
+#![tactic(auto)]
+
 ghost use Rattle.std.specs.Prelude.{◌≡◌, ◌≤◌, length};
 ghost use Rattle.numbers.specs.Numbers.{Wrote};
-ghost use Rattle.numbers.specs.Lending.{was, last};
 ghost use Rattle.decimal.specs.Decimal.{decimal, leading_zero, no_number, number_in};
 
 // Whether a text is a number in decimal, and which; 0 where it is none.
-#[derive(Drop)]
+#[derive(Clone, Copy)]
 pub struct Number {
     pub there: bool,
     pub value: u64,
@@ -22,7 +23,7 @@ fn none() -> Number
 
 // Whether a 0 stands in front of other bytes.
 fn leading_zero(s: &[u8]) -> bool
-    ensures { result ≡ leading_zero (was s) }
+    ensures { result ≡ leading_zero s.now }
 {
     if s.len() < 2 {
         return false;
@@ -32,7 +33,7 @@ fn leading_zero(s: &[u8]) -> bool
 
 // The number that the whole text is, where that is not above `most`.
 pub fn read(s: &[u8], most: u64) -> Number
-    ensures { result ≡ number_in most (was s) }
+    ensures { result ≡ number_in most s.now }
 {
     if s.len() == 0 {
         return none();
@@ -83,7 +84,7 @@ pub fn width(x: u64) -> usize
 // The number's figures over the front of the area, of which it has so many.
 pub fn write(area: &mut [u8], x: u64) -> usize
     requires { length (decimal x) ≤ length area.old }
-    ensures { Wrote (decimal x) (was area) (last area) result }
+    ensures { Wrote (decimal x) area.old area.new result }
 {
     let k = width(x);
     let mut y = x;

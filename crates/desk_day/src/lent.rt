@@ -1,19 +1,18 @@
 // The client's functions on a record that is lent to them: each lends a local for the call, and hands back what stands in it then.
 ghost use Rattle.std.specs.Prelude.{◌≡◌, length};
 ghost use Rattle.client.specs.Client.{requested_of, requested_area, replied_of, idled_of, idled_area};
-ghost use Rattle.numbers.specs.Lending.{was, last};
 
 use client::{AfterReply, AfterRequest, Client, Resent};
 use numbers::View;
 
-#[derive(Drop)]
+#[derive(Clone, Copy)]
 pub struct AfterIdle {
     pub client: Client,
     pub answer: Resent,
 }
 
 pub fn request(c: Client, operation: u8, member: u32, cents: u64, area: &mut [u8]) -> AfterRequest
-    ensures { (result ≡ requested_of c operation member cents (length (was area))) × (last area ≡ requested_area c operation member cents (was area)) }
+    ensures { (result ≡ requested_of c operation member cents (length area.old)) × (area.new ≡ requested_area c operation member cents area.old) }
 {
     let mut d = c;
     let a = client_lent::request(&mut d, operation, member, cents, area);
@@ -36,7 +35,7 @@ pub fn reply(c: Client, number: u64, view: View) -> AfterReply
 
 // The record comes back as it was.
 pub fn idle(c: Client, area: &mut [u8]) -> AfterIdle
-    ensures { (result.answer ≡ idled_of c (length (was area))) × ((result.client ≡ c) × (last area ≡ idled_area c (was area))) }
+    ensures { (result.answer ≡ idled_of c (length area.old)) × ((result.client ≡ c) × (area.new ≡ idled_area c area.old)) }
 {
     let mut d = c;
     let a = client_lent::idle(&mut d, area);

@@ -6,7 +6,7 @@ use comparing::{memory, words};
 use numbers::View;
 
 // What was played: the record, the last call's number and how many bytes it wrote to an area of so many, and how many lines were compared and how many differ.
-#[derive(Drop)]
+#[derive(Clone, Copy)]
 struct Played {
     pub client: Client,
     pub code: u64,
@@ -18,7 +18,7 @@ struct Played {
 }
 
 // Where the next line begins.
-#[derive(Drop)]
+#[derive(Clone, Copy)]
 struct Turn {
     pub at: usize,
     pub played: Played,

@@ -2,12 +2,11 @@
 ghost use Rattle.std.specs.Prelude.{◌≡◌, true, ◌++◌, ◌+◌, ◌-◌, ◌*◌, ◌≤◌, length};
 ghost use Rattle.numbers.specs.Numbers.{over, Wrote};
 ghost use Rattle.config.specs.Setup.{setup_ok};
-ghost use Rattle.book.specs.Memory.{runs_held, money_before, money_after};
+ghost use Rattle.book.specs.Memory.{runs, money};
 ghost use Rattle.state.specs.Lengths.{acks_length};
 ghost use Rattle.steps.specs.Steps.{Sound};
 ghost use Rattle.view_change.specs.StartView.{LogHeld};
 ghost use Rattle.do_view_change.specs.Begin.{calls_first, first_length, start_views_length, start_views_of, own_acks, entered, owed, begun, begin_step};
-ghost use Rattle.numbers.specs.Lending.{was, last};
 
 use frames::Message;
 use numbers::Op;
@@ -27,7 +26,7 @@ pub fn first_len(first: bool, t: Replica) -> usize
 // StartViewChange to all others, where the call asks for the view.
 pub fn call_first(first: bool, t: Replica, out: &mut [u8]) -> usize
     requires { (setup_ok t.setup ≡ true) × (first_length first t ≤ length out.old) }
-    ensures { Wrote (calls_first first t) (was out) (last out) result }
+    ensures { Wrote (calls_first first t) out.old out.new result }
 {
     if first {
         let v = t.view;
@@ -47,7 +46,7 @@ pub fn start_views_len(t: Replica, o: Op) -> usize
 // StartView to all others, after what goes out first.
 fn send_start_views(t: Replica, u: Replica, first: bool, log: &[u8], out: &mut [u8]) -> usize
     requires { (setup_ok t.setup ≡ true) × (LogHeld u (length log.now) × (first_length first t + start_views_length u ≤ length out.old)) }
-    ensures { Wrote (calls_first first t ++ start_views_of u (was log)) (was out) (last out) result }
+    ensures { Wrote (calls_first first t ++ start_views_of u log.now) out.old out.new result }
 {
     let view = u.view;
     let op = u.op;
@@ -60,7 +59,7 @@ fn send_start_views(t: Replica, u: Replica, first: bool, log: &[u8], out: &mut [
 // Our own ack for each op that isn't committed, none for the others.
 fn own_acks(u: Replica, acks: &mut [u8])
     requires { (setup_ok u.setup ≡ true) × ((u.commit.0 ≤ u.op.0) × ((u.op.0 ≤ u.setup.room) × (length acks.old ≡ acks_length u.setup))) }
-    ensures { last acks ≡ over (own_acks u) (was acks) }
+    ensures { acks.new ≡ over (own_acks u) acks.old }
 {
     let c = entries::ack_place(u.commit.0 as usize);
     let k = (u.op.0 - u.commit.0) as usize;
@@ -81,8 +80,8 @@ pub fn begin(
     out: &mut [u8],
     reps: &mut [u8],
 ) -> Returned
-    requires { Sound (entered t o) (runs_held log results totals) × ((g.0 ≤ o.0) × ((length acks.old ≡ acks_length t.setup) × ((first_length first t + start_views_length (entered t o) ≤ length out.old) × (36 * owed t g ≤ length reps.old)))) }
-    ensures { begun result (money_after results totals) (last acks) (last out) (last reps) ≡ begin_step t o g first (was log) (money_before results totals) (was acks) (was out) (was reps) }
+    requires { Sound (entered t o) (runs log.now results.old totals.old) × ((g.0 ≤ o.0) × ((length acks.old ≡ acks_length t.setup) × ((first_length first t + start_views_length (entered t o) ≤ length out.old) × (36 * owed t g ≤ length reps.old)))) }
+    ensures { begun result (money results.new totals.new) acks.new out.new reps.new ≡ begin_step t o g first log.now (money results.old totals.old) acks.old out.old reps.old }
 {
     let v = t.view;
     let c = t.commit;

@@ -6,7 +6,7 @@ pub mod begin; // a view begins with the log that was installed
 pub mod record; // record_do_view_change, send_do_view_change, on_do_view_change
 
 // What a report leads to: it is kept; a refusal; or the view begins with the log of `best`, committed up to `commit`.
-#[derive(Drop)]
+#[derive(Clone, Copy)]
 pub enum Decision {
     Keep,
     No { code: u8 },

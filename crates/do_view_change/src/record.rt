@@ -9,8 +9,7 @@ ghost use Rattle.do_view_change.specs.Begin.{owed};
 ghost use Rattle.steps.specs.Recorded.{Gathering, Does};
 ghost use Rattle.do_view_change.specs.Record.{Told, decided_by, record_step, own_report, report_of, told_primary, send_step, do_view_change_step};
 ghost use Rattle.do_view_change.specs.DecisionNumber.{Decides};
-ghost use Rattle.book.specs.Memory.{memory_held};
-ghost use Rattle.numbers.specs.Lending.{was, last};
+ghost use Rattle.book.specs.Memory.{memory};
 
 use crate::{Decision, begin};
 use numbers::{Op, View};
@@ -66,7 +65,7 @@ fn decide<'a>(
     fresh: &'a [u8],
 ) -> Decision
     requires { (setup_ok t.setup ≡ true) × (Fits rows t.setup.n r t.setup.room stored.now fresh.now × (32 * t.commit.0 ≤ length log.now)) }
-    ensures { Decides t rows r first area replies (was log) (was stored) (was fresh) result }
+    ensures { Decides t rows r first area replies log.now stored.now fresh.now result }
 {
     let n = t.setup.n;
     let room = t.setup.room;
@@ -94,8 +93,8 @@ fn record_frame(
     out: &mut [u8],
     reps: &mut [u8],
 ) -> Returned
-    requires { Gathering t (memory_held log results totals acks stored out reps) × Told t r d.op d.commit fresh.now }
-    ensures { Does (record_step s t r d first (was fresh)) result log results totals acks stored out reps }
+    requires { Gathering t (memory log.old results.old totals.old acks.old stored.old out.old reps.old) × Told t r d.op d.commit fresh.now }
+    ensures { Does (record_step s t r d first fresh.now) result (memory log.old results.old totals.old acks.old stored.old out.old reps.old) (memory log.new results.new totals.new acks.new stored.new out.new reps.new) }
 {
     let held = t.reports;
     let rows = reports::rows::with_report(held, r, d);
@@ -128,8 +127,8 @@ fn record_own(
     out: &mut [u8],
     reps: &mut [u8],
 ) -> Returned
-    requires { Gathering t (memory_held log results totals acks stored out reps) }
-    ensures { Does (record_step s t t.setup.id (own_report t) first (was log)) result log results totals acks stored out reps }
+    requires { Gathering t (memory log.old results.old totals.old acks.old stored.old out.old reps.old) }
+    ensures { Does (record_step s t t.setup.id (own_report t) first log.old) result (memory log.old results.old totals.old acks.old stored.old out.old reps.old) (memory log.new results.new totals.new acks.new stored.new out.new reps.new) }
 {
     let me = t.setup.id;
     let d = own_report(t);
@@ -176,7 +175,7 @@ fn own_report(s: Replica) -> Report
 // Our DoViewChange, to the primary of our view.
 fn tell_primary(s: Replica, t: Replica, first: bool, log: &[u8], out: &mut [u8]) -> Returned
     requires { LogHeld t (length log.now) }
-    ensures { spoke result (last out) ≡ told_primary s t first (was log) (was out) }
+    ensures { spoke result out.new ≡ told_primary s t first log.now out.old }
 {
     if out.len() < begin::first_len(first, t) + (24 + 32 * (t.op.0 as usize)) {
         return state::refused(9, s);
@@ -204,8 +203,8 @@ pub fn send_do_view_change(
     out: &mut [u8],
     reps: &mut [u8],
 ) -> Returned
-    requires { Gathering t (memory_held log results totals acks stored out reps) }
-    ensures { Does (send_step s t first) result log results totals acks stored out reps }
+    requires { Gathering t (memory log.old results.old totals.old acks.old stored.old out.old reps.old) }
+    ensures { Does (send_step s t first) result (memory log.old results.old totals.old acks.old stored.old out.old reps.old) (memory log.new results.new totals.new acks.new stored.new out.new reps.new) }
 {
     if state::is_primary(t) {
         return record_own(s, t, first, log, results, totals, acks, stored, out, reps);
@@ -230,8 +229,8 @@ pub fn on_do_view_change(
     out: &mut [u8],
     reps: &mut [u8],
 ) -> Returned
-    requires { Gathering s (memory_held log results totals acks stored out reps) × Told s r o c part.now }
-    ensures { Does (do_view_change_step s v r normal o c (was part)) result log results totals acks stored out reps }
+    requires { Gathering s (memory log.old results.old totals.old acks.old stored.old out.old reps.old) × Told s r o c part.now }
+    ensures { Does (do_view_change_step s v r normal o c part.now) result (memory log.old results.old totals.old acks.old stored.old out.old reps.old) (memory log.new results.new totals.new acks.new stored.new out.new reps.new) }
 {
     if v.0 < s.view.0 {
         return state::done(s, 0, 0, false);

@@ -1,13 +1,14 @@
 // The 32-byte entry, the entry rules, runs of entries, and the look over pairs of them; where an op has its cell in log, results and acks.
+#![tactic(auto)]
+
 ghost use Rattle.std.specs.Prelude.{◌≡◌, ◌+◌, ◌*◌, ◌^◌, ◌≤◌, ◌<◌, length, drop};
 ghost use Rattle.numbers.specs.Numbers.{over};
 ghost use Rattle.entries.specs.Entries.{operation_number, operation_of, operation_ok, entry_of, entry_ok, encode_entry, entries, entries_ok, run_ok};
 ghost use Rattle.entries.specs.Places.{cell_of, entry_place, result_place, ack_place, entry_in};
 ghost use Rattle.entries.specs.Rising.{breaks_at, rising};
-ghost use Rattle.numbers.specs.Lending.{was, last};
 
 // A charge as a client asks for it. The operation is the wire's byte: memory that no call produced may hold any.
-#[derive(Drop)]
+#[derive(Clone, Copy)]
 pub struct Entry {
     pub client: u64,
     pub request: u64,
@@ -16,7 +17,7 @@ pub struct Entry {
     pub cents: u64,
 }
 
-#[derive(Drop)]
+#[derive(Clone, Copy)]
 pub enum Operation {
     Fee,
     Refund,
@@ -59,7 +60,7 @@ pub fn operation_ok(operation: u8, cents: u64) -> bool
 // The entry at place `at`, whether it keeps the rules or not.
 pub fn entry_at(s: &[u8], at: usize) -> Entry
     requires { at + 32 ≤ length s.now }
-    ensures { result ≡ entry_of (drop at (was s)) }
+    ensures { result ≡ entry_of (drop at s.now) }
 {
     Entry {
         client: numbers::read_u64(s, at),
@@ -103,7 +104,7 @@ pub fn ack_place(i: usize) -> usize
 // The entry of op number i + 1.
 pub fn entry_in(log: &[u8], i: usize) -> Entry
     requires { entry_place (i + 1) ≤ length log.now }
-    ensures { result ≡ entry_in (was log) i }
+    ensures { result ≡ entry_in log.now i }
 {
     entry_at(log, entry_place(i))
 }
@@ -111,7 +112,7 @@ pub fn entry_in(log: &[u8], i: usize) -> Entry
 // Whether the 32 bytes at place `at` keep the entry rules.
 pub fn entry_ok(s: &[u8], at: usize) -> bool
     requires { at + 32 ≤ length s.now }
-    ensures { result ≡ entry_ok (drop at (was s)) }
+    ensures { result ≡ entry_ok (drop at s.now) }
 {
     if numbers::read_be(s, at + 17, 3) != 0 {
         return false;
@@ -122,7 +123,7 @@ pub fn entry_ok(s: &[u8], at: usize) -> bool
 // The entry's 32 bytes over the front of `area`. The operation is the highest byte of four, of which the others are zero: one write.
 pub fn write_entry(area: &mut [u8], e: Entry)
     requires { 32 ≤ length area.old }
-    ensures { last area ≡ over (encode_entry e) (was area) }
+    ensures { area.new ≡ over (encode_entry e) area.old }
 {
     numbers::write_u64(area, e.client);
     numbers::write_u64(&mut area[8..], e.request);
@@ -134,7 +135,7 @@ pub fn write_entry(area: &mut [u8], e: Entry)
 // Whether the k entries from place `at` on keep the entry rules.
 pub fn entries_ok(s: &[u8], at: usize, k: usize) -> bool
     requires { at + 32 * k ≤ length s.now }
-    ensures { result ≡ entries_ok k (drop at (was s)) }
+    ensures { result ≡ entries_ok k (drop at s.now) }
 {
     let mut i = 0;
     let mut p = at;
@@ -150,7 +151,7 @@ pub fn entries_ok(s: &[u8], at: usize, k: usize) -> bool
 
 // Whether a run is entries that keep the rules, and nothing else.
 pub fn run_ok(run: &[u8]) -> bool
-    ensures { result ≡ run_ok (was run) }
+    ensures { result ≡ run_ok run.now }
 {
     if run.len() % 32 != 0 {
         return false;
@@ -161,7 +162,7 @@ pub fn run_ok(run: &[u8]) -> bool
 // Whether the entry at `at`, which stands after e, is of the same client and its request number does not rise. Of another client's entry nothing else is read.
 pub fn breaks(e: Entry, s: &[u8], at: usize) -> bool
     requires { at + 32 ≤ length s.now }
-    ensures { result ≡ breaks_at e (entry_of (drop at (was s))) }
+    ensures { result ≡ breaks_at e (entry_of (drop at s.now)) }
 {
     if numbers::read_u64(s, at) != e.client {
         return false;
@@ -173,7 +174,7 @@ pub fn breaks(e: Entry, s: &[u8], at: usize) -> bool
 // Up to 16 entries every pair is looked at sooner than the chains are cleared. The chains have places for 4,096 entries, the most that a log has.
 pub fn is_rising(s: &[u8], k: usize) -> bool
     requires { 32 * k ≤ length s.now }
-    ensures { result ≡ rising (entries k (was s)) }
+    ensures { result ≡ rising (entries k s.now) }
 {
     if k <= 16 {
         return rises_by_pairs(s, k);
@@ -187,7 +188,7 @@ pub fn is_rising(s: &[u8], k: usize) -> bool
 // Each entry is compared with every later one.
 fn rises_by_pairs(s: &[u8], k: usize) -> bool
     requires { 32 * k ≤ length s.now }
-    ensures { result ≡ rising (entries k (was s)) }
+    ensures { result ≡ rising (entries k s.now) }
 {
     let mut ok = true;
     let mut i = 0;
@@ -212,7 +213,7 @@ fn rises_by_pairs(s: &[u8], k: usize) -> bool
 // Clients choose their ids: where too many have one remainder, a chain is slower than the pairs, which are then looked at instead. 4,096 ids that spread take 2 looks each.
 fn rises_by_chain(s: &[u8], k: usize) -> bool
     requires { (k ≤ 4096) × (32 * k ≤ length s.now) }
-    ensures { result ≡ rising (entries k (was s)) }
+    ensures { result ≡ rising (entries k s.now) }
 {
     let mut latest: [u16; 1021] = [0; 1021];
     let mut earlier: [u16; 4096] = [0; 4096];

@@ -1,11 +1,12 @@
 // The fee rules, on one total and over a lent run of totals; what they gave, in lent bytes.
+#![tactic(auto)]
+
 ghost use Rattle.std.specs.Prelude.{◌≡◌, ◌+◌, ◌-◌, ◌*◌, ◌≤◌, length, drop};
 ghost use Rattle.numbers.specs.Numbers.{over};
 ghost use Rattle.entries.specs.Places.{result_place};
 ghost use Rattle.fees.specs.Fees.{rule, outcome_on, total_bytes_after};
 ghost use Rattle.fees.specs.Results.{result_of, result_in, encode_result};
 ghost use Rattle.fees.specs.Takings.{added, takings_after};
-ghost use Rattle.numbers.specs.Lending.{was, last};
 
 use entries::{Entry, Operation};
 
@@ -16,7 +17,7 @@ const LIMIT: u64 = 1_000_000_000;
 pub const MOST: u64 = 4_096_000_000_000;
 
 // The outcome's number, 1 to 6, and the total after it.
-#[derive(Drop)]
+#[derive(Clone, Copy)]
 pub struct Outcome {
     pub code: u8,
     pub total: u64,
@@ -64,7 +65,7 @@ pub fn by_rule(total: u64, op: Operation, cents: u64) -> Outcome
 // One entry on the first `members` totals of the run, 8 bytes each.
 pub fn apply(totals: &mut [u8], members: u32, e: Entry) -> Outcome
     requires { 8 * members ≤ length totals.old }
-    ensures { (result ≡ outcome_on members (was totals) e) × (last totals ≡ total_bytes_after members (was totals) e) }
+    ensures { (result ≡ outcome_on members totals.old e) × (totals.new ≡ total_bytes_after members totals.old e) }
 {
     if e.member < members {
         let at = 8 * (e.member as usize);
@@ -114,7 +115,7 @@ pub fn takings_after(takings: u64, o: Outcome, cents: u64) -> u64
 // The result at place `at` of a run.
 pub fn result_at(s: &[u8], at: usize) -> Outcome
     requires { at + 9 ≤ length s.now }
-    ensures { result ≡ result_of (drop at (was s)) }
+    ensures { result ≡ result_of (drop at s.now) }
 {
     Outcome {
         code: numbers::read_u8(s, at),
@@ -125,7 +126,7 @@ pub fn result_at(s: &[u8], at: usize) -> Outcome
 // The result of op number i + 1.
 pub fn result_in(results: &[u8], i: usize) -> Outcome
     requires { result_place (i + 1) ≤ length results.now }
-    ensures { result ≡ result_in (was results) i }
+    ensures { result ≡ result_in results.now i }
 {
     result_at(results, entries::result_place(i))
 }
@@ -133,7 +134,7 @@ pub fn result_in(results: &[u8], i: usize) -> Outcome
 // A result's 9 bytes over the front of the area.
 pub fn write_result(area: &mut [u8], o: Outcome)
     requires { 9 ≤ length area.old }
-    ensures { last area ≡ over (encode_result o) (was area) }
+    ensures { area.new ≡ over (encode_result o) area.old }
 {
     numbers::write_u8(area, o.code);
     numbers::write_u64(&mut area[1..], o.total);

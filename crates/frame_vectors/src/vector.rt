@@ -1,6 +1,5 @@
 // Frames of every kind, as replica 1 gets them, and frames with a part changed.
 ghost use Rattle.std.specs.Prelude.{◌≡◌, ◌≤◌, [], ◌∷◌, length};
-ghost use Rattle.numbers.specs.Lending.{was, last};
 ghost use Rattle.numbers.specs.Numbers.{big, Wrote};
 ghost use Rattle.entries.specs.Entries.{encode_entry};
 ghost use Rattle.comparing.specs.Areas.{stored_at};
@@ -12,7 +11,7 @@ use frames::{Message, RecoveryState};
 use numbers::{Op, View};
 
 // A frame, and room behind it.
-#[derive(Drop)]
+#[derive(Clone, Copy)]
 pub struct Vector {
     pub bytes: [u8; 192],
     pub len: usize,
@@ -31,7 +30,7 @@ fn entry(client: u64, request: u64) -> Entry
 }
 
 fn put_entry(s: &mut [u8], at: usize, e: Entry)
-    ensures { last s ≡ stored_at at (encode_entry e) (was s) }
+    ensures { s.new ≡ stored_at at (encode_entry e) s.old }
 {
     let mut run = [0; 32];
     entries::write_entry(&mut run, e);
@@ -119,7 +118,7 @@ fn logged_message(kind: u8, k: u32) -> Message
 // The frame to replica 1; nothing where 192 bytes do not hold it.
 fn written(area: &mut [u8], m: Message, log: &[u8]) -> usize
     requires { (192 ≤ length area.old) × (192 ≤ length log.now) }
-    ensures { Wrote (tried_frame (was log) m) (was area) (last area) result }
+    ensures { Wrote (tried_frame log.now m) area.old area.new result }
 {
     if 192 < writers::frame_len(m) {
         return 0;
@@ -160,7 +159,7 @@ pub fn reply() -> Vector
 }
 
 fn put_byte(s: &mut [u8], at: usize, b: u8)
-    ensures { last s ≡ stored_at at (b ∷ []) (was s) }
+    ensures { s.new ≡ stored_at at (b ∷ []) s.old }
 {
     let run = [b];
     memory::store(s, at, &run);
@@ -176,7 +175,7 @@ pub fn with_byte(v: Vector, at: usize, b: u8) -> Vector
 }
 
 fn put_long(s: &mut [u8], at: usize, x: u32)
-    ensures { last s ≡ stored_at at (big 4 x) (was s) }
+    ensures { s.new ≡ stored_at at (big 4 x) s.old }
 {
     let mut run = [0; 4];
     numbers::write_u32(&mut run, x);

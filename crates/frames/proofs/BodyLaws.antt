@@ -19,7 +19,7 @@ use Rattle.entries.specs.Entries.{entries_ok}
 use Rattle.frames.specs.Kinds.{fields_end, room_of, fields_ok, count_of, well_formed}
 use Rattle.frames.proofs.KindLaws.{Each, each-kind, least-room, well-formed, formed}
 use Rattle.offsets.specs.Rules.{end, byte, takes, free, between}
-use Rattle.frames.specs.FrameRules.{carries_log, entries_from, count_for, fits, some_fits_lem, entries_rule, log_rule, part_rule, state_rule, bound_from, bound_rule, body_rule, kind_rule, frame_rule}
+use Rattle.frames.specs.FrameRules.{carries_log, entries_from, count_for, fits, some_fits, entries_rule, log_rule, part_rule, state_rule, bound_from, bound_rule, body_rule, kind_rule, frame_rule}
 use Rattle.offsets.proofs.OffsetLaws.{Rules}
 use Rattle.offsets.proofs.PlaceLaws.{end-at, at-end, byte_at, at_byte, free-at, at-free, between-at, at-between, just-at, at-just}
 use Rattle.frames.proofs.EntryPlaces.{entries_at, at-entries}
@@ -244,8 +244,8 @@ top-three s b h = let g : num 3 0 s < 16777216 = num-lt 3 0 s b h in omega (arit
 pub whole-formed : (s : List ℕ) → Bytes s → takes frame_rule s ≡ true → well_formed s ≡ true
 unfolding frame_rule kind_rule Reads
 whole-formed s b h =
-    let p = between-at 3 0 16777215 (λ x. byte (λ b. some_fits_lem 11 (x * 256 + b)) (λ b. kind_rule (x * 256 + b))) 0 s (lit< tt) (omega arith) h in
-    let q = byte_at (λ b. some_fits_lem 11 (num 3 0 s * 256 + b)) (λ b. kind_rule (num 3 0 s * 256 + b)) 3 s p.rest in
+    let p = between-at 3 0 16777215 (λ x. byte (λ b. some_fits 11 (x * 256 + b)) (λ b. kind_rule (x * 256 + b))) 0 s (lit< tt) (omega arith) h in
+    let q = byte_at (λ b. some_fits 11 (num 3 0 s * 256 + b)) (λ b. kind_rule (num 3 0 s * 256 + b)) 3 s p.rest in
     let n = num 3 0 s * 256 + num 1 3 s in
     let v = just-at 1 1 (byte (fits n) (body_rule n)) 4 s (lit< tt) q.0 q.2 in
     let k = num 1 5 s in
@@ -280,8 +280,8 @@ formed-whole s b h =
     let o : entries_ok (count_for k n) (drop (entries_from k n) s) ≡ true = rw (← a.0, ← a.1) w.log in
     let t = each-kind (Keeps n s) (keeps n s b) k w.low w.high (record { room = a.0; count = a.1; fields = w.fields; exact = x; log = o }) in
     let f : fits n k ≡ true = and-true (within 1 11 k) (eqb (n + 4) (entries_from k n + 32 * count_for k n)) (both-within 1 11 k w.low w.high) (eq-eqb (n + 4) (entries_from k n + 32 * count_for k n) (z ∙ x)) in
-    at-between 3 0 16777215 (λ x. byte (λ b. some_fits_lem 11 (x * 256 + b)) (λ b. kind_rule (x * 256 + b))) 0 s b (omega (arith, long)) (omega arith) (top-three s b (omega (arith, long)))
-    (at_byte (λ b. some_fits_lem 11 (num 3 0 s * 256 + b)) (λ b. kind_rule (num 3 0 s * 256 + b)) 3 s (omega (arith, long)) (fits-some 11 n k w.low w.high f)
+    at-between 3 0 16777215 (λ x. byte (λ b. some_fits 11 (x * 256 + b)) (λ b. kind_rule (x * 256 + b))) 0 s b (omega (arith, long)) (omega arith) (top-three s b (omega (arith, long)))
+    (at_byte (λ b. some_fits 11 (num 3 0 s * 256 + b)) (λ b. kind_rule (num 3 0 s * 256 + b)) 3 s (omega (arith, long)) (fits-some 11 n k w.low w.high f)
     (at-just 1 1 (byte (fits n) (body_rule n)) 4 s b (omega (arith, long)) w.version
     (at_byte (fits n) (body_rule n) 5 s (omega (arith, long)) f t)))
 

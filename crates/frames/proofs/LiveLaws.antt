@@ -16,7 +16,7 @@ use Rattle.numbers.proofs.WordLaws.{and_both, split}
 use Rattle.numbers.proofs.NumberLaws.{within_both, eq-or-not}
 use Rattle.frames.proofs.KindLaws.{each-kind}
 use Rattle.offsets.specs.Rules.{Rule, end, byte, free, between}
-use Rattle.frames.specs.FrameRules.{carries_log, entries_from, count_for, fits, some_fits_lem, cents_rule, entry_rule, entries_rule, log_rule, part_rule, state_rule, bound_from, bound_rule, body_rule, kind_rule, frame_rule}
+use Rattle.frames.specs.FrameRules.{carries_log, entries_from, count_for, fits, some_fits, cents_rule, entry_rule, entries_rule, log_rule, part_rule, state_rule, bound_from, bound_rule, body_rule, kind_rule, frame_rule}
 use Rattle.offsets.proofs.RuleLaws.{Lives}
 use Rattle.offsets.proofs.FieldLaws.{lives-end, lives-free, lives-between, lives-just}
 
@@ -36,14 +36,14 @@ unfolding ◌or◌
 or-true true b h e = absurd (false≢true (sym e))
 or-true false b h e = h
 
-pub some_fits_lem : (m n : ℕ) → some_fits_lem m n ≡ true → (k : ℕ) × (k ≤ m) × (fits n k ≡ true)
-unfolding some_fits_lem
+pub some_fits_lem : (m n : ℕ) → some_fits m n ≡ true → (k : ℕ) × (k ≤ m) × (fits n k ≡ true)
+unfolding some_fits
 some_fits_lem zero n h = absurd (false≢true h)
 some_fits_lem (suc m) n h =
-    ⊎_elim (λ e. (suc m, omega arith, e)) (λ e. let x = some_fits_lem m n (or-true (fits n (suc m)) (some_fits_lem m n) h e) in (x.0, omega (arith, x.1), x.2)) (bool_cases (fits n (suc m)))
+    ⊎_elim (λ e. (suc m, omega arith, e)) (λ e. let x = some_fits_lem m n (or-true (fits n (suc m)) (some_fits m n) h e) in (x.0, omega (arith, x.1), x.2)) (bool_cases (fits n (suc m)))
 
-pub fits-some : (m n k : ℕ) → 1 ≤ k → k ≤ m → fits n k ≡ true → some_fits_lem m n ≡ true
-unfolding some_fits_lem ◌or◌
+pub fits-some : (m n k : ℕ) → 1 ≤ k → k ≤ m → fits n k ≡ true → some_fits m n ≡ true
+unfolding some_fits ◌or◌
 fits-some zero n k l h e = absurd (omega arith)
 fits-some (suc m) n k l h e =
     ⊎_elim (λ q. let f : fits n (suc m) ≡ true = rw q at e in rw f)
@@ -133,7 +133,7 @@ lives-body n k h =
     split Lives (eqb k 9) (log_rule c) (if eqb k 11 then state_rule n c else entries_rule c) (λ e. lives-log c g) (λ e.
     split Lives (eqb k 11) (state_rule n c) (entries_rule c) (λ e. lives-state n c g) (λ e. lives-entries c)))))
 
-lives-kind : (n : ℕ) → n < 4294967296 → some_fits_lem 11 n ≡ true → Lives (kind_rule n)
+lives-kind : (n : ℕ) → n < 4294967296 → some_fits 11 n ≡ true → Lives (kind_rule n)
 unfolding kind_rule Lives
 lives-kind n h e =
     let x = some_fits_lem 11 n e in
@@ -142,5 +142,5 @@ lives-kind n h e =
 pub lives-frame : Lives frame_rule
 unfolding frame_rule Lives
 lives-frame =
-    lives-between 3 0 16777215 (λ x. byte (λ b. some_fits_lem 11 (x * 256 + b)) (λ b. kind_rule (x * 256 + b))) (lit≤ tt) (lit< tt)
+    lives-between 3 0 16777215 (λ x. byte (λ b. some_fits 11 (x * 256 + b)) (λ b. kind_rule (x * 256 + b))) (lit≤ tt) (lit< tt)
     (λ x p q. ((15, lit< tt, fits-some 11 (x * 256 + 15) 9 (lit≤ tt) (lit≤ tt) (fits-start-view x)), λ b h e. lives-kind (x * 256 + b) (omega arith) e))

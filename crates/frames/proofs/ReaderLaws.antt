@@ -20,7 +20,7 @@ use Rattle.offsets.proofs.RuleLaws.{reach-front}
 use Rattle.offsets.proofs.PlaceLaws.{at-end}
 use Rattle.offsets.proofs.ReadLaws.{Field, free-field, join-field, number-field, no_field, number-le, past-number, short-number, byte-none, byte-wrong, byte-there}
 use Rattle.frames.specs.Kinds.{kind_of}
-use Rattle.frames.specs.FrameRules.{fits, some_fits_lem, cents_rule, entry_rule, body_rule, kind_rule, frame_rule, offset_of}
+use Rattle.frames.specs.FrameRules.{fits, some_fits, cents_rule, entry_rule, body_rule, kind_rule, frame_rule, offset_of}
 use Rattle.frames.proofs.EntryPlaces.{at_entry}
 use Rattle.frames.proofs.BodyLaws.{length-parts}
 
@@ -60,7 +60,7 @@ good-entry s b h o =
 module _ (s : List ℕ) where
   -- what follows the first three bytes, and those
   abbrev from_last : ℕ → Rule
-  from_last x = byte (λ b. some_fits_lem 11 (x * 256 + b)) (λ b. kind_rule (x * 256 + b))
+  from_last x = byte (λ b. some_fits 11 (x * 256 + b)) (λ b. kind_rule (x * 256 + b))
 
   module _ (p : ℕ) (e : p ≡ 0 + number_reach 3 0 0 16777215 (drop 0 s)) where
     pub length-short : p < 3 → offset_of s ≡ p
@@ -79,10 +79,10 @@ module _ (s : List ℕ) where
       pub length_none : length s < 4 → offset_of s ≡ 3
       length_none l = last-left h ∙ byte-none _ _ 3 s (omega arith)
 
-      pub length-wrong : 4 ≤ length s → some_fits_lem 11 (num 4 0 s) ≡ false → offset_of s ≡ 3
+      pub length-wrong : 4 ≤ length s → some_fits 11 (num 4 0 s) ≡ false → offset_of s ≡ 3
       length-wrong l f = last-left h ∙ byte-wrong _ _ 3 s (omega arith) (rw (length-parts s l) at f)
 
-      pub length-there : 4 ≤ length s → some_fits_lem 11 (num 4 0 s) ≡ true → offset_of s ≡ 4 + reach (kind_rule (num 4 0 s)) (drop 4 s)
+      pub length-there : 4 ≤ length s → some_fits 11 (num 4 0 s) ≡ true → offset_of s ≡ 4 + reach (kind_rule (num 4 0 s)) (drop 4 s)
       length-there l t = last-left h ∙ rw (length-parts s l) (byte-there _ _ 3 s (omega arith) (rw (length-parts s l) at t))
 
   -- the version, read to q

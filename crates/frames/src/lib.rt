@@ -5,7 +5,6 @@ ghost use Rattle.frames.specs.Messages.{carried_of, carried_bytes};
 ghost use Rattle.frames.specs.Refusals.{refusal_of};
 ghost use Rattle.frames.specs.Numbered.{Parses, Checks};
 ghost use Rattle.frames.specs.Looks.{looks_at};
-ghost use Rattle.numbers.specs.Lending.{was};
 
 use config::Setup;
 use entries::Entry;
@@ -18,7 +17,7 @@ mod table; // which kinds a status looks at
 mod offset; // which byte of a malformed frame is wrong
 
 // What a replica is doing.
-#[derive(Drop)]
+#[derive(Clone, Copy)]
 pub enum Status {
     Normal,
     StateTransfer,
@@ -27,14 +26,14 @@ pub enum Status {
 }
 
 // The primary's state in a RecoveryResponse: there are o entries, c of them committed.
-#[derive(Drop)]
+#[derive(Clone, Copy)]
 pub enum RecoveryState {
     Absent,
     Present { op: Op, commit: Op },
 }
 
 // The eleven kinds, numbers only: a carried log stays in the frame.
-#[derive(Drop)]
+#[derive(Clone, Copy)]
 pub enum Message {
     Request {
         entry: Entry,
@@ -95,7 +94,7 @@ pub enum Message {
 }
 
 // What a message carries that is judged on the frame alone.
-#[derive(Drop)]
+#[derive(Clone, Copy)]
 pub struct Carried {
     pub kind: u8,
     pub sender: u8,
@@ -106,14 +105,14 @@ pub struct Carried {
 }
 
 // Of a malformed frame the offset of its first wrong byte, or its length where only bytes are missing.
-#[derive(Drop)]
+#[derive(Clone, Copy)]
 pub enum Parsed {
     Frame { to: u8, message: Message },
     Malformed { offset: usize },
 }
 
 // The offset is that of a malformed frame, which is refusal 2; with every other number it is 0.
-#[derive(Drop)]
+#[derive(Clone, Copy)]
 pub enum Checked {
     Passed { message: Message },
     Refused { number: u8, offset: usize },
@@ -122,14 +121,14 @@ pub enum Checked {
 // The kind that a frame names, whether or not it is well formed.
 pub fn kind_of(frame: &[u8]) -> u8
     requires { 6 ≤ length frame.now }
-    ensures { result ≡ kind_of (was frame) }
+    ensures { result ≡ kind_of frame.now }
 {
     numbers::read_u8(frame, 5)
 }
 
 // The addressee and the message of a frame, or that it is malformed, which is refusal 2, and its first wrong byte.
 pub fn parse(frame: &[u8]) -> Parsed
-    ensures { Parses (was frame) result }
+    ensures { Parses frame.now result }
 {
     if !shape::well_formed(frame) {
         return Parsed::Malformed {
@@ -145,7 +144,7 @@ pub fn parse(frame: &[u8]) -> Parsed
 // Refusals 3, 4, 5, 6 of a well-formed frame, in this order; 0: none.
 fn refusal(u: Setup, to: u8, x: Carried, frame: &[u8]) -> u8
     requires { x.start + 32 * x.whole ≤ length frame.now }
-    ensures { result ≡ refusal_of u to x (was frame) }
+    ensures { result ≡ refusal_of u to x frame.now }
 {
     if to != u.id {
         return 3;
@@ -168,7 +167,7 @@ fn refusal(u: Setup, to: u8, x: Carried, frame: &[u8]) -> u8
 
 // The message of a frame that a replica of this setup may look at, or the refusal that the frame alone earns.
 pub fn check(u: Setup, frame: &[u8]) -> Checked
-    ensures { Checks u (was frame) result }
+    ensures { Checks u frame.now result }
 {
     match parse(frame) {
         Parsed::Malformed { offset } => Checked::Refused { number: 2, offset },
@@ -187,7 +186,7 @@ pub fn check(u: Setup, frame: &[u8]) -> Checked
 
 // The entries of a message's frame, as bytes; nothing where the frame ends before its fields do.
 pub fn carried_bytes(m: Message, frame: &[u8]) -> &[u8]
-    ensures { result.now ≡ carried_bytes m (was frame) }
+    ensures { result.now ≡ carried_bytes m frame.now }
 {
     let x = row::carried(m);
     let at = x.start;

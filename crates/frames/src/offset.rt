@@ -1,7 +1,6 @@
 // Which byte of a frame is wrong: readers along the rules of its places, each from a place on. A reader answers the place where it stopped.
 ghost use Rattle.std.specs.Prelude.{◌≡◌, ◌+◌, ◌*◌, ◌≤◌, ◌<◌, leb, length, drop};
 ghost use Rattle.numbers.specs.Words.{◌and◌};
-ghost use Rattle.numbers.specs.Lending.{was};
 ghost use Rattle.entries.specs.Entries.{entry_ok};
 ghost use Rattle.offsets.specs.Rules.{end, reach};
 ghost use Rattle.frames.specs.FrameRules.{carries_log, entries_from, count_for, fits, some_fits, cents_rule, entry_rule, entries_rule, log_rule, part_rule, state_rule, bound_from, bound_rule, body_rule, offset_of};
@@ -83,7 +82,7 @@ fn some_fits(n: u32) -> bool
 
 fn cents(s: &[u8], at: usize, operation: u8) -> usize
     requires { at ≤ length s.now }
-    ensures { result ≡ at + reach (cents_rule operation end) (drop at (was s)) }
+    ensures { result ≡ at + reach (cents_rule operation end) (drop at s.now) }
 {
     if operation == 3 {
         return offsets::number(s, at, 8, 0, 0);
@@ -94,7 +93,7 @@ fn cents(s: &[u8], at: usize, operation: u8) -> usize
 // An entry, byte by byte.
 fn entry_slowly(s: &[u8], at: usize) -> usize
     requires { at ≤ length s.now }
-    ensures { result ≡ at + reach (entry_rule end) (drop at (was s)) }
+    ensures { result ≡ at + reach (entry_rule end) (drop at s.now) }
 {
     let operation = offsets::free(s, at, 16);
     if operation - at < 16 {
@@ -118,7 +117,7 @@ fn entry_slowly(s: &[u8], at: usize) -> usize
 // Whether a whole entry that keeps the entry rules stands here: as fast as they are tested in a well-formed frame.
 fn is_good(s: &[u8], at: usize) -> bool
     requires { at ≤ length s.now }
-    ensures { result ≡ (leb 32 (length (drop at (was s))) and entry_ok (drop at (was s))) }
+    ensures { result ≡ (leb 32 (length (drop at s.now)) and entry_ok (drop at s.now)) }
 {
     if s.len() - at < 32 {
         return false;
@@ -128,7 +127,7 @@ fn is_good(s: &[u8], at: usize) -> bool
 
 fn entry(s: &[u8], at: usize) -> usize
     requires { at ≤ length s.now }
-    ensures { result ≡ at + reach (entry_rule end) (drop at (was s)) }
+    ensures { result ≡ at + reach (entry_rule end) (drop at s.now) }
 {
     if is_good(s, at) {
         return at + 32;
@@ -138,7 +137,7 @@ fn entry(s: &[u8], at: usize) -> usize
 
 fn entries(s: &[u8], at: usize, count: usize) -> usize
     requires { at ≤ length s.now }
-    ensures { result ≡ at + reach (entries_rule count) (drop at (was s)) }
+    ensures { result ≡ at + reach (entries_rule count) (drop at s.now) }
 {
     let mut p = at;
     let mut i = 0;
@@ -156,7 +155,7 @@ fn entries(s: &[u8], at: usize, count: usize) -> usize
 // o, the commit number, the entries.
 fn log(s: &[u8], at: usize, count: usize) -> usize
     requires { at ≤ length s.now }
-    ensures { result ≡ at + reach (log_rule count) (drop at (was s)) }
+    ensures { result ≡ at + reach (log_rule count) (drop at s.now) }
 {
     let commit = offsets::number(s, at, 4, count as u64, count as u64);
     if commit - at < 4 {
@@ -172,7 +171,7 @@ fn log(s: &[u8], at: usize, count: usize) -> usize
 // Of a NewState: start, end, the commit number, the entries.
 fn part(s: &[u8], at: usize, count: usize) -> usize
     requires { (at ≤ length s.now) × (count < 4294967296) }
-    ensures { result ≡ at + reach (part_rule count) (drop at (was s)) }
+    ensures { result ≡ at + reach (part_rule count) (drop at s.now) }
 {
     let stop = offsets::number(s, at, 4, 0, 4_294_967_295 - count as u64);
     if stop - at < 4 {
@@ -193,7 +192,7 @@ fn part(s: &[u8], at: usize, count: usize) -> usize
 // Of a RecoveryResponse whose length is n: the mark, and what it says that follows.
 fn from_mark(s: &[u8], at: usize, n: u32, count: usize) -> usize
     requires { at ≤ length s.now }
-    ensures { result ≡ at + reach (state_rule n count) (drop at (was s)) }
+    ensures { result ≡ at + reach (state_rule n count) (drop at s.now) }
 {
     if n == 17 {
         return offsets::number(s, at, 1, 0, 0);
@@ -222,7 +221,7 @@ fn bound_from(kind: u8) -> usize
 // From there on.
 fn bound(s: &[u8], at: usize, kind: u8, n: u32) -> usize
     requires { (at ≤ length s.now) × (kind ≤ 11) }
-    ensures { result ≡ at + reach (bound_rule n kind) (drop at (was s)) }
+    ensures { result ≡ at + reach (bound_rule n kind) (drop at s.now) }
 {
     let count = count_for(kind, n);
     match kind {
@@ -237,7 +236,7 @@ fn bound(s: &[u8], at: usize, kind: u8, n: u32) -> usize
 // From the addressee on.
 fn body(s: &[u8], kind: u8, n: u32) -> usize
     requires { (6 ≤ length s.now) × ((1 ≤ kind) × (kind ≤ 11)) }
-    ensures { result ≡ 6 + reach (body_rule n kind) (drop 6 (was s)) }
+    ensures { result ≡ 6 + reach (body_rule n kind) (drop 6 s.now) }
 {
     let at = bound_from(kind);
     let p = offsets::free(s, 6, at - 6);
@@ -249,7 +248,7 @@ fn body(s: &[u8], kind: u8, n: u32) -> usize
 
 // How many bytes of a frame keep the rules from the left: of a malformed one the offset of the first wrong byte, or its length where only bytes are missing.
 pub fn offset(frame: &[u8]) -> usize
-    ensures { result ≡ offset_of (was frame) }
+    ensures { result ≡ offset_of frame.now }
 {
     let p = offsets::number(frame, 0, 3, 0, 16_777_215);
     if p < 3 {

@@ -4,13 +4,12 @@ ghost use Rattle.numbers.specs.Numbers.{num, view_at, op_at};
 ghost use Rattle.entries.specs.Entries.{entry_of};
 ghost use Rattle.frames.specs.Kinds.{fields_end, room_of, count_of};
 ghost use Rattle.frames.specs.Messages.{response_state, message_of};
-ghost use Rattle.numbers.specs.Lending.{was};
 
 use crate::{Message, RecoveryState};
 
 fn request(frame: &[u8]) -> Message
     requires { fields_end 1 + 32 ≤ length frame.now }
-    ensures { result ≡ Message.Request (entry_of (drop (fields_end 1) (was frame))) }
+    ensures { result ≡ Message.Request (entry_of (drop (fields_end 1) frame.now)) }
 {
     Message::Request {
         entry: entries::entry_at(frame, 7),
@@ -19,7 +18,7 @@ fn request(frame: &[u8]) -> Message
 
 fn prepare(frame: &[u8]) -> Message
     requires { fields_end 2 + 32 ≤ length frame.now }
-    ensures { result ≡ Message.Prepare (view_at 7 (was frame)) (op_at 11 (was frame)) (op_at 15 (was frame)) (entry_of (drop (fields_end 2) (was frame))) }
+    ensures { result ≡ Message.Prepare (view_at 7 frame.now) (op_at 11 frame.now) (op_at 15 frame.now) (entry_of (drop (fields_end 2) frame.now)) }
 {
     Message::Prepare {
         view: numbers::read_view(frame, 7),
@@ -31,7 +30,7 @@ fn prepare(frame: &[u8]) -> Message
 
 fn prepare_ok(frame: &[u8]) -> Message
     requires { fields_end 3 ≤ length frame.now }
-    ensures { result ≡ Message.PrepareOk (view_at 7 (was frame)) (op_at 11 (was frame)) (num 1 15 (was frame)) }
+    ensures { result ≡ Message.PrepareOk (view_at 7 frame.now) (op_at 11 frame.now) (num 1 15 frame.now) }
 {
     Message::PrepareOk {
         view: numbers::read_view(frame, 7),
@@ -42,7 +41,7 @@ fn prepare_ok(frame: &[u8]) -> Message
 
 fn commit(frame: &[u8]) -> Message
     requires { fields_end 4 ≤ length frame.now }
-    ensures { result ≡ Message.Commit (view_at 7 (was frame)) (op_at 11 (was frame)) }
+    ensures { result ≡ Message.Commit (view_at 7 frame.now) (op_at 11 frame.now) }
 {
     Message::Commit {
         view: numbers::read_view(frame, 7),
@@ -52,7 +51,7 @@ fn commit(frame: &[u8]) -> Message
 
 fn get_state(frame: &[u8]) -> Message
     requires { fields_end 5 ≤ length frame.now }
-    ensures { result ≡ Message.GetState (num 1 7 (was frame)) (view_at 8 (was frame)) (op_at 12 (was frame)) }
+    ensures { result ≡ Message.GetState (num 1 7 frame.now) (view_at 8 frame.now) (op_at 12 frame.now) }
 {
     Message::GetState {
         from: numbers::read_u8(frame, 7),
@@ -63,7 +62,7 @@ fn get_state(frame: &[u8]) -> Message
 
 fn new_state(frame: &[u8]) -> Message
     requires { fields_end 6 ≤ length frame.now }
-    ensures { result ≡ Message.NewState (view_at 7 (was frame)) (op_at 11 (was frame)) (op_at 15 (was frame)) (op_at 19 (was frame)) }
+    ensures { result ≡ Message.NewState (view_at 7 frame.now) (op_at 11 frame.now) (op_at 15 frame.now) (op_at 19 frame.now) }
 {
     Message::NewState {
         view: numbers::read_view(frame, 7),
@@ -75,7 +74,7 @@ fn new_state(frame: &[u8]) -> Message
 
 fn start_view_change(frame: &[u8]) -> Message
     requires { fields_end 7 ≤ length frame.now }
-    ensures { result ≡ Message.StartViewChange (view_at 7 (was frame)) (num 1 11 (was frame)) }
+    ensures { result ≡ Message.StartViewChange (view_at 7 frame.now) (num 1 11 frame.now) }
 {
     Message::StartViewChange {
         view: numbers::read_view(frame, 7),
@@ -85,7 +84,7 @@ fn start_view_change(frame: &[u8]) -> Message
 
 fn do_view_change(frame: &[u8]) -> Message
     requires { fields_end 8 ≤ length frame.now }
-    ensures { result ≡ Message.DoViewChange (view_at 7 (was frame)) (num 1 11 (was frame)) (view_at 12 (was frame)) (op_at 16 (was frame)) (op_at 20 (was frame)) }
+    ensures { result ≡ Message.DoViewChange (view_at 7 frame.now) (num 1 11 frame.now) (view_at 12 frame.now) (op_at 16 frame.now) (op_at 20 frame.now) }
 {
     Message::DoViewChange {
         view: numbers::read_view(frame, 7),
@@ -98,7 +97,7 @@ fn do_view_change(frame: &[u8]) -> Message
 
 fn start_view(frame: &[u8]) -> Message
     requires { fields_end 9 ≤ length frame.now }
-    ensures { result ≡ Message.StartView (view_at 7 (was frame)) (op_at 11 (was frame)) (op_at 15 (was frame)) }
+    ensures { result ≡ Message.StartView (view_at 7 frame.now) (op_at 11 frame.now) (op_at 15 frame.now) }
 {
     Message::StartView {
         view: numbers::read_view(frame, 7),
@@ -109,7 +108,7 @@ fn start_view(frame: &[u8]) -> Message
 
 fn recovery(frame: &[u8]) -> Message
     requires { fields_end 10 ≤ length frame.now }
-    ensures { result ≡ Message.Recovery (num 1 7 (was frame)) (num 8 8 (was frame)) (view_at 16 (was frame)) }
+    ensures { result ≡ Message.Recovery (num 1 7 frame.now) (num 8 8 frame.now) (view_at 16 frame.now) }
 {
     Message::Recovery {
         from: numbers::read_u8(frame, 7),
@@ -120,7 +119,7 @@ fn recovery(frame: &[u8]) -> Message
 
 fn state(frame: &[u8]) -> RecoveryState
     requires { room_of 11 frame.now ≤ length frame.now }
-    ensures { result ≡ response_state (was frame) }
+    ensures { result ≡ response_state frame.now }
 {
     if numbers::read_u8(frame, 20) == 1 {
         return RecoveryState::Present {
@@ -133,7 +132,7 @@ fn state(frame: &[u8]) -> RecoveryState
 
 fn recovery_response(frame: &[u8]) -> Message
     requires { room_of 11 frame.now ≤ length frame.now }
-    ensures { result ≡ Message.RecoveryResponse (view_at 7 (was frame)) (num 8 11 (was frame)) (num 1 19 (was frame)) (response_state (was frame)) }
+    ensures { result ≡ Message.RecoveryResponse (view_at 7 frame.now) (num 8 11 frame.now) (num 1 19 frame.now) (response_state frame.now) }
 {
     Message::RecoveryResponse {
         view: numbers::read_view(frame, 7),
@@ -146,7 +145,7 @@ fn recovery_response(frame: &[u8]) -> Message
 // The message of a well-formed frame of this kind.
 pub fn said(frame: &[u8], kind: u8) -> Message
     requires { (1 ≤ kind) × ((kind ≤ 11) × (room_of kind frame.now + 32 * count_of kind frame.now ≤ length frame.now)) }
-    ensures { result ≡ message_of kind (was frame) }
+    ensures { result ≡ message_of kind frame.now }
 {
     match kind {
         1 => request(frame),

@@ -3,7 +3,6 @@ ghost use Rattle.std.specs.Prelude.{◌≡◌, true, ◌+◌, ◌-◌, ◌≤◌
 ghost use Rattle.numbers.specs.Words.{if◌then◌else◌};
 ghost use Rattle.numbers.specs.Numbers.{num};
 ghost use Rattle.frames.specs.Kinds.{fields_end, response_mark, state_end, room_of, fields_ok, count_of, head_ok, body_ok, well_formed};
-ghost use Rattle.numbers.specs.Lending.{was};
 
 // By kind, where the fields end and the entries begin; of kind 11 without a log.
 const FIELDS_END: [usize; 12] = [0, 7, 19, 16, 15, 16, 23, 12, 24, 19, 20, 21];
@@ -21,7 +20,7 @@ pub fn fields_end(kind: u8) -> usize
 
 fn room(frame: &[u8], kind: u8) -> usize
     requires { (kind ≤ 11) × (fields_end kind ≤ length frame.now) }
-    ensures { result ≡ room_of kind (was frame) }
+    ensures { result ≡ room_of kind frame.now }
 {
     if kind == 11 {
         if numbers::read_u8(frame, 20) == 1 {
@@ -34,7 +33,7 @@ fn room(frame: &[u8], kind: u8) -> usize
 
 fn fields_ok(frame: &[u8], kind: u8) -> bool
     requires { fields_end kind ≤ length frame.now }
-    ensures { result ≡ fields_ok kind (was frame) }
+    ensures { result ≡ fields_ok kind frame.now }
 {
     match kind {
         6 => numbers::read_u32(frame, 11) <= numbers::read_u32(frame, 15),
@@ -45,14 +44,14 @@ fn fields_ok(frame: &[u8], kind: u8) -> bool
 
 fn count_new_state(frame: &[u8]) -> u32
     requires { (fields_end 6 ≤ length frame.now) × (num 4 11 frame.now ≤ num 4 15 frame.now) }
-    ensures { result ≡ num 4 15 (was frame) - num 4 11 (was frame) }
+    ensures { result ≡ num 4 15 frame.now - num 4 11 frame.now }
 {
     numbers::read_u32(frame, 15) - numbers::read_u32(frame, 11)
 }
 
 fn count_response(frame: &[u8]) -> u32
     requires { (fields_end 11 ≤ length frame.now) × (response_mark frame.now ≡ 1 → state_end ≤ length frame.now) }
-    ensures { result ≡ (if eqb (response_mark (was frame)) 1 then num 4 21 (was frame) else 0) }
+    ensures { result ≡ (if eqb (response_mark frame.now) 1 then num 4 21 frame.now else 0) }
 {
     if numbers::read_u8(frame, 20) == 1 {
         return numbers::read_u32(frame, 21);
@@ -62,7 +61,7 @@ fn count_response(frame: &[u8]) -> u32
 
 fn count(frame: &[u8], kind: u8) -> u32
     requires { (room_of kind frame.now ≤ length frame.now) × (fields_ok kind frame.now ≡ true) }
-    ensures { result ≡ count_of kind (was frame) }
+    ensures { result ≡ count_of kind frame.now }
 {
     match kind {
         1 => 1,
@@ -76,7 +75,7 @@ fn count(frame: &[u8], kind: u8) -> u32
 }
 
 fn head_ok(frame: &[u8]) -> bool
-    ensures { result ≡ head_ok (was frame) }
+    ensures { result ≡ head_ok frame.now }
 {
     let n = frame.len();
     if n < 7 {
@@ -89,7 +88,7 @@ fn head_ok(frame: &[u8]) -> bool
 }
 
 fn body_ok(frame: &[u8], kind: u8) -> bool
-    ensures { result ≡ body_ok kind (was frame) }
+    ensures { result ≡ body_ok kind frame.now }
 {
     let n = frame.len();
     if !numbers::within(1, 11, kind as u64) {
@@ -114,7 +113,7 @@ fn body_ok(frame: &[u8], kind: u8) -> bool
 
 // Refusal 2 is given exactly where this is false.
 pub fn well_formed(frame: &[u8]) -> bool
-    ensures { result ≡ well_formed (was frame) }
+    ensures { result ≡ well_formed frame.now }
 {
     if !head_ok(frame) {
         return false;

@@ -4,9 +4,8 @@ ghost use Rattle.config.specs.Setup.{setup_ok};
 ghost use Rattle.steps.specs.Steps.{spoke};
 ghost use Rattle.normal.specs.Tick.{Leading};
 ghost use Rattle.steps.specs.Recorded.{Gathering, Does};
-ghost use Rattle.book.specs.Memory.{memory_held};
+ghost use Rattle.book.specs.Memory.{memory};
 ghost use Rattle.handlers.specs.Handlers.{follow_tick, normal_tick, ask_tick, idle_step};
-ghost use Rattle.numbers.specs.Lending.{was, last};
 
 use clock::{Duty, Ticked};
 use state::{Replica, Returned};
@@ -14,7 +13,7 @@ use state::{Replica, Returned};
 // A backup's: it waits, and then asks for the next view. `t` is what its clock's tick gave.
 fn tick_follow(s: Replica, t: Ticked, out: &mut [u8]) -> Returned
     requires { setup_ok s.setup ≡ true }
-    ensures { spoke result (last out) ≡ follow_tick s t (was out) }
+    ensures { spoke result out.new ≡ follow_tick s t out.old }
 {
     let c = t.clock;
     if t.up {
@@ -26,7 +25,7 @@ fn tick_follow(s: Replica, t: Ticked, out: &mut [u8]) -> Returned
 // In Normal.
 fn tick_normal(s: Replica, log: &[u8], out: &mut [u8]) -> Returned
     requires { Leading s (length log.now) }
-    ensures { spoke result (last out) ≡ normal_tick s (was log) (was out) }
+    ensures { spoke result out.new ≡ normal_tick s log.now out.old }
 {
     if state::is_primary(s) {
         return normal::tick::tick_primary(s, log, out);
@@ -38,7 +37,7 @@ fn tick_normal(s: Replica, log: &[u8], out: &mut [u8]) -> Returned
 // In StateTransfer: GetState on each tick, before a view change too.
 fn tick_asking(s: Replica, t: Ticked, out: &mut [u8]) -> Returned
     requires { setup_ok s.setup ≡ true }
-    ensures { spoke result (last out) ≡ ask_tick s t (was out) }
+    ensures { spoke result out.new ≡ ask_tick s t out.old }
 {
     let clock = t.clock;
     if t.up {
@@ -58,8 +57,8 @@ pub fn on_idle(
     out: &mut [u8],
     reps: &mut [u8],
 ) -> Returned
-    requires { Gathering s (memory_held log results totals acks stored out reps) }
-    ensures { Does (idle_step s) result log results totals acks stored out reps }
+    requires { Gathering s (memory log.old results.old totals.old acks.old stored.old out.old reps.old) }
+    ensures { Does (idle_step s) result (memory log.old results.old totals.old acks.old stored.old out.old reps.old) (memory log.new results.new totals.new acks.new stored.new out.new reps.new) }
 {
     let status = s.status;
     if state::is_normal(status) {

@@ -2,10 +2,9 @@
 ghost use Rattle.std.specs.Prelude.{◌≡◌};
 ghost use Rattle.frames.specs.Refusals.{check_frame};
 ghost use Rattle.frames.specs.declared.Checked.TheVariants.{Passed};
-ghost use Rattle.book.specs.Memory.{memory_held};
+ghost use Rattle.book.specs.Memory.{memory};
 ghost use Rattle.steps.specs.Recorded.{Gathering, Does};
 ghost use Rattle.handlers.specs.Handlers.{handled, message_step};
-ghost use Rattle.numbers.specs.Lending.{was};
 
 use client_table::Latest;
 use frames::Message;
@@ -27,8 +26,8 @@ fn handle(
     out: &mut [u8],
     reps: &mut [u8],
 ) -> Returned
-    requires { Gathering s (memory_held log results totals acks stored out reps) × (check_frame s.setup frame.now ≡ Passed m) }
-    ensures { Does (handled m s latest (was frame)) result log results totals acks stored out reps }
+    requires { Gathering s (memory log.old results.old totals.old acks.old stored.old out.old reps.old) × (check_frame s.setup frame.now ≡ Passed m) }
+    ensures { Does (handled m s latest frame.now) result (memory log.old results.old totals.old acks.old stored.old out.old reps.old) (memory log.new results.new totals.new acks.new stored.new out.new reps.new) }
 {
     match m {
         Message::Request { entry } => {
@@ -134,8 +133,8 @@ pub fn on_message(
     out: &mut [u8],
     reps: &mut [u8],
 ) -> Returned
-    requires { Gathering s (memory_held log results totals acks stored out reps) × (check_frame s.setup frame.now ≡ Passed m) }
-    ensures { Does (message_step m s latest (was frame)) result log results totals acks stored out reps }
+    requires { Gathering s (memory log.old results.old totals.old acks.old stored.old out.old reps.old) × (check_frame s.setup frame.now ≡ Passed m) }
+    ensures { Does (message_step m s latest frame.now) result (memory log.old results.old totals.old acks.old stored.old out.old reps.old) (memory log.new results.new totals.new acks.new stored.new out.new reps.new) }
 {
     let status = s.status;
     if !frames::looks(status, m) {

@@ -2,7 +2,6 @@
 ghost use Rattle.std.specs.Prelude.{◌≡◌, ◌+◌, ◌*◌, ◌≤◌, ◌<◌, length, drop};
 ghost use Rattle.numbers.specs.Numbers.{big, over};
 ghost use Rattle.numbers.specs.Cells.{packed};
-ghost use Rattle.numbers.specs.Lending.{was, last};
 ghost use Rattle.entries.specs.Entries.{encode_entry};
 ghost use Rattle.model.specs.Book.{through};
 ghost use Rattle.journal.specs.Journal.{no_totals, filed};
@@ -15,7 +14,7 @@ use fees::Outcome;
 // What is wrong with the form of the frame at place `at`, which has to have this op number.
 pub fn form_fault(s: &[u8], at: usize, op: u32) -> u8
     requires { at ≤ 204800 }
-    ensures { result ≡ form_fault op (drop at (was s)) }
+    ensures { result ≡ form_fault op (drop at s.now) }
 {
     if s.len() < at + 50 {
         return 1;
@@ -50,7 +49,7 @@ fn result_fault(given: Outcome, stands: Outcome) -> u8
 
 // A file up to the first frame whose form is bad.
 fn examine_forms(file: &[u8]) -> Examined
-    ensures { ExaminesForms (was file) result }
+    ensures { ExaminesForms file.now result }
 {
     let mut i: usize = 0;
     while 50 * i < file.len() {
@@ -75,7 +74,7 @@ fn examine_forms(file: &[u8]) -> Examined
 // A file up to the first frame that is bad by its form, or by its result where that is of this group of members or one before. j is what was found before this group.
 fn examine_group(members: u32, low: u32, file: &[u8], j: Examined) -> Examined
     requires { (low < members) × ExaminedBelow members low file.now j }
-    ensures { ExaminedBelow members (low + 64) (was file) result }
+    ensures { ExaminedBelow members (low + 64) file.now result }
 {
     let mut totals: [u8; 512] = [0; 512];
     let mut i: usize = 0;
@@ -96,7 +95,7 @@ fn examine_group(members: u32, low: u32, file: &[u8], j: Examined) -> Examined
 // A file up to its first bad frame. It is looked over once for the forms, and once for the results of each group of members.
 pub fn examine(members: u32, file: &[u8]) -> Examined
     requires { (1 ≤ members) × (members ≤ 4096) }
-    ensures { Examines members (was file) result }
+    ensures { Examines members file.now result }
 {
     let mut j = examine_forms(file);
     let mut low: u32 = 0;
@@ -110,7 +109,7 @@ pub fn examine(members: u32, file: &[u8]) -> Examined
 // The entries of the first k frames into the area, 32 bytes each.
 pub fn copy_entries(file: &[u8], k: usize, area: &mut [u8])
     requires { (k ≤ 4096) × ((50 * k ≤ length file.now) × (32 * k ≤ length area.old)) }
-    ensures { last area ≡ over (packed encode_entry (filed k (was file))) (was area) }
+    ensures { area.new ≡ over (packed encode_entry (filed k file.now)) area.old }
 {
     let mut j: usize = 0;
     while j < k {
@@ -122,7 +121,7 @@ pub fn copy_entries(file: &[u8], k: usize, area: &mut [u8])
 // The totals after the first k frames over a run of M totals.
 pub fn put_totals(members: u32, file: &[u8], k: usize, totals: &mut [u8])
     requires { (k ≤ 4096) × ((50 * k ≤ length file.now) × (length totals.old ≡ 8 * members)) }
-    ensures { last totals ≡ packed (big 8) (through (no_totals members) (filed k (was file))) }
+    ensures { totals.new ≡ packed (big 8) (through (no_totals members) (filed k file.now)) }
 {
     numbers::fill(totals, totals.len(), 0);
     let mut j: usize = 0;

@@ -1,7 +1,6 @@
 // The fee rules on the totals of a group of 64 members, those from `low` on, which take 512 bytes: no call needs memory for all totals but the run that it is lent.
 // The last group has those too who are no members.
 ghost use Rattle.std.specs.Prelude.{◌≡◌, true, ◌≤◌, ◌<◌, length};
-ghost use Rattle.numbers.specs.Lending.{was, last};
 ghost use Rattle.fees.specs.Fees.{outcome_on, total_bytes_after};
 ghost use Rattle.journal.specs.Steps.{group_size, in_group, group_entry};
 
@@ -36,7 +35,7 @@ pub fn in_group(members: u32, low: u32, member: u32) -> bool
 // An entry of the group on its totals.
 pub fn apply(totals: &mut [u8], members: u32, low: u32, e: Entry) -> Outcome
     requires { (low < members) × ((in_group members low e.member ≡ true) × (512 ≤ length totals.old)) }
-    ensures { (result ≡ outcome_on (group_size members low) (was totals) (group_entry low e)) × (last totals ≡ total_bytes_after (group_size members low) (was totals) (group_entry low e)) }
+    ensures { (result ≡ outcome_on (group_size members low) totals.old (group_entry low e)) × (totals.new ≡ total_bytes_after (group_size members low) totals.old (group_entry low e)) }
 {
     let member = e.member - low;
     let as_there = Entry {

@@ -1,6 +1,5 @@
 // A journal of the applied entries, a frame of 50 bytes for each: written from a list of entries, appended to out of a replica's own log and results, and read back.
 ghost use Rattle.std.specs.Prelude.{◌≡◌};
-ghost use Rattle.numbers.specs.Lending.{was, last};
 ghost use Rattle.journal.specs.Calls.{write_call, append_call, totals_there, read_call, not_framed, frame_in, takings_of};
 
 use entries::Entry;
@@ -11,21 +10,21 @@ mod writing; // frames into an area
 mod examining; // the first bad frame of a file
 
 // The refusal's number, 0 where the call is done, and how many bytes were written.
-#[derive(Drop)]
+#[derive(Clone, Copy)]
 pub struct Written {
     pub code: u8,
     pub bytes: usize,
 }
 
 // So many good frames, and what is wrong with what follows, by number: 1 cut short, 2 length, 3 version, 4 op number, 5 entry, 6 outcome, 7 total, 8 past op number 4,096. 0: nothing follows.
-#[derive(Drop)]
+#[derive(Clone, Copy)]
 pub struct Examined {
     pub frames: usize,
     pub fault: u8,
 }
 
 // The refusal's number, how many entries were read, and with 12 the offset of the first bad frame and what is wrong with it.
-#[derive(Drop)]
+#[derive(Clone, Copy)]
 pub struct ReadBack {
     pub code: u8,
     pub entries: usize,
@@ -34,7 +33,7 @@ pub struct ReadBack {
 }
 
 // A frame as it stands: what is wrong with its form, or its entry and its result.
-#[derive(Drop)]
+#[derive(Clone, Copy)]
 pub struct Framed {
     pub fault: u8,
     pub entry: Entry,
@@ -42,7 +41,7 @@ pub struct Framed {
 }
 
 // The refusal's number, and all totals added up.
-#[derive(Drop)]
+#[derive(Clone, Copy)]
 pub struct Added {
     pub code: u8,
     pub cents: u64,
@@ -56,7 +55,7 @@ fn not_written(code: u8) -> Written
 
 // The journal of a run of entries, 32 bytes each, into the area. Outcomes and totals are worked out by the fee rules from zero.
 pub fn write(members: u32, run: &[u8], area: &mut [u8]) -> Written
-    ensures { (record { answer = result; area = last area }) ≡ write_call members (was run) (was area) }
+    ensures { (record { answer = result; area = area.new }) ≡ write_call members run.now area.old }
 {
     if !numbers::within(1, 4096, members as u64) {
         return not_written(1);
@@ -80,7 +79,7 @@ pub fn write(members: u32, run: &[u8], area: &mut [u8]) -> Written
 
 // The frames of ops from + 1 to `to` into the area, out of a replica's log and results: nothing is worked out anew.
 pub fn append(from: u32, to: u32, log: &[u8], results: &[u8], area: &mut [u8]) -> Written
-    ensures { (record { answer = result; area = last area }) ≡ append_call from to (was log) (was results) (was area) }
+    ensures { (record { answer = result; area = area.new }) ≡ append_call from to log.now results.now area.old }
 {
     if !writing::ops_there(from, to, log, results) {
         return not_written(1);
@@ -109,7 +108,7 @@ fn not_read(code: u8, offset: usize, fault: u8) -> ReadBack
 
 // Whether a run has M totals.
 fn totals_there(members: u32, totals: &[u8]) -> bool
-    ensures { result ≡ totals_there members (was totals) }
+    ensures { result ≡ totals_there members totals.now }
 {
     if !numbers::within(1, 4096, members as u64) {
         return false;
@@ -119,7 +118,7 @@ fn totals_there(members: u32, totals: &[u8]) -> bool
 
 // A file's entries into the area, 32 bytes each, and the members' totals after them. The whole file is examined before any byte is written: what is lent keeps no trace of a bad one.
 pub fn read(members: u32, file: &[u8], area: &mut [u8], totals: &mut [u8]) -> ReadBack
-    ensures { (record { answer = result; area = last area; totals = last totals }) ≡ read_call members (was file) (was area) (was totals) }
+    ensures { (record { answer = result; area = area.new; totals = totals.new }) ≡ read_call members file.now area.old totals.old }
 {
     if !totals_there(members, totals) {
         return not_read(1, 0, 0);
@@ -159,7 +158,7 @@ fn not_framed(fault: u8) -> Framed
 
 // Frame number i + 1 of a file as it stands, whatever the fee rules say of it.
 pub fn frame(file: &[u8], i: usize) -> Framed
-    ensures { result ≡ frame_in i (was file) }
+    ensures { result ≡ frame_in i file.now }
 {
     if 4096 <= i {
         return not_framed(8);
@@ -177,7 +176,7 @@ pub fn frame(file: &[u8], i: usize) -> Framed
 
 // The takings: all totals added up.
 pub fn takings(members: u32, totals: &[u8]) -> Added
-    ensures { result ≡ takings_of members (was totals) }
+    ensures { result ≡ takings_of members totals.now }
 {
     if !totals_there(members, totals) {
         return Added { code: 1, cents: 0 };

@@ -1,7 +1,6 @@
 // Frames into an area, each straight after the one before it.
 ghost use Rattle.std.specs.Prelude.{◌≡◌, ◌+◌, ◌*◌, ◌≤◌, ◌<◌, length, drop};
 ghost use Rattle.numbers.specs.Numbers.{over};
-ghost use Rattle.numbers.specs.Lending.{was, last};
 ghost use Rattle.entries.specs.Entries.{entries};
 ghost use Rattle.entries.specs.Places.{entry_place, result_place};
 ghost use Rattle.fees.specs.Results.{outcomes};
@@ -16,7 +15,7 @@ use fees::Outcome;
 // A frame's 50 bytes over the front of the area.
 fn write_frame(area: &mut [u8], op: u32, e: Entry, o: Outcome)
     requires { 50 ≤ length area.old }
-    ensures { last area ≡ over (journal_frame op e o) (was area) }
+    ensures { area.new ≡ over (journal_frame op e o) area.old }
 {
     numbers::write_u32(area, 46);
     numbers::write_u8(&mut area[4..], 1);
@@ -28,7 +27,7 @@ fn write_frame(area: &mut [u8], op: u32, e: Entry, o: Outcome)
 // The frames of those entries that are of a group's members, among the first n of a run.
 fn write_group(members: u32, low: u32, run: &[u8], n: usize, area: &mut [u8])
     requires { (low < members) × ((n ≤ 4096) × ((32 * n ≤ length run.now) × (50 * n ≤ length area.old))) }
-    ensures { WritesGroup members low n (was run) (was area) (last area) }
+    ensures { WritesGroup members low n run.now area.old area.new }
 {
     let mut totals: [u8; 512] = [0; 512];
     let mut k: usize = 0;
@@ -45,7 +44,7 @@ fn write_group(members: u32, low: u32, run: &[u8], n: usize, area: &mut [u8])
 // The frames of the first n entries of a run, with what the fee rules give for each from totals of 0. The run is looked over once for each group of members.
 pub fn write_frames(members: u32, run: &[u8], n: usize, area: &mut [u8])
     requires { (1 ≤ members) × ((members ≤ 4096) × ((n ≤ 4096) × ((32 * n ≤ length run.now) × (50 * n ≤ length area.old)))) }
-    ensures { last area ≡ over (journal members (entries n (was run))) (was area) }
+    ensures { area.new ≡ over (journal members (entries n run.now)) area.old }
 {
     let mut low: u32 = 0;
     while low < members {
@@ -56,7 +55,7 @@ pub fn write_frames(members: u32, run: &[u8], n: usize, area: &mut [u8])
 
 // Whether log and results have the ops from + 1 to `to`.
 pub fn ops_there(from: u32, to: u32, log: &[u8], results: &[u8]) -> bool
-    ensures { result ≡ ops_there from to (was log) (was results) }
+    ensures { result ≡ ops_there from to log.now results.now }
 {
     if to < from {
         return false;
@@ -73,7 +72,7 @@ pub fn ops_there(from: u32, to: u32, log: &[u8], results: &[u8]) -> bool
 // The frames of k ops after the first `from`, with the results that stand there.
 pub fn copy_frames(from: u32, k: usize, log: &[u8], results: &[u8], area: &mut [u8])
     requires { (from + k ≤ 4096) × ((entry_place (from + k) ≤ length log.now) × ((result_place (from + k) ≤ length results.now) × (50 * k ≤ length area.old))) }
-    ensures { last area ≡ over (frames_after from (entries k (drop (entry_place from) (was log))) (outcomes k (drop (result_place from) (was results)))) (was area) }
+    ensures { area.new ≡ over (frames_after from (entries k (drop (entry_place from) log.now)) (outcomes k (drop (result_place from) results.now))) area.old }
 {
     let first = from as usize;
     let mut j: usize = 0;

@@ -1,9 +1,8 @@
 // on_commit
 ghost use Rattle.std.specs.Prelude.{◌≡◌};
 ghost use Rattle.steps.specs.Steps.{Sound, left};
-ghost use Rattle.book.specs.Memory.{runs_before, runs_after, runs_held};
+ghost use Rattle.book.specs.Memory.{runs};
 ghost use Rattle.normal.specs.Commit.{taken_commit, commit_step};
-ghost use Rattle.numbers.specs.Lending.{was, last};
 
 use numbers::{Op, View};
 use state::{Replica, Returned};
@@ -17,8 +16,8 @@ fn take_commit(
     totals: &mut [u8],
     out: &mut [u8],
 ) -> Returned
-    requires { Sound s (runs_held log results totals) }
-    ensures { left result (runs_after log results totals) (last out) ≡ taken_commit s c (runs_before log results totals) (was out) }
+    requires { Sound s (runs log.now results.old totals.old) }
+    ensures { left result (runs log.now results.new totals.new) out.new ≡ taken_commit s c (runs log.now results.old totals.old) out.old }
 {
     if s.op.0 < c.0 {
         return steps::state_transfer(s, out);
@@ -37,8 +36,8 @@ pub fn on_commit(
     totals: &mut [u8],
     out: &mut [u8],
 ) -> Returned
-    requires { Sound s (runs_held log results totals) }
-    ensures { left result (runs_after log results totals) (last out) ≡ commit_step s v c (runs_before log results totals) (was out) }
+    requires { Sound s (runs log.now results.old totals.old) }
+    ensures { left result (runs log.now results.new totals.new) out.new ≡ commit_step s v c (runs log.now results.old totals.old) out.old }
 {
     let a = steps::accept_from_primary(s, v);
     if steps::takes(a) {

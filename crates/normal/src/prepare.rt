@@ -1,10 +1,9 @@
 // on_prepare
 ghost use Rattle.std.specs.Prelude.{◌≡◌, ◌≤◌, ◌<◌};
 ghost use Rattle.steps.specs.Steps.{Sound, left};
-ghost use Rattle.book.specs.Memory.{runs_before, runs_after, runs_held};
+ghost use Rattle.book.specs.Memory.{runs};
 ghost use Rattle.normal.specs.Prepare.{lower_of, append_verdict, appended_by, taken_prepare, prepare_step};
 ghost use Rattle.normal.specs.PrepareNumber.{WeighsPrepare};
-ghost use Rattle.numbers.specs.Lending.{was, last};
 
 use client_table::Latest;
 use entries::Entry;
@@ -13,7 +12,7 @@ use state::{Replica, Returned};
 
 // What a backup does with the Prepare of op o: asks for what it misses; only commits and acknowledges, as it has the op; refuses it by 4 or 6; or
 // appends it.
-#[derive(Drop)]
+#[derive(Clone, Copy)]
 pub enum PrepareVerdict {
     Transfer,
     Again,
@@ -22,7 +21,7 @@ pub enum PrepareVerdict {
 }
 
 // What the Prepare says beside the view: op and commit number, the entry; and what the client table has of its client.
-#[derive(Drop)]
+#[derive(Clone, Copy)]
 pub struct Prepared {
     pub op: Op,
     pub commit: Op,
@@ -77,8 +76,8 @@ fn append(
     totals: &mut [u8],
     out: &mut [u8],
 ) -> Returned
-    requires { Sound s (runs_held log results totals) × (s.op.0 < s.setup.room) }
-    ensures { left result (runs_after log results totals) (last out) ≡ appended_by s p (runs_before log results totals) (was out) }
+    requires { Sound s (runs log.old results.old totals.old) × (s.op.0 < s.setup.room) }
+    ensures { left result (runs log.new results.new totals.new) out.new ≡ appended_by s p (runs log.old results.old totals.old) out.old }
 {
     if out.len() < 16 {
         return state::refused(9, s);
@@ -100,8 +99,8 @@ fn take_prepare(
     totals: &mut [u8],
     out: &mut [u8],
 ) -> Returned
-    requires { Sound s (runs_held log results totals) }
-    ensures { left result (runs_after log results totals) (last out) ≡ taken_prepare s p (runs_before log results totals) (was out) }
+    requires { Sound s (runs log.old results.old totals.old) }
+    ensures { left result (runs log.new results.new totals.new) out.new ≡ taken_prepare s p (runs log.old results.old totals.old) out.old }
 {
     let c = p.commit;
     let op = s.op;
@@ -126,8 +125,8 @@ pub fn on_prepare(
     totals: &mut [u8],
     out: &mut [u8],
 ) -> Returned
-    requires { Sound s (runs_held log results totals) }
-    ensures { left result (runs_after log results totals) (last out) ≡ prepare_step s v p (runs_before log results totals) (was out) }
+    requires { Sound s (runs log.old results.old totals.old) }
+    ensures { left result (runs log.new results.new totals.new) out.new ≡ prepare_step s v p (runs log.old results.old totals.old) out.old }
 {
     let a = steps::accept_from_primary(s, v);
     if steps::takes(a) {

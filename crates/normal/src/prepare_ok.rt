@@ -1,17 +1,16 @@
 // on_prepare_ok
 ghost use Rattle.std.specs.Prelude.{◌≡◌, ◌-◌, ◌*◌, ◌≤◌, ◌<◌, length};
-ghost use Rattle.book.specs.Memory.{runs_held, money_before, money_after};
+ghost use Rattle.book.specs.Memory.{runs, money};
 ghost use Rattle.steps.specs.Steps.{Sound};
 ghost use Rattle.normal.specs.PrepareOk.{listens, counted, committed_by, prepare_ok_step};
 ghost use Rattle.normal.specs.CountNumber.{WeighsAck};
-ghost use Rattle.numbers.specs.Lending.{was, last};
 
 use numbers::{Op, View};
 use state::{Replica, Returned};
 
 // What an acknowledgement calls for: nothing; one more is noted; it makes a quorum for an op past the log, or replies that don't fit, both
 // refused; or all up to its op is committed.
-#[derive(Drop)]
+#[derive(Clone, Copy)]
 pub enum Count {
     Nothing,
     Note,
@@ -70,8 +69,8 @@ fn commit_with_replies(
     acks: &mut [u8],
     reps: &mut [u8],
 ) -> Returned
-    requires { Sound s (runs_held log results totals) × ((s.commit.0 < op.0) × ((op.0 ≤ s.op.0) × ((length acks.old ≡ s.setup.room) × (36 * (op.0 - s.commit.0) ≤ length reps.old)))) }
-    ensures { counted result (money_after results totals) (last acks) (last reps) ≡ committed_by s op (was log) (money_before results totals) (was acks) (was reps) }
+    requires { Sound s (runs log.now results.old totals.old) × ((s.commit.0 < op.0) × ((op.0 ≤ s.op.0) × ((length acks.old ≡ s.setup.room) × (36 * (op.0 - s.commit.0) ≤ length reps.old)))) }
+    ensures { counted result (money results.new totals.new) acks.new reps.new ≡ committed_by s op log.now (money results.old totals.old) acks.old reps.old }
 {
     let from = s.commit.0 as usize;
     let count = (op.0 - s.commit.0) as usize;
@@ -94,8 +93,8 @@ pub fn on_prepare_ok(
     acks: &mut [u8],
     reps: &mut [u8],
 ) -> Returned
-    requires { Sound s (runs_held log results totals) × ((length acks.old ≡ s.setup.room) × ((from < s.setup.n) × (op.0 ≤ s.setup.room))) }
-    ensures { counted result (money_after results totals) (last acks) (last reps) ≡ prepare_ok_step s v op from (was log) (money_before results totals) (was acks) (was reps) }
+    requires { Sound s (runs log.now results.old totals.old) × ((length acks.old ≡ s.setup.room) × ((from < s.setup.n) × (op.0 ≤ s.setup.room))) }
+    ensures { counted result (money results.new totals.new) acks.new reps.new ≡ prepare_ok_step s v op from log.now (money results.old totals.old) acks.old reps.old }
 {
     if !hears(s, v, op) {
         return state::done(s, 0, 0, false);

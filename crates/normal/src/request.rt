@@ -3,7 +3,6 @@ ghost use Rattle.std.specs.Prelude.{◌≡◌, ◌+◌, ◌*◌, ◌≤◌, ◌<
 ghost use Rattle.state.specs.Lengths.{log_length};
 ghost use Rattle.normal.specs.Request.{Ready, sends_of, again_verdict, known_verdict, new_verdict, client_verdict, served, took, answered, resent, accepted, request_step};
 ghost use Rattle.normal.specs.RequestNumber.{WeighsRequest};
-ghost use Rattle.numbers.specs.Lending.{was, last};
 
 use client_table::Latest;
 use entries::Entry;
@@ -13,7 +12,7 @@ use numbers::Op;
 use state::{Replica, Returned};
 
 // What a Request calls for: nothing; its reply again; refusal 4, 9 or 10; or it is appended.
-#[derive(Drop)]
+#[derive(Clone, Copy)]
 pub enum RequestVerdict {
     Nothing,
     Resend { reply: Outcome },
@@ -94,7 +93,7 @@ fn weigh(s: Replica, e: Entry, latest: Latest, out: usize, reps: usize) -> Reque
 // The entry is appended, acknowledged by ourselves, and sent to all others.
 fn accept(s: Replica, e: Entry, log: &mut [u8], acks: &mut [u8], out: &mut [u8]) -> Returned
     requires { Ready s (length log.old) (length acks.old) × ((s.op.0 < s.setup.room) × (sends_of s ≤ length out.old)) }
-    ensures { took result (last log) (last acks) (last out) ≡ accepted s e (was log) (was acks) (was out) }
+    ensures { took result log.new acks.new out.new ≡ accepted s e log.old acks.old out.old }
 {
     let i = s.op.0 as usize;
     let op = Op(s.op.0 + 1);
@@ -115,7 +114,7 @@ fn accept(s: Replica, e: Entry, log: &mut [u8], acks: &mut [u8], out: &mut [u8])
 // The reply again, with the current view.
 fn resend(s: Replica, e: Entry, o: Outcome, reps: &mut [u8]) -> Returned
     requires { 36 ≤ length reps.old }
-    ensures { answered result (last reps) ≡ resent s e o (was reps) }
+    ensures { answered result reps.new ≡ resent s e o reps.old }
 {
     let v = s.view;
     let w = writers::write_reply(reps, v, e.client, e.request, o.code, o.total);
@@ -133,7 +132,7 @@ pub fn on_request(
     reps: &mut [u8],
 ) -> Returned
     requires { Ready s (length log.old) (length acks.old) }
-    ensures { served result (last log) (last acks) (last out) (last reps) ≡ request_step s e latest (was log) (was acks) (was out) (was reps) }
+    ensures { served result log.new acks.new out.new reps.new ≡ request_step s e latest log.old acks.old out.old reps.old }
 {
     match weigh(s, e, latest, out.len(), reps.len()) {
         RequestVerdict::Nothing => state::done(s, 0, 0, false),

@@ -3,7 +3,6 @@ ghost use Rattle.std.specs.Prelude.{◌≡◌, ◌+◌, ◌-◌, ◌*◌, ◌≤
 ghost use Rattle.numbers.specs.Numbers.{Wrote};
 ghost use Rattle.steps.specs.Steps.{spoke};
 ghost use Rattle.normal.specs.Tick.{Leading, heartbeat_length, prepares_length, prepares_to, prepares_of, primary_tick, backup_tick};
-ghost use Rattle.numbers.specs.Lending.{was, last};
 
 use clock::{Clock, Duty};
 use frames::Message;
@@ -13,7 +12,7 @@ use state::{Replica, Returned};
 // The Prepare of the op after the first i, to all others.
 fn send_prepare(s: Replica, i: u32, log: &[u8], out: &mut [u8]) -> usize
     requires { Leading s (length log.now) × ((i < s.op.0) × (prepares_length s 1 ≤ length out.old)) }
-    ensures { Wrote (prepares_to s i (was log)) (was out) (last out) result }
+    ensures { Wrote (prepares_to s i log.now) out.old out.new result }
 {
     let view = s.view;
     let commit = s.commit;
@@ -29,7 +28,7 @@ fn send_prepare(s: Replica, i: u32, log: &[u8], out: &mut [u8]) -> usize
 // The Prepares of all ops that aren't committed, in order.
 fn send_prepares(s: Replica, log: &[u8], out: &mut [u8]) -> usize
     requires { Leading s (length log.now) × (prepares_length s (s.op.0 - s.commit.0) ≤ length out.old) }
-    ensures { Wrote (prepares_of s (was log) (s.op.0 - s.commit.0)) (was out) (last out) result }
+    ensures { Wrote (prepares_of s log.now (s.op.0 - s.commit.0)) out.old out.new result }
 {
     let mut at = 0;
     let mut i = s.commit.0;
@@ -53,7 +52,7 @@ fn tick_len(s: Replica) -> usize
 // The heartbeat, then a Prepare for every op that isn't committed.
 pub fn tick_primary(s: Replica, log: &[u8], out: &mut [u8]) -> Returned
     requires { Leading s (length log.now) }
-    ensures { spoke result (last out) ≡ primary_tick s (was log) (was out) }
+    ensures { spoke result out.new ≡ primary_tick s log.now out.old }
 {
     if out.len() < tick_len(s) {
         return state::refused(9, s);

@@ -1,15 +1,15 @@
 // Big-endian numbers in byte runs; bytes copied and filled; view and op numbers.
+#![tactic(auto)]
 ghost use Rattle.std.specs.Prelude.{◌≡◌, ◌+◌, ◌≤◌, ◌<◌, ◌^◌, length, take, replicate};
 ghost use Rattle.numbers.specs.Numbers.{num, big, within, over, view_at, op_at};
 ghost use Rattle.numbers.specs.Turned.{low4, turned4, turned8, little4, little8};
-ghost use Rattle.numbers.specs.Lending.{was, last};
 
 // A view number. It is never compared with an op number: the two count unlike things.
-#[derive(Drop)]
+#[derive(Clone, Copy)]
 pub struct View(pub u32);
 
 // An op or commit number.
-#[derive(Drop)]
+#[derive(Clone, Copy)]
 pub struct Op(pub u32);
 
 // Whether low ≤ x ≤ high.
@@ -25,7 +25,7 @@ pub fn within(low: u64, high: u64, x: u64) -> bool
 // The k-byte number at place `at`.
 pub fn read_be(s: &[u8], at: usize, k: usize) -> u64
     requires { (at + k ≤ length s.now) × (k ≤ 8) }
-    ensures { (result ≡ num k at (was s)) × (result < 256 ^ k) }
+    ensures { (result ≡ num k at s.now) × (result < 256 ^ k) }
 {
     let mut x: u64 = 0;
     let mut i = 0;
@@ -46,7 +46,7 @@ fn wide(b: u8) -> u64
 // Four bytes at place `at`, the lowest first: a compiler makes one load of it.
 fn low4(s: &[u8], at: usize) -> u64
     requires { at + 4 ≤ length s.now }
-    ensures { (result ≡ low4 at (was s)) × (turned4 result ≡ num 4 at (was s)) × (result < 4294967296) }
+    ensures { (result ≡ low4 at s.now) × (turned4 result ≡ num 4 at s.now) × (result < 4294967296) }
 {
     wide(s[at]) + 256 * wide(s[at + 1]) + 65536 * wide(s[at + 2]) + 16777216 * wide(s[at + 3])
 }
@@ -54,7 +54,7 @@ fn low4(s: &[u8], at: usize) -> u64
 // Eight bytes, likewise.
 fn low8(s: &[u8], at: usize) -> u64
     requires { at + 8 ≤ length s.now }
-    ensures { turned8 result ≡ num 8 at (was s) }
+    ensures { turned8 result ≡ num 8 at s.now }
 {
     low4(s, at) + 4294967296 * low4(s, at + 4)
 }
@@ -76,7 +76,7 @@ fn turned8(x: u64) -> u64
 // The four lowest bytes of x over the front, the lowest first: one store.
 fn put4(area: &mut [u8], x: u64)
     requires { 4 ≤ length area.old }
-    ensures { last area ≡ over (little4 x) (was area) }
+    ensures { area.new ≡ over (little4 x) area.old }
 {
     area[0] = (x % 256) as u8;
     area[1] = (x / 256 % 256) as u8;
@@ -87,7 +87,7 @@ fn put4(area: &mut [u8], x: u64)
 // All eight.
 fn put8(area: &mut [u8], x: u64)
     requires { 8 ≤ length area.old }
-    ensures { last area ≡ over (little8 x) (was area) }
+    ensures { area.new ≡ over (little8 x) area.old }
 {
     put4(area, x);
     put4(&mut area[4..], x / 4294967296);
@@ -95,42 +95,42 @@ fn put8(area: &mut [u8], x: u64)
 
 pub fn read_u8(s: &[u8], at: usize) -> u8
     requires { at + 1 ≤ length s.now }
-    ensures { result ≡ num 1 at (was s) }
+    ensures { result ≡ num 1 at s.now }
 {
     read_be(s, at, 1) as u8
 }
 
 pub fn read_u16(s: &[u8], at: usize) -> u16
     requires { at + 2 ≤ length s.now }
-    ensures { result ≡ num 2 at (was s) }
+    ensures { result ≡ num 2 at s.now }
 {
     read_be(s, at, 2) as u16
 }
 
 pub fn read_u32(s: &[u8], at: usize) -> u32
     requires { at + 4 ≤ length s.now }
-    ensures { result ≡ num 4 at (was s) }
+    ensures { result ≡ num 4 at s.now }
 {
     turned4(low4(s, at)) as u32
 }
 
 pub fn read_u64(s: &[u8], at: usize) -> u64
     requires { at + 8 ≤ length s.now }
-    ensures { result ≡ num 8 at (was s) }
+    ensures { result ≡ num 8 at s.now }
 {
     turned8(low8(s, at))
 }
 
 pub fn read_view(s: &[u8], at: usize) -> View
     requires { at + 4 ≤ length s.now }
-    ensures { result ≡ view_at at (was s) }
+    ensures { result ≡ view_at at s.now }
 {
     View(read_u32(s, at))
 }
 
 pub fn read_op(s: &[u8], at: usize) -> Op
     requires { at + 4 ≤ length s.now }
-    ensures { result ≡ op_at at (was s) }
+    ensures { result ≡ op_at at s.now }
 {
     Op(read_u32(s, at))
 }
@@ -138,7 +138,7 @@ pub fn read_op(s: &[u8], at: usize) -> Op
 // The k lowest bytes of x over the front of `area`.
 pub fn write_be(area: &mut [u8], k: usize, x: u64)
     requires { k ≤ length area.old }
-    ensures { last area ≡ over (big k x) (was area) }
+    ensures { area.new ≡ over (big k x) area.old }
 {
     let mut y = x;
     let mut i = k;
@@ -151,28 +151,28 @@ pub fn write_be(area: &mut [u8], k: usize, x: u64)
 
 pub fn write_u8(area: &mut [u8], x: u8)
     requires { 1 ≤ length area.old }
-    ensures { last area ≡ over (big 1 x) (was area) }
+    ensures { area.new ≡ over (big 1 x) area.old }
 {
     write_be(area, 1, x as u64)
 }
 
 pub fn write_u16(area: &mut [u8], x: u16)
     requires { 2 ≤ length area.old }
-    ensures { last area ≡ over (big 2 x) (was area) }
+    ensures { area.new ≡ over (big 2 x) area.old }
 {
     write_be(area, 2, x as u64)
 }
 
 pub fn write_u32(area: &mut [u8], x: u32)
     requires { 4 ≤ length area.old }
-    ensures { last area ≡ over (big 4 x) (was area) }
+    ensures { area.new ≡ over (big 4 x) area.old }
 {
     put4(area, turned4(x as u64))
 }
 
 pub fn write_u64(area: &mut [u8], x: u64)
     requires { 8 ≤ length area.old }
-    ensures { last area ≡ over (big 8 x) (was area) }
+    ensures { area.new ≡ over (big 8 x) area.old }
 {
     put8(area, turned8(x))
 }
@@ -180,7 +180,7 @@ pub fn write_u64(area: &mut [u8], x: u64)
 // The first n bytes of `src` over the front of `area`.
 pub fn copy(area: &mut [u8], src: &[u8], n: usize)
     requires { (n ≤ length area.old) × (n ≤ length src.now) }
-    ensures { last area ≡ over (take n (was src)) (was area) }
+    ensures { area.new ≡ over (take n src.now) area.old }
 {
     let mut i = 0;
     while i < n {
@@ -192,7 +192,7 @@ pub fn copy(area: &mut [u8], src: &[u8], n: usize)
 // n times the byte b over the front of `area`.
 pub fn fill(area: &mut [u8], n: usize, b: u8)
     requires { n ≤ length area.old }
-    ensures { last area ≡ over (replicate n b) (was area) }
+    ensures { area.new ≡ over (replicate n b) area.old }
 {
     let mut i = 0;
     while i < n {

@@ -1,13 +1,14 @@
 // Readers that go from left to right: each begins at a place of a run, and answers the place where it stopped. That is behind its field where all of it is there and as it
 // may be; else it is the place of the first byte that may not come, or the run's end.
+#![tactic(auto)]
+
 ghost use Rattle.std.specs.Prelude.{◌≡◌, ◌+◌, ◌^◌, ◌≤◌, ◌<◌, length, drop};
-ghost use Rattle.numbers.specs.Lending.{was};
 ghost use Rattle.offsets.specs.Rules.{end, reach, free, number_reach};
 
 // n bytes, whatever they are.
 pub fn free(s: &[u8], at: usize, n: usize) -> usize
     requires { at ≤ length s.now }
-    ensures { result ≡ at + reach (free n end) (drop at (was s)) }
+    ensures { result ≡ at + reach (free n end) (drop at s.now) }
 {
     if s.len() - at < n {
         return s.len();
@@ -37,7 +38,7 @@ fn power(k: usize) -> u64
 // A number of n bytes, from low to high.
 pub fn number(s: &[u8], at: usize, n: usize, low: u64, high: u64) -> usize
     requires { (at ≤ length s.now) × (n ≤ 8) }
-    ensures { result ≡ at + number_reach n 0 low high (drop at (was s)) }
+    ensures { result ≡ at + number_reach n 0 low high (drop at s.now) }
 {
     let mut x: u64 = 0;
     let mut i = 0;

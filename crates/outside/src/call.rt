@@ -2,7 +2,6 @@
 ghost use Rattle.std.specs.Prelude.{◌≡◌};
 ghost use Rattle.outside.specs.Calls.{entry_from, no_entry, carried_by, told_of, change_by};
 ghost use Rattle.outside.specs.CheckedNumbers.{ChecksCall};
-ghost use Rattle.numbers.specs.Lending.{was};
 
 use crate::{Lengths, sound};
 use client_table::{Change, Latest};
@@ -10,7 +9,7 @@ use frames::{Checked, Message};
 use state::{Replica, Returned};
 
 // What a call answers to a frame: with 2 the offset of the frame's first wrong byte, else 0.
-#[derive(Drop)]
+#[derive(Clone, Copy)]
 pub struct WithOffset {
     pub returned: Returned,
     pub offset: usize,
@@ -18,7 +17,7 @@ pub struct WithOffset {
 
 // Refusal 1, then 2 to 6 on the frame alone.
 pub fn checked(s: Replica, l: Lengths, frame: &[u8]) -> Checked
-    ensures { ChecksCall s l (was frame) result }
+    ensures { ChecksCall s l frame.now result }
 {
     if !sound::is_sound(s, l) {
         return Checked::Refused {
@@ -31,7 +30,7 @@ pub fn checked(s: Replica, l: Lengths, frame: &[u8]) -> Checked
 }
 
 // Whether a message carries an entry, and whose.
-#[derive(Drop)]
+#[derive(Clone, Copy)]
 pub struct Carrying {
     pub carries: bool,
     pub client: u64,

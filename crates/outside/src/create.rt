@@ -5,7 +5,6 @@ ghost use Rattle.config.specs.Setup.{setup_ok};
 ghost use Rattle.state.specs.Lengths.{totals_length, acks_length};
 ghost use Rattle.outside.specs.Sound.{no_replica};
 ghost use Rattle.outside.specs.Creation.{started, create_step, recover_step};
-ghost use Rattle.numbers.specs.Lending.{was, last};
 
 use crate::{Lengths, sound};
 use clock::Clock;
@@ -37,7 +36,7 @@ pub fn no_replica() -> Replica
 // Totals and acks are zeroed.
 fn empty(u: Setup, totals: &mut [u8], acks: &mut [u8])
     requires { (setup_ok u ≡ true) × ((length totals.old ≡ totals_length u) × (length acks.old ≡ acks_length u)) }
-    ensures { (last totals ≡ over (replicate (totals_length u) 0) (was totals)) × (last acks ≡ over (replicate (acks_length u) 0) (was acks)) }
+    ensures { (totals.new ≡ over (replicate (totals_length u) 0) totals.old) × (acks.new ≡ over (replicate (acks_length u) 0) acks.old) }
 {
     numbers::fill(totals, 8 * (u.members as usize), 0);
     numbers::fill(acks, u.room as usize, 0);
@@ -46,7 +45,7 @@ fn empty(u: Setup, totals: &mut [u8], acks: &mut [u8])
 // new: in Normal, in view 0, with an empty log. Refusal 1.
 pub fn create(u: Setup, l: Lengths, totals: &mut [u8], acks: &mut [u8]) -> Returned
     requires { (l.totals ≡ length totals.old) × (l.acks ≡ length acks.old) }
-    ensures { started result (last totals) (last acks) [] ≡ create_step u l (was totals) (was acks) [] }
+    ensures { started result totals.new acks.new [] ≡ create_step u l totals.old acks.old [] }
 {
     if !sound::is_creatable(u, l) {
         return state::refused(1, no_replica());
@@ -66,7 +65,7 @@ pub fn recover(
     out: &mut [u8],
 ) -> Returned
     requires { (l.totals ≡ length totals.old) × (l.acks ≡ length acks.old) }
-    ensures { started result (last totals) (last acks) (last out) ≡ recover_step u v nonce l (was totals) (was acks) (was out) }
+    ensures { started result totals.new acks.new out.new ≡ recover_step u v nonce l totals.old acks.old out.old }
 {
     if !sound::is_creatable(u, l) {
         return state::refused(1, no_replica());

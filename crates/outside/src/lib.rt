@@ -5,7 +5,7 @@ pub mod create; // new, recover
 pub mod takings; // the sum over all members
 
 // The lengths of the lent state buffers, the table's in bytes.
-#[derive(Drop)]
+#[derive(Clone, Copy)]
 pub struct Lengths {
     pub log: usize,
     pub results: usize,

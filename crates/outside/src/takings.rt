@@ -6,7 +6,7 @@ use crate::sound;
 use state::Replica;
 
 // What the call answers: a refusal's number or 0, and the sum in cents, 0 where it is refused.
-#[derive(Drop)]
+#[derive(Clone, Copy)]
 pub struct Taken {
     pub code: u8,
     pub cents: u64,

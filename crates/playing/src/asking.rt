@@ -1,6 +1,5 @@
 // What a line asks for: a call, with what it hands over by value, or a comparison.
 ghost use Rattle.std.specs.Prelude.{◌≡◌};
-ghost use Rattle.numbers.specs.Lending.{was};
 ghost use Rattle.comparing.specs.Text.{lesser_of};
 ghost use Rattle.playing.specs.Asking.{too_many, fitting, creation_of, creation_in, recovery_in, going_in, within_run, of_run, asked_by};
 
@@ -80,7 +79,7 @@ fn creation(
 }
 
 fn create(c: ReplicaCall, line: &[u8]) -> Asked
-    ensures { result ≡ creation_in c (was line) }
+    ensures { result ≡ creation_in c line.now }
 {
     let n = words::decimal(line, 1);
     let id = words::decimal(line, 2);
@@ -93,7 +92,7 @@ fn create(c: ReplicaCall, line: &[u8]) -> Asked
 
 // R n id t l m view nonce mcap
 fn recover(line: &[u8]) -> Asked
-    ensures { result ≡ recovery_in (was line) }
+    ensures { result ≡ recovery_in line.now }
 {
     let view = words::decimal(line, 6);
     let nonce = words::decimal(line, 7);
@@ -109,7 +108,7 @@ fn recover(line: &[u8]) -> Asked
 
 // M mcap rcap frame, T mcap rcap
 fn go_on(call: ReplicaCall, line: &[u8]) -> Asked
-    ensures { result ≡ going_in call (was line) }
+    ensures { result ≡ going_in call line.now }
 {
     Asked::Go {
         call,
@@ -120,7 +119,7 @@ fn go_on(call: ReplicaCall, line: &[u8]) -> Asked
 
 // A line of a run that is played.
 fn within(c: u8, line: &[u8]) -> Asked
-    ensures { result ≡ within_run c (was line) }
+    ensures { result ≡ within_run c line.now }
 {
     if c == b'M' {
         return go_on(ReplicaCall::Message, line);
@@ -145,7 +144,7 @@ fn within(c: u8, line: &[u8]) -> Asked
 
 // A line of a run.
 fn of_run(r: RunState, c: u8, line: &[u8]) -> Asked
-    ensures { result ≡ of_run r c (was line) }
+    ensures { result ≡ of_run r c line.now }
 {
     if !r.live {
         return Asked::Nothing;
@@ -161,7 +160,7 @@ fn of_run(r: RunState, c: u8, line: &[u8]) -> Asked
 
 // A line, `c` its first byte, 0: none. A new run begins when the one before is closed.
 pub fn by(r: RunState, c: u8, line: &[u8]) -> Asked
-    ensures { result ≡ asked_by r c (was line) }
+    ensures { result ≡ asked_by r c line.now }
 {
     if c == b'N' {
         return create(ReplicaCall::Create, line);

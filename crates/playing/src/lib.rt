@@ -8,7 +8,7 @@ pub mod counts; // what is known of the trace so far
 pub mod say; // what differs, in words
 
 // What is called, with what is handed over by value.
-#[derive(Drop)]
+#[derive(Clone, Copy)]
 pub enum ReplicaCall {
     Create,
     Recover { view: View, nonce: u64 },
@@ -19,7 +19,7 @@ pub enum ReplicaCall {
 // What a line asks for: nothing; another line is missing before it; it is no line of a trace; a run of sizes that there is no room for; a client's run; a creation; a call
 // of the run's replica; or a comparison with its answer, its state, and behind the state with nonce and reports or the takings. Areas for messages and
 // replies have so many bytes.
-#[derive(Drop)]
+#[derive(Clone, Copy)]
 pub enum Asked {
     Nothing,
     Missing,
@@ -45,7 +45,7 @@ pub enum Asked {
 // `live`: a run is played; else its lines are passed over. `titled`: its title stands there, and waits for the verdict. `due`: what the next line of the run has to begin
 // with, 0: it is free. `created`: the last call was a creation. `before`: the digest of the memory before the last call. `messages` and `replies`: how long the areas of
 // the last call were. `here`: calls behind the creation whose answers were as recorded.
-#[derive(Drop)]
+#[derive(Clone, Copy)]
 pub struct RunState {
     pub live: bool,
     pub titled: bool,
@@ -58,7 +58,7 @@ pub struct RunState {
 }
 
 // Runs, calls whose answers were as recorded, lines of nonce and reports that were, lines of takings that were, runs that differ, and what is passed over.
-#[derive(Drop)]
+#[derive(Clone, Copy)]
 pub struct Tally {
     pub runs: u64,
     pub calls: u64,
@@ -70,7 +70,7 @@ pub struct Tally {
 }
 
 // `line`: the number of the line; `answer`: that of the last call.
-#[derive(Drop)]
+#[derive(Clone, Copy)]
 pub struct Play {
     pub line: u64,
     pub run: RunState,

@@ -4,7 +4,6 @@ ghost use Rattle.config.specs.Setup.{setup_ok};
 ghost use Rattle.steps.specs.Steps.{spoke};
 ghost use Rattle.view_change.specs.StartView.{LogHeld};
 ghost use Rattle.recovery.specs.Recovery.{recovering_tick, full_answer, bare_answer, recovery_step};
-ghost use Rattle.numbers.specs.Lending.{was, last};
 
 use frames::Message;
 use numbers::View;
@@ -15,7 +14,7 @@ pub mod response; // on_recovery_response
 // send_recovery, on each tick in Recovering; the clock is left alone.
 pub fn tick_recovering(s: Replica, out: &mut [u8]) -> Returned
     requires { setup_ok s.setup ≡ true }
-    ensures { spoke result (last out) ≡ recovering_tick s (was out) }
+    ensures { spoke result out.new ≡ recovering_tick s out.old }
 {
     if out.len() < 20 * (s.setup.n as usize - 1) {
         return state::refused(9, s);
@@ -33,7 +32,7 @@ pub fn tick_recovering(s: Replica, out: &mut [u8]) -> Returned
 // A primary's answer, with its log.
 fn answer_full(s: Replica, r: u8, x: u64, log: &[u8], out: &mut [u8]) -> Returned
     requires { LogHeld s (length log.now) }
-    ensures { spoke result (last out) ≡ full_answer s r x (was log) (was out) }
+    ensures { spoke result out.new ≡ full_answer s r x log.now out.old }
 {
     if out.len() < 29 + 32 * (s.op.0 as usize) {
         return state::refused(9, s);
@@ -47,7 +46,7 @@ fn answer_full(s: Replica, r: u8, x: u64, log: &[u8], out: &mut [u8]) -> Returne
 
 // A backup's, without.
 fn answer_bare(s: Replica, r: u8, x: u64, out: &mut [u8]) -> Returned
-    ensures { spoke result (last out) ≡ bare_answer s r x (was out) }
+    ensures { spoke result out.new ≡ bare_answer s r x out.old }
 {
     if out.len() < 21 {
         return state::refused(9, s);
@@ -60,7 +59,7 @@ fn answer_bare(s: Replica, r: u8, x: u64, out: &mut [u8]) -> Returned
 // on_recovery of replica r, with its nonce x and view v: one of a later view starts the view change, and isn't answered.
 pub fn on_recovery(s: Replica, r: u8, x: u64, v: View, log: &[u8], out: &mut [u8]) -> Returned
     requires { LogHeld s (length log.now) }
-    ensures { spoke result (last out) ≡ recovery_step s r x v (was log) (was out) }
+    ensures { spoke result out.new ≡ recovery_step s r x v log.now out.old }
 {
     if s.view.0 < v.0 {
         return view_change::start_view_change::start_view_change(s, s, v, out);

@@ -2,9 +2,8 @@
 ghost use Rattle.std.specs.Prelude.{◌≡◌, ◌≤◌, length};
 ghost use Rattle.reports.specs.Judge.{Lies};
 ghost use Rattle.steps.specs.Steps.{Sound};
-ghost use Rattle.book.specs.Memory.{runs_before, runs_after, runs_held};
+ghost use Rattle.book.specs.Memory.{runs};
 ghost use Rattle.recovery.specs.Recovery.{response_of, Collecting, ResponsePassed, collected, recovered_by, collected_by, response_step};
-ghost use Rattle.numbers.specs.Lending.{was, last};
 
 use frames::RecoveryState;
 use numbers::{Op, View};
@@ -45,8 +44,8 @@ fn come_back<'a>(
     totals: &mut [u8],
     stored: &'a [u8],
 ) -> Returned
-    requires { Sound s (runs_held log results totals) × (Lies b r s.setup.room stored.now fresh.now × ((s.commit.0 ≤ b.report.op.0) × (g.0 ≤ b.report.op.0))) }
-    ensures { collected result (runs_after log results totals) (was stored) ≡ recovered_by s b g r (was fresh) (runs_before log results totals) (was stored) }
+    requires { Sound s (runs log.old results.old totals.old) × (Lies b r s.setup.room stored.now fresh.now × ((s.commit.0 ≤ b.report.op.0) × (g.0 ≤ b.report.op.0))) }
+    ensures { collected result (runs log.new results.new totals.new) stored.now ≡ recovered_by s b g r fresh.now (runs log.old results.old totals.old) stored.now }
 {
     let v = b.report.view;
     let o = b.report.op;
@@ -68,8 +67,8 @@ fn collect(
     totals: &mut [u8],
     stored: &mut [u8],
 ) -> Returned
-    requires { Collecting s (runs_held log results totals) (length stored.old) × ResponsePassed s r d (length fresh.now) }
-    ensures { collected result (runs_after log results totals) (last stored) ≡ collected_by s r d (was fresh) (runs_before log results totals) (was stored) }
+    requires { Collecting s (runs log.old results.old totals.old) (length stored.old) × ResponsePassed s r d (length fresh.now) }
+    ensures { collected result (runs log.new results.new totals.new) stored.new ≡ collected_by s r d fresh.now (runs log.old results.old totals.old) stored.old }
 {
     let n = s.setup.n;
     let room = s.setup.room;
@@ -103,8 +102,8 @@ pub fn on_recovery_response(
     totals: &mut [u8],
     stored: &mut [u8],
 ) -> Returned
-    requires { Collecting s (runs_held log results totals) (length stored.old) × ResponsePassed s r (response_of v state) (length part.now) }
-    ensures { collected result (runs_after log results totals) (last stored) ≡ response_step s v x r state (was part) (runs_before log results totals) (was stored) }
+    requires { Collecting s (runs log.old results.old totals.old) (length stored.old) × ResponsePassed s r (response_of v state) (length part.now) }
+    ensures { collected result (runs log.new results.new totals.new) stored.new ≡ response_step s v x r state part.now (runs log.old results.old totals.old) stored.old }
 {
     if x != s.nonce {
         return state::done(s, 0, 0, false);

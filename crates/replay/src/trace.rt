@@ -7,7 +7,7 @@ use playing::{Asked, Play, ReplicaCall, asking, counts, say};
 use state::Returned;
 
 // Where the next line begins, and the comment that ended just before it, if one did.
-#[derive(Drop)]
+#[derive(Clone, Copy)]
 struct Place {
     pub at: usize,
     pub comment: bool,
@@ -16,7 +16,7 @@ struct Place {
 }
 
 // A line played, and where the next one begins.
-#[derive(Drop)]
+#[derive(Clone, Copy)]
 struct Turn {
     pub place: Place,
     pub play: Play,

@@ -8,7 +8,7 @@ use outside::call::WithOffset;
 use state::{Replica, Returned};
 
 // What a call answered, and the rows after it.
-#[derive(Drop)]
+#[derive(Clone, Copy)]
 pub struct Left {
     pub answer: Returned,
     pub table: [Row; 8],

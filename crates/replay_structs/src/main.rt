@@ -16,7 +16,7 @@ mod rows; // a table in bytes, and as rows
 mod trace; // a whole trace
 
 // What is called, the setup, and the state before the call; a creation doesn't look at it.
-#[derive(Drop)]
+#[derive(Clone, Copy)]
 struct Given {
     pub call: ReplicaCall,
     pub setup: Setup,

@@ -8,13 +8,12 @@ ghost use Rattle.client_table_bytes.specs.Layout.{rows_of};
 ghost use Rattle.client_table_bytes.specs.Steps.{found_in, latest_of, AppendsFor};
 ghost use Rattle.state.specs.Lengths.{table_length};
 ghost use Rattle.steps.specs.Recorded.{Gathering};
-ghost use Rattle.book.specs.Memory.{memory_held};
+ghost use Rattle.book.specs.Memory.{memory};
 ghost use Rattle.offsets.specs.Offsets.{Points};
 ghost use Rattle.outside.specs.Calls.{change_by};
 ghost use Rattle.replica.specs.Calls.{KnownFor, Following, tabled, followed_by, checked_call};
-ghost use Rattle.replica.specs.Lent.{called, Keeps, lent_before, lent_after};
+ghost use Rattle.replica.specs.Lent.{called, Keeps, lent};
 ghost use Rattle.replica.specs.Promise.{MessagePromise, IdlePromise, TakingsPromise};
-ghost use Rattle.numbers.specs.Lending.{was, last};
 
 use client_table::Latest;
 use client_table_bytes::{Found, MarkedRow};
@@ -25,7 +24,7 @@ use outside::takings::Taken;
 use state::{Replica, Returned};
 
 // What is known of the client whose entry a message carries: what was found of him, and that as the core is told it.
-#[derive(Drop)]
+#[derive(Clone, Copy)]
 pub struct Known {
     pub carries: bool,
     pub found: Found,
@@ -56,7 +55,7 @@ fn nothing() -> Known
 // Of a client, among the first n rows.
 fn known_of(client: u64, n: u32, table: &[u8]) -> Known
     requires { 25 * n ≤ length table.now }
-    ensures { (result.carries ≡ true) × ((result.found ≡ found_in (rows_of n (was table)) client) × (result.latest ≡ latest_of (found_in (rows_of n (was table)) client))) }
+    ensures { (result.carries ≡ true) × ((result.found ≡ found_in (rows_of n table.now) client) × (result.latest ≡ latest_of (found_in (rows_of n table.now) client))) }
 {
     let f = client_table_bytes::find(table, n as usize, client);
     Known {
@@ -68,7 +67,7 @@ fn known_of(client: u64, n: u32, table: &[u8]) -> Known
 
 fn known_for(m: Message, n: u32, table: &[u8]) -> Known
     requires { 25 * n ≤ length table.now }
-    ensures { KnownFor m n (was table) result }
+    ensures { KnownFor m n table.now result }
 {
     let c = outside::call::carried_by(m);
     if c.carries {
@@ -80,7 +79,7 @@ fn known_for(m: Message, n: u32, table: &[u8]) -> Known
 // The table follows what the core did, `s` being the state before it; a refused call leaves it.
 fn follow(s: Replica, a: Returned, log: &[u8], results: &[u8], table: &mut [u8]) -> Returned
     requires { Following s a (length log.now) (length results.now) (length table.old) }
-    ensures { tabled result (last table) ≡ followed_by s a (was log) (was results) (was table) }
+    ensures { tabled result table.new ≡ followed_by s a log.now results.now table.old }
 {
     if a.code != 0 {
         return a;
@@ -100,7 +99,7 @@ fn follow_found(
     table: &mut [u8],
 ) -> Returned
     requires { Following s a (length log.now) (length results.now) (length table.old) × (a.code ≡ 0 → AppendsFor s.setup.room (change_by s a) f table.old log.now) }
-    ensures { tabled result (last table) ≡ followed_by s a (was log) (was results) (was table) }
+    ensures { tabled result table.new ≡ followed_by s a log.now results.now table.old }
 {
     if a.code != 0 {
         return a;
@@ -124,8 +123,8 @@ fn take(
     out: &mut [u8],
     reps: &mut [u8],
 ) -> Returned
-    requires { Gathering s (memory_held log results totals acks stored out reps) × ((check_frame s.setup frame.now ≡ Passed m) × (length table.old ≡ table_length s.setup)) }
-    ensures { called result (lent_after log results totals acks stored table out reps) ≡ checked_call (Passed m) s (was frame) (lent_before log results totals acks stored table out reps) }
+    requires { Gathering s (memory log.old results.old totals.old acks.old stored.old out.old reps.old) × ((check_frame s.setup frame.now ≡ Passed m) × (length table.old ≡ table_length s.setup)) }
+    ensures { called result (lent log.new results.new totals.new acks.new stored.new table.new out.new reps.new) ≡ checked_call (Passed m) s frame.now (lent log.old results.old totals.old acks.old stored.old table.old out.old reps.old) }
 {
     let k = known_for(m, s.setup.room, table);
     let latest = k.latest;
@@ -151,7 +150,7 @@ pub fn on_message(
     out: &mut [u8],
     reps: &mut [u8],
 ) -> WithOffset
-    ensures { Keeps (MessagePromise s (was frame)) result.returned log results totals acks stored table out reps × Points well_formed (was frame) result.returned.code result.offset }
+    ensures { Keeps (MessagePromise s frame.now) result.returned (lent log.old results.old totals.old acks.old stored.old table.old out.old reps.old) (lent log.new results.new totals.new acks.new stored.new table.new out.new reps.new) × Points well_formed frame.now result.returned.code result.offset }
 {
     let l = Lengths {
         log: log.len(),
@@ -187,7 +186,7 @@ pub fn on_idle(
     out: &mut [u8],
     reps: &mut [u8],
 ) -> Returned
-    ensures { Keeps (IdlePromise s) result log results totals acks stored table out reps }
+    ensures { Keeps (IdlePromise s) result (lent log.old results.old totals.old acks.old stored.old table.old out.old reps.old) (lent log.new results.new totals.new acks.new stored.new table.new out.new reps.new) }
 {
     let l = Lengths {
         log: log.len(),

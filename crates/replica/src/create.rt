@@ -1,8 +1,7 @@
 // Creation: `new`, and `recover` for a replica that is back from a crash; the client table is zeroed where it wasn't refused.
 ghost use Rattle.std.specs.Prelude.{[]};
-ghost use Rattle.replica.specs.Lent.{Keeps};
+ghost use Rattle.replica.specs.Lent.{Keeps, lent};
 ghost use Rattle.replica.specs.Promise.{CreatePromise, RecoverPromise};
-ghost use Rattle.book.specs.Memory.{unlent};
 
 use config::Setup;
 use numbers::View;
@@ -19,7 +18,7 @@ pub fn create(
     stored: &[u8],
     table: &mut [u8],
 ) -> Returned
-    ensures { Keeps (CreatePromise u) result log results totals acks stored table unlent unlent }
+    ensures { Keeps (CreatePromise u) result (lent log.now results.now totals.old acks.old stored.now table.old [] []) (lent log.now results.now totals.new acks.new stored.now table.new [] []) }
 {
     let l = Lengths {
         log: log.len(),
@@ -50,7 +49,7 @@ pub fn recover(
     table: &mut [u8],
     out: &mut [u8],
 ) -> Returned
-    ensures { Keeps (RecoverPromise u v nonce) result log results totals acks stored table out unlent }
+    ensures { Keeps (RecoverPromise u v nonce) result (lent log.now results.now totals.old acks.old stored.now table.old out.old []) (lent log.now results.now totals.new acks.new stored.now table.new out.new []) }
 {
     let l = Lengths {
         log: log.len(),

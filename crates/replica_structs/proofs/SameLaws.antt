@@ -41,15 +41,15 @@ use Rattle.replica.specs.Meaning.{meaning_of, Owned}
 use Rattle.replica.proofs.KeptLaws.{given, rows, fit, row-tells}
 use Rattle.replica_structs.specs.Core.{lengths_in, client_in, checked_core, idle_core, started_in, create_core, recover_core}
 use Rattle.replica_structs.specs.Calls.{LentRows, following_rows, checked_rows, message_rows, idle_rows, cleared_rows, create_rows, recover_rows}
-use Rattle.replica_structs.specs.Promise.{table_bytes, in_bytes_lem, called_bytes, RowsOk, KeptRows}
+use Rattle.replica_structs.specs.Promise.{table_bytes, in_bytes, called_bytes, RowsOk, KeptRows}
 use Rattle.replica_structs.proofs.ByteLaws.{blank_ok, told-alike, bytes-long, blank-bytes}
 use Rattle.replica_structs.proofs.StepLaws.{Keeps, table-read, refused-keeps, step_same}
 
 -- ---- a frame, and a tick
 
-module _ (s : Replica) (x : LentRows) (applied : List Entry) (o : Owned (in_bytes_lem x)) (kept : KeptRows s x applied) where
+module _ (s : Replica) (x : LentRows) (applied : List Entry) (o : Owned (in_bytes x)) (kept : KeptRows s x applied) where
   abbrev y : Lent
-  y = in_bytes_lem x
+  y = in_bytes x
 
   abbrev c : Given
   c = given s y applied o kept.kept
@@ -85,7 +85,7 @@ module _ (s : Replica) (x : LentRows) (applied : List Entry) (o : Owned (in_byte
         (row-tells s y applied o kept.kept z))
         (message-bytes z s latest frame x.core in_bytes_lem b).0)
 
-    pub message-same : Keeps (message_rows s frame x) (message_call s frame (in_bytes_lem x))
+    pub message-same : Keeps (message_rows s frame x) (message_call s frame (in_bytes x))
     unfolding message_rows message_call
     message-same =
         subst (λ (c : Checked). Keeps (checked_rows c s frame x) (message_call s frame y)) (sym (past-1 s _ frame sound-is))
@@ -100,7 +100,7 @@ module _ (s : Replica) (x : LentRows) (applied : List Entry) (o : Owned (in_byte
   unfolding idle_call
   tick_is = if-false _ _ _ (ap not kept.kept.sound)
 
-  pub idle-same : Keeps (idle_rows s x) (idle_call s (in_bytes_lem x))
+  pub idle-same : Keeps (idle_rows s x) (idle_call s (in_bytes x))
   unfolding idle_rows
   idle-same =
       subst (λ (w : Recorded). Keeps (following_rows s x.table w) (idle_call s y)) (sym ticked)
@@ -115,14 +115,14 @@ module _ (u : Setup) (x : LentRows) where
   abbrev lengths : Lengths
   lengths = lengths_in x.core (length x.table)
 
-  lengths-same : lengths ≡ lengths_of (in_bytes_lem x)
+  lengths-same : lengths ≡ lengths_of (in_bytes x)
   lengths-same = λ i. lengths_with x.core (sym (bytes-long x.table) i)
 
   blank-same : Long u lengths → table_bytes (replicate (length x.table) unused_row) ≡ over (replicate (table_length u) 0) (table_bytes x.table)
   blank-same h = sym (blank-bytes x.table) ∙ ap (λ (n : ℕ). over (replicate n 0) (table_bytes x.table)) h.table
 
   begun-same : (d : Started) → (d.answer.code ≡ 0 → Long u lengths)
-      → called_bytes (cleared_rows x.table (started_in x.core d)) ≡ cleared u (in_bytes_lem x) d
+      → called_bytes (cleared_rows x.table (started_in x.core d)) ≡ cleared u (in_bytes x) d
   unfolding cleared_rows cleared
   begun-same d h =
       ap (λ (t : List ℕ). called d.answer (record { core = started_memory x.core d; table = t }))
@@ -133,12 +133,12 @@ module _ (u : Setup) (x : LentRows) where
   unfolding cleared_rows
   blank d e = rw (if-true _ (replicate (length x.table) unused_row) x.table (eq-eqb d.answer.code 0 e)) (blank_ok (length x.table))
 
-  pub create-same : called_bytes (create_rows u x) ≡ create_call u (in_bytes_lem x)
+  pub create-same : called_bytes (create_rows u x) ≡ create_call u (in_bytes x)
   unfolding create_rows create_core create_call
   create-same =
       begun-same _ (λ e. (create-long u lengths x.core.runs.money.totals x.core.acks x.core.out refl e).1)
       ∙ ap
-      (λ (l : Lengths). cleared u (in_bytes_lem x) (create_step u l x.core.runs.money.totals x.core.acks x.core.out))
+      (λ (l : Lengths). cleared u (in_bytes x) (create_step u l x.core.runs.money.totals x.core.acks x.core.out))
       lengths-same
 
   pub create-ok : (create_rows u x).answer.code ≡ 0 → RowsOk (create_rows u x).lent.table
@@ -146,13 +146,13 @@ module _ (u : Setup) (x : LentRows) where
   create-ok = blank (create_core u (length x.table) x.core)
 
   module _ (v : View) (nonce : ℕ) where
-    pub recover-same : called_bytes (recover_rows u v nonce x) ≡ recover_call u v nonce (in_bytes_lem x)
+    pub recover-same : called_bytes (recover_rows u v nonce x) ≡ recover_call u v nonce (in_bytes x)
     unfolding recover_rows recover_core recover_call
     recover-same =
         begun-same _
         (λ e. (recover-long u lengths x.core.runs.money.totals x.core.acks x.core.out v nonce refl e).1)
         ∙ ap
-        (λ (l : Lengths). cleared u (in_bytes_lem x) (recover_step u v nonce l x.core.runs.money.totals x.core.acks x.core.out))
+        (λ (l : Lengths). cleared u (in_bytes x) (recover_step u v nonce l x.core.runs.money.totals x.core.acks x.core.out))
         lengths-same
 
     pub recover-ok : (recover_rows u v nonce x).answer.code ≡ 0 → RowsOk (recover_rows u v nonce x).lent.table

@@ -12,11 +12,10 @@ use Rattle.client_table_structs.specs.Shape.{unused_row, struct_row, latest_amon
 use Rattle.client_table_structs.specs.declared.Row.{Row}
 use Rattle.state.specs.declared.Returned.{Returned}
 use Rattle.state.specs.declared.Replica.{Replica}
-use Rattle.book.specs.Memory.{Memory, memory, Run}
+use Rattle.book.specs.Memory.{Memory, memory}
 use Rattle.steps.specs.Recorded.{Recorded}
 use Rattle.outside.specs.Calls.{checked_of}
 use Rattle.replica_structs.specs.Core.{lengths_in, client_in, checked_core, idle_core, create_core, recover_core, change_after}
-use Rattle.numbers.specs.Lending.{Lending, was, last}
 
 -- everything that a call is lent
 pub record LentRows : Type 0 where
@@ -27,15 +26,6 @@ abbrev pub lent_rows : (log results totals acks stored : List ℕ) (table : List
 lent_rows log results totals acks stored table out reps =
     record { core = memory log results totals acks stored out reps; table = table }
 
--- of the runs as an `ensures` sees them: when the call begins, and as it leaves them
-abbrev pub lent_rows_before : (log results totals acks stored : Run) (table : Lending (List Row)) (out reps : Run) → LentRows
-lent_rows_before log results totals acks stored table out reps =
-    lent_rows (was log) (was results) (was totals) (was acks) (was stored) (was table) (was out) (was reps)
-
-abbrev pub lent_rows_after : (log results totals acks stored : Run) (table : Lending (List Row)) (out reps : Run) → LentRows
-lent_rows_after log results totals acks stored table out reps =
-    lent_rows (last log) (last results) (last totals) (last acks) (last stored) (last table) (last out) (last reps)
-
 -- what a call leaves
 pub record CalledRows : Type 0 where
   pub answer : Returned
@@ -44,11 +34,9 @@ pub record CalledRows : Type 0 where
 abbrev pub called_rows : Returned → LentRows → CalledRows
 called_rows a x = record { answer = a; lent = x }
 
--- a call that answers a, on these runs, keeps a promise
-abbrev pub KeepsRows : (promise : LentRows → CalledRows → Type 0) → Returned → (log results totals acks stored : Run) (table : Lending (List Row)) (out reps : Run) → Type 0
-KeepsRows promise a log results totals acks stored table out reps =
-    promise (lent_rows_before log results totals acks stored table out reps)
-    (called_rows a (lent_rows_after log results totals acks stored table out reps))
+-- a call that answers a, on this and leaving that, keeps a promise
+abbrev pub KeepsRows : (promise : LentRows → CalledRows → Type 0) → Returned → (before after : LentRows) → Type 0
+KeepsRows promise a before after = promise before (called_rows a after)
 
 -- the rows after a change, by the log and the results that the call left
 unfoldable pub rows_after : Change → List Row → Memory → List Row

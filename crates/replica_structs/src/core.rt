@@ -1,11 +1,10 @@
 // The outside calls but for the client table, of which they are told its length and a client's latest request.
 ghost use Rattle.core.specs.Prelude.{◌≡◌, []};
-ghost use Rattle.book.specs.Memory.{memory_held, unlent};
+ghost use Rattle.book.specs.Memory.{memory};
 ghost use Rattle.steps.specs.Recorded.{Does};
 ghost use Rattle.frames.specs.Numbered.{checked_offset};
 ghost use Rattle.outside.specs.Calls.{checked_of};
 ghost use Rattle.replica_structs.specs.Core.{lengths_by, client_in, Passes, checked_core, idle_core, create_core, recover_core, change_after, row_bytes};
-ghost use Rattle.numbers.specs.Lending.{was};
 
 use client_table::{Change, Latest};
 use config::Setup;
@@ -36,7 +35,7 @@ pub fn checked(
     rows: usize,
     frame: &[u8],
 ) -> Checked
-    ensures { result ≡ checked_of s (lengths_by log results totals acks stored rows) (was frame) }
+    ensures { result ≡ checked_of s (lengths_by log results totals acks stored rows) frame.now }
 {
     let l = Lengths {
         log,
@@ -73,8 +72,8 @@ pub fn on_message(
     out: &mut [u8],
     reps: &mut [u8],
 ) -> WithOffset
-    requires { Passes c s frame.now (memory_held log results totals acks stored out reps) }
-    ensures { Does (checked_core c s latest (was frame)) result.returned log results totals acks stored out reps × (result.offset ≡ checked_offset c) }
+    requires { Passes c s frame.now (memory log.old results.old totals.old acks.old stored.old out.old reps.old) }
+    ensures { Does (checked_core c s latest frame.now) result.returned (memory log.old results.old totals.old acks.old stored.old out.old reps.old) (memory log.new results.new totals.new acks.new stored.new out.new reps.new) × (result.offset ≡ checked_offset c) }
 {
     match c {
         Checked::Refused { number, offset } => WithOffset {
@@ -112,7 +111,7 @@ pub fn on_idle(
     out: &mut [u8],
     reps: &mut [u8],
 ) -> Returned
-    ensures { Does (idle_core s rows) result log results totals acks stored out reps }
+    ensures { Does (idle_core s rows) result (memory log.old results.old totals.old acks.old stored.old out.old reps.old) (memory log.new results.new totals.new acks.new stored.new out.new reps.new) }
 {
     let l = Lengths {
         log: log.len(),

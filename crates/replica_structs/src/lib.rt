@@ -3,11 +3,9 @@
 ghost use Rattle.core.specs.Prelude.{◌≡◌, []};
 ghost use Rattle.offsets.specs.Offsets.{Points};
 ghost use Rattle.frames.specs.Kinds.{well_formed};
-ghost use Rattle.replica_structs.specs.Calls.{KeepsRows};
+ghost use Rattle.replica_structs.specs.Calls.{KeepsRows, lent_rows};
 ghost use Rattle.replica.specs.Promise.{TakingsPromise};
 ghost use Rattle.replica_structs.specs.Promise.{MessageRowsPromise, IdleRowsPromise, CreateRowsPromise, RecoverRowsPromise};
-ghost use Rattle.numbers.specs.Lending.{was};
-ghost use Rattle.book.specs.Memory.{unlent};
 
 use client_table_structs::Row;
 use config::Setup;
@@ -28,7 +26,7 @@ pub fn create(
     stored: &[u8],
     table: &mut [Row],
 ) -> Returned
-    ensures { KeepsRows (CreateRowsPromise u) result log results totals acks stored table unlent unlent }
+    ensures { KeepsRows (CreateRowsPromise u) result (lent_rows log.now results.now totals.old acks.old stored.now table.old [] []) (lent_rows log.now results.now totals.new acks.new stored.now table.new [] []) }
 {
     let a = core::create(u, table.len(), log, results, totals, acks, stored);
     if a.code != 0 {
@@ -51,7 +49,7 @@ pub fn recover(
     table: &mut [Row],
     out: &mut [u8],
 ) -> Returned
-    ensures { KeepsRows (RecoverRowsPromise u v nonce) result log results totals acks stored table out unlent }
+    ensures { KeepsRows (RecoverRowsPromise u v nonce) result (lent_rows log.now results.now totals.old acks.old stored.now table.old out.old []) (lent_rows log.now results.now totals.new acks.new stored.now table.new out.new []) }
 {
     let a = core::recover(
         u,
@@ -85,7 +83,7 @@ pub fn on_message(
     out: &mut [u8],
     reps: &mut [u8],
 ) -> WithOffset
-    ensures { KeepsRows (MessageRowsPromise s (was frame)) result.returned log results totals acks stored table out reps × Points well_formed (was frame) result.returned.code result.offset }
+    ensures { KeepsRows (MessageRowsPromise s frame.now) result.returned (lent_rows log.old results.old totals.old acks.old stored.old table.old out.old reps.old) (lent_rows log.new results.new totals.new acks.new stored.new table.new out.new reps.new) × Points well_formed frame.now result.returned.code result.offset }
 {
     let c = core::checked(
         s,
@@ -117,7 +115,7 @@ pub fn on_idle(
     out: &mut [u8],
     reps: &mut [u8],
 ) -> Returned
-    ensures { KeepsRows (IdleRowsPromise s) result log results totals acks stored table out reps }
+    ensures { KeepsRows (IdleRowsPromise s) result (lent_rows log.old results.old totals.old acks.old stored.old table.old out.old reps.old) (lent_rows log.new results.new totals.new acks.new stored.new table.new out.new reps.new) }
 {
     let a = core::on_idle(
         s,

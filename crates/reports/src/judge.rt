@@ -4,7 +4,6 @@ ghost use Rattle.std.specs.Prelude.{◌≡◌, true, false, ◌+◌, ◌*◌, �
 ghost use Rattle.state.specs.Lengths.{stored_place};
 ghost use Rattle.reports.specs.Judge.{log_from, chosen_log, weighed, answered_by_primary, Lies, Fits};
 ghost use Rattle.reports.specs.JudgedNumber.{Judges, JudgesResponse};
-ghost use Rattle.numbers.specs.Lending.{was};
 
 use crate::{Best, Judged, rows};
 use numbers::{Op, View};
@@ -21,7 +20,7 @@ pub fn place(room: u32, id: u8) -> usize
 // The first k bytes of `fresh`, or k bytes of `stored` from a place on: lent, not copied.
 fn log_of<'a>(stored: &'a [u8], fresh: &'a [u8], new: bool, at: usize, k: usize) -> &'a [u8]
     requires { (new ≡ true → k ≤ length fresh.now) × (new ≡ false → at + k ≤ length stored.now) }
-    ensures { result.now ≡ log_from new at k (was stored) (was fresh) }
+    ensures { result.now ≡ log_from new at k stored.now fresh.now }
 {
     if new {
         return &fresh[..k];
@@ -33,7 +32,7 @@ fn log_of<'a>(stored: &'a [u8], fresh: &'a [u8], new: bool, at: usize, k: usize)
 // The log of a report, where it lies.
 pub fn chosen_log<'a>(b: Best, id: u8, room: u32, stored: &'a [u8], fresh: &'a [u8]) -> &'a [u8]
     requires { Lies b id room stored.now fresh.now }
-    ensures { result.now ≡ chosen_log b id room (was stored) (was fresh) }
+    ensures { result.now ≡ chosen_log b id room stored.now fresh.now }
 {
     let from = b.id;
     let k = 32 * (b.report.op.0 as usize);
@@ -53,7 +52,7 @@ fn weigh<'a>(
     fresh: &'a [u8],
 ) -> Judged
     requires { (Lies b id room stored.now fresh.now) × (32 * c.0 ≤ length ours.now) }
-    ensures { result ≡ weighed b g id room c.0 (was ours) (was stored) (was fresh) }
+    ensures { result ≡ weighed b g id room c.0 ours.now stored.now fresh.now }
 {
     if b.report.op.0 < g.0 {
         return Judged::Refuse;
@@ -81,7 +80,7 @@ pub fn judge<'a>(
     fresh: &'a [u8],
 ) -> Judged
     requires { (Fits t n id room stored.now fresh.now) × (32 * c.0 ≤ length ours.now) }
-    ensures { Judges t n id room c.0 (was ours) (was stored) (was fresh) result }
+    ensures { Judges t n id room c.0 ours.now stored.now fresh.now result }
 {
     if rows::filled(t, n) < config::quorum(n) {
         return Judged::Wait;
@@ -103,7 +102,7 @@ fn judge_primary<'a>(
     fresh: &'a [u8],
 ) -> Judged
     requires { (b.report.there ≡ true → Lies b id room stored.now fresh.now) × (32 * c.0 ≤ length ours.now) }
-    ensures { result ≡ answered_by_primary b v.0 id room c.0 (was ours) (was stored) (was fresh) }
+    ensures { result ≡ answered_by_primary b v.0 id room c.0 ours.now stored.now fresh.now }
 {
     if !b.report.there {
         return Judged::Wait;
@@ -131,7 +130,7 @@ pub fn judge_response<'a>(
     fresh: &'a [u8],
 ) -> Judged
     requires { (Fits t n id room stored.now fresh.now) × (32 * c.0 ≤ length ours.now) }
-    ensures { JudgesResponse t n id room view.0 c.0 (was ours) (was stored) (was fresh) result }
+    ensures { JudgesResponse t n id room view.0 c.0 ours.now stored.now fresh.now result }
 {
     if rows::filled(t, n) < config::quorum(n) {
         return Judged::Wait;

@@ -7,14 +7,14 @@ pub mod judge; // whether a view begins, or a recovery ends, and with which log
 pub mod store; // a log kept at its place, or installed
 
 // A report, and whose it is.
-#[derive(Drop)]
+#[derive(Clone, Copy)]
 pub struct Best {
     pub id: u8,
     pub report: Report,
 }
 
 // What a report that just came in leads to: more are waited for; refusal 7; or the log of `best` is installed and committed up to `commit`.
-#[derive(Drop)]
+#[derive(Clone, Copy)]
 pub enum Judged {
     Wait,
     Refuse,

@@ -1,7 +1,6 @@
 // A frame with a fault, handed in to replica 1 of 3.
 ghost use Rattle.std.specs.Prelude.{◌≡◌};
 ghost use Rattle.frames.specs.Refusals.{check_frame};
-ghost use Rattle.numbers.specs.Lending.{was};
 ghost use Rattle.show_frames.specs.Shown.{setup_shown, number_shown};
 
 use config::Setup;
@@ -21,7 +20,7 @@ fn setup() -> Setup
 
 // The refusal number, 0: none.
 pub fn number(frame: &[u8]) -> u8
-    ensures { result ≡ number_shown (check_frame setup_shown (was frame)) }
+    ensures { result ≡ number_shown (check_frame setup_shown frame.now) }
 {
     match frames::check(setup(), frame) {
         Checked::Passed { .. } => 0,

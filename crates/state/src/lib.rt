@@ -11,7 +11,7 @@ use numbers::{Op, View};
 
 // What is held of a replica: its DoViewChange, or in Recovering its RecoveryResponse. `view` is the last normal view of the one, the view of
 // the other; `full`: it carries a log, which lies in the lent run of stored logs.
-#[derive(Drop)]
+#[derive(Clone, Copy)]
 pub struct Report {
     pub there: bool,
     pub full: bool,
@@ -21,14 +21,14 @@ pub struct Report {
 }
 
 // One for each replica id; those from n on are all zero, or refusal 1.
-#[derive(Drop)]
+#[derive(Clone, Copy)]
 pub struct Reports {
     pub rows: [Report; 7],
 }
 
 // The Rust's `struct Replica`, less what lies in lent runs. `normal`: the last view in which it was Normal; `catching`: catching up; `takings`: all members' totals added up, kept beside them; `starts`: who
 // asked for this view, one bit for each replica; `sent`: our DoViewChange went out.
-#[derive(Drop)]
+#[derive(Clone, Copy)]
 pub struct Replica {
     pub setup: Setup,
     pub status: Status,
@@ -47,7 +47,7 @@ pub struct Replica {
 
 // What a call answers: a refusal's number or 0, the state after it, how many bytes of messages and of replies it wrote, and whether it
 // installed a log.
-#[derive(Drop)]
+#[derive(Clone, Copy)]
 pub struct Returned {
     pub code: u8,
     pub state: Replica,

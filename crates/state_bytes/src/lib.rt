@@ -2,7 +2,6 @@
 ghost use Rattle.std.specs.Prelude.{◌≡◌, true, ◌≤◌, length};
 ghost use Rattle.numbers.specs.Numbers.{over};
 ghost use Rattle.state_bytes.specs.Layout.{state_with, state_of, encode_place, encode_votes, Onward, Clocked, state_ok, is_quiet, front_ok, look_of, HoldsState};
-ghost use Rattle.numbers.specs.Lending.{was, last};
 
 use state::{Replica, Reports};
 
@@ -12,7 +11,7 @@ mod flag; // flags and the status
 // The state that the run holds, with these reports.
 fn read_with(run: &[u8], reports: Reports) -> Replica
     requires { 154 ≤ length run.now }
-    ensures { result ≡ state_with (was run) reports }
+    ensures { result ≡ state_with run.now reports }
 {
     Replica {
         setup: part::setup_at(run, 0),
@@ -34,7 +33,7 @@ fn read_with(run: &[u8], reports: Reports) -> Replica
 // The state that the run holds.
 pub fn read_state(run: &[u8]) -> Replica
     requires { 154 ≤ length run.now }
-    ensures { result ≡ state_of (was run) }
+    ensures { result ≡ state_of run.now }
 {
     read_with(run, part::reports_at(run, 48))
 }
@@ -42,7 +41,7 @@ pub fn read_state(run: &[u8]) -> Replica
 // Whether no report is there: the state outside of a view change and a recovery.
 pub fn is_quiet(run: &[u8]) -> bool
     requires { 154 ≤ length run.now }
-    ensures { result ≡ is_quiet (was run) }
+    ensures { result ≡ is_quiet run.now }
 {
     part::is_zero(run, 48)
 }
@@ -50,7 +49,7 @@ pub fn is_quiet(run: &[u8]) -> bool
 // The state that such a run holds: its reports are not read.
 pub fn read_quiet(run: &[u8]) -> Replica
     requires { (154 ≤ length run.now) × (is_quiet run.now ≡ true) }
-    ensures { result ≡ state_of (was run) }
+    ensures { result ≡ state_of run.now }
 {
     read_with(run, state::no_reports())
 }
@@ -58,7 +57,7 @@ pub fn read_quiet(run: &[u8]) -> Replica
 // Where the replica stands: 18 bytes.
 fn write_place(area: &mut [u8], s: Replica)
     requires { 18 ≤ length area.old }
-    ensures { last area ≡ over (encode_place s) (was area) }
+    ensures { area.new ≡ over (encode_place s) area.old }
 {
     let status = s.status;
     numbers::write_u8(area, flag::status_number(status));
@@ -72,7 +71,7 @@ fn write_place(area: &mut [u8], s: Replica)
 // What a view change or a recovery has gathered, but for the reports: 10 bytes.
 fn write_votes(area: &mut [u8], s: Replica)
     requires { 10 ≤ length area.old }
-    ensures { last area ≡ over (encode_votes s) (was area) }
+    ensures { area.new ≡ over (encode_votes s) area.old }
 {
     numbers::write_u8(area, s.starts);
     flag::write_flag(&mut area[1..], s.sent);
@@ -82,7 +81,7 @@ fn write_votes(area: &mut [u8], s: Replica)
 // The run holds the state.
 pub fn write_state(run: &mut [u8], s: Replica)
     requires { length run.old ≡ 154 }
-    ensures { HoldsState s (last run) }
+    ensures { HoldsState s run.new }
 {
     let setup = s.setup;
     part::write_setup(run, setup);
@@ -98,7 +97,7 @@ pub fn write_state(run: &mut [u8], s: Replica)
 // The run goes from the state that it holds to one that is further on in the same view: 18 bytes.
 pub fn write_onward(run: &mut [u8], s: Replica)
     requires { (state_ok run.old ≡ true) × Onward (state_of run.old) s }
-    ensures { HoldsState s (last run) }
+    ensures { HoldsState s run.new }
 {
     let status = s.status;
     numbers::write_u8(&mut run[12..], flag::status_number(status));
@@ -112,7 +111,7 @@ pub fn write_onward(run: &mut [u8], s: Replica)
 // The same where only the clock is another: 8 bytes.
 pub fn write_clocked(run: &mut [u8], s: Replica)
     requires { (state_ok run.old ≡ true) × Clocked (state_of run.old) s }
-    ensures { HoldsState s (last run) }
+    ensures { HoldsState s run.new }
 {
     let clock = s.clock;
     part::write_clock(&mut run[30..], clock);
@@ -120,7 +119,7 @@ pub fn write_clocked(run: &mut [u8], s: Replica)
 
 // Whether the run has its length, and a status and flags with a meaning, those of the reports left aside.
 fn front_ok(run: &[u8]) -> bool
-    ensures { result ≡ front_ok (was run) }
+    ensures { result ≡ front_ok run.now }
 {
     if run.len() != 154 {
         return false;
@@ -138,7 +137,7 @@ fn front_ok(run: &[u8]) -> bool
 }
 
 // What a look over a run tells: whether it is one that holds a state (its length, and no byte without meaning), and whether no report is there.
-#[derive(Drop)]
+#[derive(Clone, Copy)]
 pub struct Look {
     pub ok: bool,
     pub quiet: bool,
@@ -146,7 +145,7 @@ pub struct Look {
 
 // The reports' bytes are looked at once for both.
 pub fn look_over(run: &[u8]) -> Look
-    ensures { result ≡ look_of (was run) }
+    ensures { result ≡ look_of run.now }
 {
     if !front_ok(run) {
         return Look {

@@ -2,7 +2,6 @@
 ghost use Rattle.std.specs.Prelude.{◌≡◌, ◌+◌, ◌≤◌, length, take, drop};
 ghost use Rattle.numbers.specs.Numbers.{over};
 ghost use Rattle.state_bytes.specs.Layout.{setup_of, encode_setup, clock_of, encode_clock, report_in, encode_report, ReportFits, reports_of, encode_reports, ReportsFit, all_reports_ok, all_zero};
-ghost use Rattle.numbers.specs.Lending.{was, last};
 
 use crate::flag;
 use clock::Clock;
@@ -12,7 +11,7 @@ use state::{Report, Reports};
 // The setup, 12 bytes.
 pub fn setup_at(run: &[u8], at: usize) -> Setup
     requires { at + 12 ≤ length run.now }
-    ensures { result ≡ setup_of (drop at (was run)) }
+    ensures { result ≡ setup_of (drop at run.now) }
 {
     Setup {
         n: numbers::read_u8(run, at),
@@ -25,7 +24,7 @@ pub fn setup_at(run: &[u8], at: usize) -> Setup
 
 pub fn write_setup(area: &mut [u8], u: Setup)
     requires { 12 ≤ length area.old }
-    ensures { last area ≡ over (encode_setup u) (was area) }
+    ensures { area.new ≡ over (encode_setup u) area.old }
 {
     numbers::write_u8(area, u.n);
     numbers::write_u8(&mut area[1..], u.id);
@@ -37,7 +36,7 @@ pub fn write_setup(area: &mut [u8], u: Setup)
 // The clock, 8 bytes.
 pub fn clock_at(run: &[u8], at: usize) -> Clock
     requires { at + 8 ≤ length run.now }
-    ensures { result ≡ clock_of (drop at (was run)) }
+    ensures { result ≡ clock_of (drop at run.now) }
 {
     Clock {
         heard: flag::flag_at(run, at),
@@ -49,7 +48,7 @@ pub fn clock_at(run: &[u8], at: usize) -> Clock
 
 pub fn write_clock(area: &mut [u8], c: Clock)
     requires { 8 ≤ length area.old }
-    ensures { last area ≡ over (encode_clock c) (was area) }
+    ensures { area.new ≡ over (encode_clock c) area.old }
 {
     flag::write_flag(area, c.heard);
     numbers::write_u32(&mut area[1..], c.waiting);
@@ -60,7 +59,7 @@ pub fn write_clock(area: &mut [u8], c: Clock)
 // A report, 14 bytes.
 fn report_at(run: &[u8], at: usize) -> Report
     requires { at + 14 ≤ length run.now }
-    ensures { result ≡ report_in (drop at (was run)) }
+    ensures { result ≡ report_in (drop at run.now) }
 {
     Report {
         there: flag::flag_at(run, at),
@@ -74,7 +73,7 @@ fn report_at(run: &[u8], at: usize) -> Report
 // What the types of its fields say is told to whoever writes it: it is why the report is read back.
 fn write_report(area: &mut [u8], d: Report)
     requires { 14 ≤ length area.old }
-    ensures { (last area ≡ over (encode_report d) (was area)) × ReportFits d }
+    ensures { (area.new ≡ over (encode_report d) area.old) × ReportFits d }
 {
     flag::write_flag(area, d.there);
     flag::write_flag(&mut area[1..], d.full);
@@ -86,7 +85,7 @@ fn write_report(area: &mut [u8], d: Report)
 // Whether the two flags of each of seven reports have a meaning.
 pub fn reports_ok(run: &[u8], at: usize) -> bool
     requires { at + 98 ≤ length run.now }
-    ensures { result ≡ all_reports_ok 7 (drop at (was run)) }
+    ensures { result ≡ all_reports_ok 7 (drop at run.now) }
 {
     let mut i: usize = 0;
     let mut p = at;
@@ -106,7 +105,7 @@ pub fn reports_ok(run: &[u8], at: usize) -> bool
 // Whether the 98 bytes of the seven reports are all zero: a few wide looks.
 pub fn is_zero(run: &[u8], at: usize) -> bool
     requires { at + 98 ≤ length run.now }
-    ensures { result ≡ all_zero (take 98 (drop at (was run))) }
+    ensures { result ≡ all_zero (take 98 (drop at run.now)) }
 {
     let mut i: usize = 0;
     while i < 12 {
@@ -121,7 +120,7 @@ pub fn is_zero(run: &[u8], at: usize) -> bool
 // Seven reports, one for each replica id.
 pub fn reports_at(run: &[u8], at: usize) -> Reports
     requires { at + 98 ≤ length run.now }
-    ensures { result ≡ reports_of (drop at (was run)) }
+    ensures { result ≡ reports_of (drop at run.now) }
 {
     Reports {
         rows: [
@@ -139,7 +138,7 @@ pub fn reports_at(run: &[u8], at: usize) -> Reports
 // And that there are seven rows.
 pub fn write_reports(area: &mut [u8], t: Reports)
     requires { 98 ≤ length area.old }
-    ensures { (last area ≡ over (encode_reports t) (was area)) × ReportsFit t }
+    ensures { (area.new ≡ over (encode_reports t) area.old) × ReportsFit t }
 {
     let mut i = 0;
     while i < 7 {

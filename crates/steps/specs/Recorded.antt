@@ -5,7 +5,7 @@ use Rattle.state.specs.declared.Returned.{Returned}
 use Rattle.state.specs.declared.Replica.{Replica}
 use Rattle.state.specs.Sound.{gathered_ok}
 use Rattle.steps.specs.Steps.{Sound, Spoke, Left}
-use Rattle.book.specs.Memory.{Memory, Run, memory_before, memory_after}
+use Rattle.book.specs.Memory.{Memory}
 
 -- what a call leaves
 pub record Recorded : Type 0 where
@@ -15,10 +15,9 @@ pub record Recorded : Type 0 where
 abbrev pub recorded : Returned → Memory → Recorded
 recorded a m = record { answer = a; memory = m }
 
--- a call that answers a, on these runs, does this step
-abbrev pub Does : (Memory → Recorded) → Returned → (log results totals acks stored out reps : Run) → Type 0
-Does step a log results totals acks stored out reps =
-    recorded a (memory_after log results totals acks stored out reps) ≡ step (memory_before log results totals acks stored out reps)
+-- a call that answers a, on this memory and leaving that, does this step
+abbrev pub Does : (Memory → Recorded) → Returned → (before after : Memory) → Type 0
+Does step a before after = recorded a after ≡ step before
 
 -- a call that only sends
 abbrev pub only_sent : Memory → Spoke → Recorded

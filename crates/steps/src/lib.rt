@@ -3,8 +3,7 @@ ghost use Rattle.std.specs.Prelude.{◌≡◌, ◌≤◌, ◌<◌, length};
 ghost use Rattle.numbers.specs.Numbers.{over};
 ghost use Rattle.steps.specs.Steps.{Sound, spoke, left, accept_changing, is_take, committed_to, settled, asked_for_state, deferred, transferred, prepare_ok_of, committed_and_acked};
 ghost use Rattle.steps.specs.AcceptNumber.{Accepts};
-ghost use Rattle.book.specs.Memory.{runs_before, runs_after, runs_held};
-ghost use Rattle.numbers.specs.Lending.{was, last};
+ghost use Rattle.book.specs.Memory.{runs};
 
 use frames::Status;
 use numbers::{Op, View};
@@ -12,7 +11,7 @@ use state::{Replica, Returned};
 
 // What accept_from_primary says of a message of view v: it is of an older view; it is heard and no more; it is of a newer view, to be caught up
 // with; it is of ours, which we were changing to, and now catch up with; or it is taken, by a backup in Normal.
-#[derive(Drop)]
+#[derive(Clone, Copy)]
 pub enum Accept {
     Ignore,
     Hear,
@@ -69,8 +68,8 @@ pub fn takes(a: Accept) -> bool
 
 // commit_up_to: the ops after the commit number, up to k.
 pub fn commit_up_to(s: Replica, k: Op, log: &[u8], results: &mut [u8], totals: &mut [u8]) -> Replica
-    requires { Sound s (runs_held log results totals) × (k.0 ≤ s.op.0) }
-    ensures { (result ≡ committed_to s k (runs_before log results totals)) × (runs_after log results totals ≡ settled s k (runs_before log results totals)) }
+    requires { Sound s (runs log.now results.old totals.old) × (k.0 ≤ s.op.0) }
+    ensures { (result ≡ committed_to s k (runs log.now results.old totals.old)) × (runs log.now results.new totals.new ≡ settled s k (runs log.now results.old totals.old)) }
 {
     if k.0 <= s.commit.0 {
         return s;
@@ -92,7 +91,7 @@ pub fn commit_up_to(s: Replica, k: Op, log: &[u8], results: &mut [u8], totals: &
 // send_get_state from op `at` on, to the primary of the view of `t`, which is the state after it; `s` is the state as it was, for refusal 9.
 pub fn ask_state(s: Replica, t: Replica, at: Op, out: &mut [u8]) -> Returned
     requires { 0 < t.setup.n }
-    ensures { spoke result (last out) ≡ asked_for_state s t at (was out) }
+    ensures { spoke result out.new ≡ asked_for_state s t at out.old }
 {
     if out.len() < 16 {
         return state::refused(9, s);
@@ -106,7 +105,7 @@ pub fn ask_state(s: Replica, t: Replica, at: Op, out: &mut [u8]) -> Returned
 // state_transfer
 pub fn state_transfer(s: Replica, out: &mut [u8]) -> Returned
     requires { 0 < s.setup.n }
-    ensures { spoke result (last out) ≡ transferred s (was out) }
+    ensures { spoke result out.new ≡ transferred s out.old }
 {
     let at = s.op;
     ask_state(
@@ -120,7 +119,7 @@ pub fn state_transfer(s: Replica, out: &mut [u8]) -> Returned
 // What is done with a message from the primary that isn't taken: catch_up_with_view, or nothing but to hear it.
 pub fn defer(a: Accept, s: Replica, v: View, out: &mut [u8]) -> Returned
     requires { 0 < s.setup.n }
-    ensures { spoke result (last out) ≡ deferred a s v (was out) }
+    ensures { spoke result out.new ≡ deferred a s v out.old }
 {
     let at = s.commit;
     match a {
@@ -135,7 +134,7 @@ pub fn defer(a: Accept, s: Replica, v: View, out: &mut [u8]) -> Returned
 // send_prepare_ok, with our own op number
 fn send_prepare_ok(s: Replica, out: &mut [u8]) -> usize
     requires { (0 < s.setup.n) × (16 ≤ length out.old) }
-    ensures { (result ≡ 16) × (last out ≡ over (prepare_ok_of s) (was out)) }
+    ensures { (result ≡ 16) × (out.new ≡ over (prepare_ok_of s) out.old) }
 {
     let v = s.view;
     let o = s.op;
@@ -154,8 +153,8 @@ pub fn acknowledge(
     totals: &mut [u8],
     out: &mut [u8],
 ) -> Returned
-    requires { Sound t (runs_held log results totals) × (k.0 ≤ t.op.0) }
-    ensures { left result (runs_after log results totals) (last out) ≡ committed_and_acked s t k installed (runs_before log results totals) (was out) }
+    requires { Sound t (runs log.now results.old totals.old) × (k.0 ≤ t.op.0) }
+    ensures { left result (runs log.now results.new totals.new) out.new ≡ committed_and_acked s t k installed (runs log.now results.old totals.old) out.old }
 {
     if out.len() < 16 {
         return state::refused(9, s);

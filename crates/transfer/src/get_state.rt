@@ -2,7 +2,6 @@
 ghost use Rattle.std.specs.Prelude.{◌≡◌, length};
 ghost use Rattle.steps.specs.Steps.{spoke};
 ghost use Rattle.transfer.specs.GetState.{Reading, answers, get_state_step};
-ghost use Rattle.numbers.specs.Lending.{was, last};
 
 use numbers::{Op, View};
 use state::{Replica, Returned};
@@ -24,7 +23,7 @@ fn answers(s: Replica, v: View, o: Op) -> bool
 // on_get_state: our log from op o on, to the replica that asked
 pub fn on_get_state(s: Replica, from: u8, v: View, o: Op, log: &[u8], out: &mut [u8]) -> Returned
     requires { Reading s (length log.now) }
-    ensures { spoke result (last out) ≡ get_state_step s from v o (was log) (was out) }
+    ensures { spoke result out.new ≡ get_state_step s from v o log.now out.old }
 {
     if !answers(s, v, o) {
         return state::done(s, 0, 0, false);

@@ -2,7 +2,6 @@
 ghost use Rattle.std.specs.Prelude.{◌≡◌, ◌<◌};
 ghost use Rattle.steps.specs.Steps.{spoke};
 ghost use Rattle.transfer.specs.Tick.{transfer_tick};
-ghost use Rattle.numbers.specs.Lending.{was, last};
 
 use clock::Clock;
 use numbers::Op;
@@ -12,7 +11,7 @@ pub mod get_state; // on_get_state
 pub mod new_state; // on_new_state
 
 // The numbers of a NewState beside its view: its entries are those after op `start`, up to op `end`.
-#[derive(Drop)]
+#[derive(Clone, Copy)]
 pub struct Part {
     pub start: Op,
     pub end: Op,
@@ -20,7 +19,7 @@ pub struct Part {
 }
 
 // What a NewState is used for: nothing; to have heard it; to fill the gap after our log; or to replace what isn't committed.
-#[derive(Drop)]
+#[derive(Clone, Copy)]
 pub enum Use {
     Ignore,
     Hear,
@@ -31,7 +30,7 @@ pub enum Use {
 // on_idle in StateTransfer, of a tick after which the wait isn't over: GetState again. `c` is the clock after it.
 pub fn tick_transfer(s: Replica, c: Clock, out: &mut [u8]) -> Returned
     requires { 0 < s.setup.n }
-    ensures { spoke result (last out) ≡ transfer_tick s c (was out) }
+    ensures { spoke result out.new ≡ transfer_tick s c out.old }
 {
     let at = s.op;
     steps::ask_state(s, state::with_clock(s, c), at, out)

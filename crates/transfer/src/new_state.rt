@@ -1,10 +1,9 @@
 // What a replica does with a NewState.
 ghost use Rattle.std.specs.Prelude.{◌≡◌, ◌-◌, ◌*◌, ◌≤◌, ◌<◌, length};
 ghost use Rattle.steps.specs.Steps.{Sound, left};
-ghost use Rattle.book.specs.Memory.{runs_before, runs_after, runs_held};
+ghost use Rattle.book.specs.Memory.{runs};
 ghost use Rattle.transfer.specs.NewState.{PartPassed, transfer_use, change_use, gap_filled, installed, new_state_step};
 ghost use Rattle.transfer.specs.UseNumber.{Uses};
-ghost use Rattle.numbers.specs.Lending.{was, last};
 
 use crate::{Part, Use};
 use frames::Status;
@@ -63,8 +62,8 @@ fn fill(
     totals: &mut [u8],
     out: &mut [u8],
 ) -> Returned
-    requires { Sound s (runs_held log results totals) × ((s.op.0 < p.end.0) × (PartPassed s p × (32 * (p.end.0 - s.op.0) ≤ length rest.now))) }
-    ensures { left result (runs_after log results totals) (last out) ≡ gap_filled s p (was rest) (runs_before log results totals) (was out) }
+    requires { Sound s (runs log.old results.old totals.old) × ((s.op.0 < p.end.0) × (PartPassed s p × (32 * (p.end.0 - s.op.0) ≤ length rest.now))) }
+    ensures { left result (runs log.new results.new totals.new) out.new ≡ gap_filled s p rest.now (runs log.old results.old totals.old) out.old }
 {
     let n = s.op.0 as usize;
     let k = (p.end.0 - s.op.0) as usize;
@@ -96,8 +95,8 @@ fn install(
     totals: &mut [u8],
     out: &mut [u8],
 ) -> Returned
-    requires { Sound s (runs_held log results totals) × ((p.start.0 ≡ s.commit.0) × (PartPassed s p × (32 * (p.end.0 - p.start.0) ≤ length part.now))) }
-    ensures { left result (runs_after log results totals) (last out) ≡ installed s p (was part) (runs_before log results totals) (was out) }
+    requires { Sound s (runs log.old results.old totals.old) × ((p.start.0 ≡ s.commit.0) × (PartPassed s p × (32 * (p.end.0 - p.start.0) ≤ length part.now))) }
+    ensures { left result (runs log.new results.new totals.new) out.new ≡ installed s p part.now (runs log.old results.old totals.old) out.old }
 {
     let n = s.commit.0 as usize;
     let k = (p.end.0 - p.start.0) as usize;
@@ -127,8 +126,8 @@ pub fn on_new_state(
     totals: &mut [u8],
     out: &mut [u8],
 ) -> Returned
-    requires { Sound s (runs_held log results totals) × (PartPassed s p × (32 * (p.end.0 - p.start.0) ≤ length part.now)) }
-    ensures { left result (runs_after log results totals) (last out) ≡ new_state_step s v p (was part) (runs_before log results totals) (was out) }
+    requires { Sound s (runs log.old results.old totals.old) × (PartPassed s p × (32 * (p.end.0 - p.start.0) ≤ length part.now)) }
+    ensures { left result (runs log.new results.new totals.new) out.new ≡ new_state_step s v p part.now (runs log.old results.old totals.old) out.old }
 {
     match use_of(s, v, p) {
         Use::Ignore => state::done(s, 0, 0, false),

@@ -2,13 +2,12 @@
 // They leave all of the state but status, op and commit number, takings and the clock, so that who keeps it in bytes needs to write no more.
 ghost use Rattle.std.specs.Prelude.{◌≡◌};
 ghost use Rattle.usual.specs.Usual.{is_answered, is_usual, is_leading};
-ghost use Rattle.numbers.specs.Lending.{was};
 
 use state::Replica;
 
 // Whether a Recovery is of no later view than the state's: it is answered, and the state stays.
 fn is_answered(s: Replica, frame: &[u8]) -> bool
-    ensures { result ≡ is_answered s.view.0 (was frame) }
+    ensures { result ≡ is_answered s.view.0 frame.now }
 {
     if frame.len() < 20 {
         return false;
@@ -18,7 +17,7 @@ fn is_answered(s: Replica, frame: &[u8]) -> bool
 
 // Whether a frame is a usual one for this state, by its kind and view alone: it may still be refused.
 pub fn is_usual(s: Replica, frame: &[u8]) -> bool
-    ensures { result ≡ is_usual s (was frame) }
+    ensures { result ≡ is_usual s frame.now }
 {
     let status = s.status;
     if !state::is_normal(status) {

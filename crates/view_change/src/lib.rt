@@ -3,7 +3,7 @@ pub mod start_view;
 pub mod start_view_change;
 
 // What is done with a StartView: nothing, as it isn't new to us; refusal 7; or it is joined.
-#[derive(Drop)]
+#[derive(Clone, Copy)]
 pub enum StartViewVerdict {
     Ignore,
     Refuse,

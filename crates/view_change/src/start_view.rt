@@ -2,10 +2,9 @@
 ghost use Rattle.std.specs.Prelude.{◌≡◌, ◌*◌, ◌≤◌, length};
 ghost use Rattle.state.specs.Lengths.{acks_length};
 ghost use Rattle.steps.specs.Steps.{Sound, spoke};
-ghost use Rattle.book.specs.Memory.{runs_before, runs_after, runs_held};
+ghost use Rattle.book.specs.Memory.{runs};
 ghost use Rattle.view_change.specs.StartView.{LogHeld, LogPassed, start_view_length, sent_start_view, keep_verdict, joined, joined_by, start_view_step};
 ghost use Rattle.view_change.specs.StartViewNumber.{WeighsStartView};
-ghost use Rattle.numbers.specs.Lending.{was, last};
 
 use crate::StartViewVerdict;
 use numbers::{Op, View};
@@ -14,7 +13,7 @@ use state::{Replica, Returned};
 // send_start_view, to one replica
 pub fn send_start_view(s: Replica, to: u8, log: &[u8], out: &mut [u8]) -> Returned
     requires { LogHeld s (length log.now) }
-    ensures { spoke result (last out) ≡ sent_start_view s to (was log) (was out) }
+    ensures { spoke result out.new ≡ sent_start_view s to log.now out.old }
 {
     if out.len() < 19 + 32 * (s.op.0 as usize) {
         return state::refused(9, s);
@@ -29,7 +28,7 @@ pub fn send_start_view(s: Replica, to: u8, log: &[u8], out: &mut [u8]) -> Return
 // Refusal 7: the log of o entries in `part` must keep our committed entries.
 fn weigh_log(s: Replica, o: Op, part: &[u8], log: &[u8]) -> StartViewVerdict
     requires { LogHeld s (length log.now) × ((s.commit.0 ≤ s.op.0) × (32 * o.0 ≤ length part.now)) }
-    ensures { result ≡ keep_verdict s o (was part) (was log) }
+    ensures { result ≡ keep_verdict s o part.now log.now }
 {
     if book::keeps(log, s.commit.0 as usize, part, o.0 as usize) {
         return StartViewVerdict::Join;
@@ -40,7 +39,7 @@ fn weigh_log(s: Replica, o: Op, part: &[u8], log: &[u8]) -> StartViewVerdict
 // One of our own view is new only while we are changing to it.
 fn weigh(s: Replica, v: View, o: Op, part: &[u8], log: &[u8]) -> StartViewVerdict
     requires { LogHeld s (length log.now) × ((s.commit.0 ≤ s.op.0) × (32 * o.0 ≤ length part.now)) }
-    ensures { WeighsStartView s v o (was part) (was log) result }
+    ensures { WeighsStartView s v o part.now log.now result }
 {
     if v.0 < s.view.0 {
         return StartViewVerdict::Ignore;
@@ -68,8 +67,8 @@ fn join(
     acks: &mut [u8],
     out: &mut [u8],
 ) -> Returned
-    requires { Sound s (runs_held log results totals) × (LogPassed s o c × ((s.commit.0 ≤ o.0) × ((32 * o.0 ≤ length part.now) × (length acks.old ≡ acks_length s.setup)))) }
-    ensures { joined result (runs_after log results totals) (last acks) (last out) ≡ joined_by s v o c (was part) (runs_before log results totals) (was acks) (was out) }
+    requires { Sound s (runs log.old results.old totals.old) × (LogPassed s o c × ((s.commit.0 ≤ o.0) × ((32 * o.0 ≤ length part.now) × (length acks.old ≡ acks_length s.setup)))) }
+    ensures { joined result (runs log.new results.new totals.new) acks.new out.new ≡ joined_by s v o c part.now (runs log.old results.old totals.old) acks.old out.old }
 {
     if out.len() < 16 {
         return state::refused(9, s);
@@ -94,8 +93,8 @@ pub fn on_start_view(
     acks: &mut [u8],
     out: &mut [u8],
 ) -> Returned
-    requires { Sound s (runs_held log results totals) × (LogPassed s o c × ((32 * o.0 ≤ length part.now) × (length acks.old ≡ acks_length s.setup))) }
-    ensures { joined result (runs_after log results totals) (last acks) (last out) ≡ start_view_step s v o c (was part) (runs_before log results totals) (was acks) (was out) }
+    requires { Sound s (runs log.old results.old totals.old) × (LogPassed s o c × ((32 * o.0 ≤ length part.now) × (length acks.old ≡ acks_length s.setup))) }
+    ensures { joined result (runs log.new results.new totals.new) acks.new out.new ≡ start_view_step s v o c part.now (runs log.old results.old totals.old) acks.old out.old }
 {
     match weigh(s, v, o, part, log) {
         StartViewVerdict::Ignore => state::done(s, 0, 0, false),

@@ -8,7 +8,7 @@ use Rattle.numbers.proofs.WordLaws.{split}
 use Rattle.clock.specs.declared.Clock.{Clock}
 use Rattle.state.specs.declared.Replica.{Replica}
 use Rattle.book.specs.Memory.{Memory}
-use Rattle.voting.specs.Votes.{sent_first, maybe_step, same_view_lem, start_view_change_step}
+use Rattle.voting.specs.Votes.{sent_first, maybe_step, same_view, start_view_change_step}
 use Rattle.voting.specs.Tick.{next_view, next_view_asking, repeated, change_tick}
 use Rattle.steps.proofs.RefusedSteps.{Untouched, Speaks, done, refused, asked-untouched}
 use Rattle.view_change.proofs.RefusedChange.{started-untouched, sent-start-view-untouched}
@@ -25,8 +25,8 @@ module _ (s : Replica) (m : Memory) where
   unfolding maybe_step
   maybe-untouched t first = split (Untouched s m) _ _ _ (λ _. send-untouched s m _ first) (λ _. called-untouched t first)
 
-  same-view-untouched : (r : ℕ) → Untouched s m (same_view_lem s r m)
-  unfolding same_view_lem
+  same-view-untouched : (r : ℕ) → Untouched s m (same_view s r m)
+  unfolding same_view
   same-view-untouched r =
       split (Untouched s m) _ _ _ (λ _. maybe-untouched _ false) λ _.
       split (Untouched s m) _ _ _ (λ _. done s m refl) λ _.

@@ -3,7 +3,7 @@
 --     stays, catches-up, went-out, counts              each way out of `due`
 --     voted-gathers, clocked-gathers, asked-gathers    what refusal 1 leaves, with other votes or another clock
 --     too-early, in-time                               each way out of `maybe_step`
---     joins, is-away, leader-tells, backup-waits       each way out of `same_view_lem`
+--     joins, is-away, leader-tells, backup-waits       each way out of `same_view`
 --     too-old, moves-on, same_view_lem                     each way out of `start_view_change_step`
 -- Assumes nothing.
 use mathlib.Core.Path.{◌≡◌, sym, ap, ◌∙◌, subst}
@@ -37,7 +37,7 @@ use Rattle.do_view_change.specs.Record.{send_step}
 use Rattle.book.specs.Memory.{Memory}
 use Rattle.do_view_change.proofs.BeginLaws.{first-long}
 use Rattle.do_view_change.proofs.TellLaws.{moved-gathers}
-use Rattle.voting.specs.Votes.{sent_first, report_due, maybe_step, same_view_lem, start_view_change_step}
+use Rattle.voting.specs.Votes.{sent_first, report_due, maybe_step, same_view, start_view_change_step}
 
 -- ---- only what goes out first
 
@@ -139,25 +139,25 @@ module _ (s t : Replica) (first : Bool) (m : Memory) (b : Bool) (eb : b ≡ repo
 -- ---- on_start_view_change of our view
 
 module _ (s : Replica) (r : ℕ) (m : Memory) (b : Bool) (eb : b ≡ is_changing s.status) where
-  pub joins : b ≡ true → (t : Replica) (x : Recorded) → t ≡ with_start s r → x ≡ maybe_step s t false m → x ≡ same_view_lem s r m
-  unfolding same_view_lem
+  pub joins : b ≡ true → (t : Replica) (x : Recorded) → t ≡ with_start s r → x ≡ maybe_step s t false m → x ≡ same_view s r m
+  unfolding same_view
   joins h t x e p = p ∙ (λ i. maybe_step s (e i) false m) ∙ sym (if-true _ _ _ (sym eb ∙ h))
 
   module _ (h : b ≡ false) (d : Bool) (ed : d ≡ is_normal s.status) where
-    pub is-away : not d ≡ true → (a : Returned) → a ≡ quiet s → recorded a m ≡ same_view_lem s r m
-    unfolding same_view_lem
+    pub is-away : not d ≡ true → (a : Returned) → a ≡ quiet s → recorded a m ≡ same_view s r m
+    unfolding same_view
     is-away g a p = ap (λ (x : Returned). recorded x m) p ∙ sym (if-false _ _ _ (sym eb ∙ h) ∙ if-true _ _ _ (ap not (sym ed) ∙ g))
 
     module _ (g : not d ≡ false) (l : Bool) (el : l ≡ leads s) where
       pub leader-tells : l ≡ true → (a : Returned) (out : List ℕ) → spoke a out ≡ sent_start_view s r m.runs.log m.out
-          → recorded a (record { runs = m.runs; acks = m.acks; stored = m.stored; out = out; reps = m.reps }) ≡ same_view_lem s r m
-      unfolding same_view_lem
+          → recorded a (record { runs = m.runs; acks = m.acks; stored = m.stored; out = out; reps = m.reps }) ≡ same_view s r m
+      unfolding same_view
       leader-tells e a out p =
           (λ i. only_sent m (p i))
           ∙ sym (if-false _ _ _ (sym eb ∙ h) ∙ if-false _ _ _ (ap not (sym ed) ∙ g) ∙ if-true _ _ _ (sym el ∙ e))
 
-      pub backup-waits : l ≡ false → (a : Returned) → a ≡ quiet s → recorded a m ≡ same_view_lem s r m
-      unfolding same_view_lem
+      pub backup-waits : l ≡ false → (a : Returned) → a ≡ quiet s → recorded a m ≡ same_view s r m
+      unfolding same_view
       backup-waits e a p =
           ap (λ (x : Returned). recorded x m) p
           ∙ sym (if-false _ _ _ (sym eb ∙ h) ∙ if-false _ _ _ (ap not (sym ed) ∙ g) ∙ if-false _ _ _ (sym el ∙ e))
@@ -177,7 +177,7 @@ module _ (s : Replica) (v : View) (r : ℕ) (m : Memory) where
         p ∙ (λ i. maybe_step s (et i) true m) ∙ (λ i. maybe_step s (with_start (eu i) r) true m)
         ∙ sym (if-false _ _ _ (le-ltb v.0 s.view.0 g) ∙ if-true _ _ _ (lt-ltb s.view.0 v.0 l))
 
-    pub same_view_lem : v.0 ≤ s.view.0 → (x : Recorded) → x ≡ same_view_lem s r m → x ≡ start_view_change_step s v r m
+    pub same_view_lem : v.0 ≤ s.view.0 → (x : Recorded) → x ≡ same_view s r m → x ≡ start_view_change_step s v r m
     unfolding start_view_change_step
     same_view_lem l x p =
         p ∙ sym (if-false _ _ _ (le-ltb v.0 s.view.0 g) ∙ if-false _ _ _ (le-ltb s.view.0 v.0 l))

@@ -37,7 +37,7 @@ use Rattle.view_change.specs.StartView.{sent_start_view}
 use Rattle.view_change.proofs.StartViewChangeLaws.{calls-long}
 use Rattle.do_view_change.specs.Begin.{calls_first, first_length}
 use Rattle.steps.specs.Recorded.{Recorded, recorded, only_sent}
-use Rattle.voting.specs.Votes.{sent_first, report_due, maybe_step, same_view_lem, start_view_change_step}
+use Rattle.voting.specs.Votes.{sent_first, report_due, maybe_step, same_view, start_view_change_step}
 use Rattle.voting.specs.Tick as T
 use Rattle.voting.specs.Tick.{view_after, in_last_view, asked_and_called}
 use Rattle.model.specs.State.{ClientEntry, State, Sent, Answer, ignored, set_votes, set_clock, op_of}
@@ -161,11 +161,11 @@ module _ (c : Given) (table : List ClientEntry) (applied : List Entry) (h : Chan
 
   -- one of our view
   goal-same : (r : ℕ) → r < c.state.setup.n
-      → Goal (same_view_lem c.state r (memory_of c))
+      → Goal (same_view c.state r (memory_of c))
       (if is_changing m.place.status then maybe_send_do_view_change c.state.setup (voted_for c.state.setup m r) [] else
       if is_normal m.place.status and is_primary c.state.setup m then done m (send_start_view m r) [] else
       ignored m)
-  unfolding same_view_lem leads is_primary primary model_of
+  unfolding same_view leads is_primary primary model_of
   goal-same r lt =
       split₂ Goal _ _ _ _ _ _ refl (λ _. voted c.state m r false [] lt h (first-none c.state) kept refl) λ _.
       subst

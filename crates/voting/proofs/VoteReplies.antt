@@ -19,7 +19,7 @@ use Rattle.steps.proofs.SilentSteps.{Mute, still, asked-mute}
 use Rattle.book.specs.Memory.{Memory}
 use Rattle.view_change.proofs.ChangeReplies.{started-mute, sent-start-view-mute}
 use Rattle.do_view_change.proofs.RecordReplies.{Answers, send-replies}
-use Rattle.voting.specs.Votes.{sent_first, maybe_step, same_view_lem, start_view_change_step}
+use Rattle.voting.specs.Votes.{sent_first, maybe_step, same_view, start_view_change_step}
 use Rattle.voting.specs.Tick.{next_view, next_view_asking, repeated, change_tick}
 
 called-mute : (s t : Replica) (first : Bool) (out : List ℕ) → Mute (sent_first s t first out)
@@ -40,8 +40,8 @@ module _ (s : Replica) (m : Memory) (h : Gathering s m) where
 
   -- ---- StartViewChange
 
-  same-view-replies : (r : ℕ) → r < s.setup.n → Answers m (same_view_lem s r m)
-  unfolding same_view_lem
+  same-view-replies : (r : ℕ) → r < s.setup.n → Answers m (same_view s r m)
+  unfolding same_view
   same-view-replies r lt =
       split (Answers m) _ _ _
       (λ _. maybe-replies s (with_start s r) m (moves here (with_start s r) refl refl refl (start-gathered s.setup s.starts r _ lt h.reports)) h.stored-long false) λ _.

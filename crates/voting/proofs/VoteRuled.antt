@@ -7,7 +7,7 @@ use Rattle.state.specs.State.{changing_to, with_start, with_sent, with_clock}
 use Rattle.state.specs.declared.Replica.{Replica}
 use Rattle.steps.specs.Recorded.{only_sent}
 use Rattle.book.specs.Memory.{Memory}
-use Rattle.voting.specs.Votes.{sent_first, maybe_step, same_view_lem, start_view_change_step}
+use Rattle.voting.specs.Votes.{sent_first, maybe_step, same_view, start_view_change_step}
 use Rattle.steps.proofs.Ruled.{Has, RuledBy, cleared, still, asked-has, SentRuled}
 use Rattle.view_change.proofs.ChangeRuled.{start-view-has, started-has}
 use Rattle.do_view_change.proofs.RecordRuled.{send-ruled}
@@ -25,8 +25,8 @@ module _ (s : Replica) (m : Memory) (h : Has s m) where
   unfolding maybe_step
   maybe-ruled t first g = split RuledBy _ _ _ (λ _. send-ruled s (with_sent t) m h g first) (λ _. called-ruled s t m h g first)
 
-  same-view-ruled : (r : ℕ) → RuledBy (same_view_lem s r m)
-  unfolding same_view_lem
+  same-view-ruled : (r : ℕ) → RuledBy (same_view s r m)
+  unfolding same_view
   same-view-ruled r =
       split RuledBy _ _ _ (λ _. maybe-ruled (with_start s r) false h) λ _.
       split RuledBy _ _ _ (λ _. still h) λ _.

@@ -12,7 +12,7 @@ use Rattle.state.specs.declared.Replica.{Replica}
 use Rattle.steps.specs.Steps.{Spoke}
 use Rattle.steps.specs.Recorded.{Gathering, only_sent}
 use Rattle.book.specs.Memory.{Memory}
-use Rattle.voting.specs.Votes.{sent_first, maybe_step, same_view_lem, start_view_change_step}
+use Rattle.voting.specs.Votes.{sent_first, maybe_step, same_view, start_view_change_step}
 use Rattle.voting.specs.Tick.{view_after, next_view, next_view_asking, repeated, change_tick}
 use Rattle.state.proofs.SoundLaws.{none-gathered, start-gathered}
 use Rattle.steps.proofs.Held.{Held, Kept, as_it_was, moves, asked-held, still_kept, sent-kept}
@@ -42,8 +42,8 @@ module _ (s : Replica) (m : Memory) (h : Gathering s m) where
 
   -- ---- on_start_view_change
 
-  same-view-kept : (r : ℕ) → r < s.setup.n → Kept s.setup (same_view_lem s r m)
-  unfolding same_view_lem
+  same-view-kept : (r : ℕ) → r < s.setup.n → Kept s.setup (same_view s r m)
+  unfolding same_view
   same-view-kept r lt =
       split (Kept s.setup) _ _ _
       (λ _.

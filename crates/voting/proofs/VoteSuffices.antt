@@ -23,7 +23,7 @@ use Rattle.view_change.specs.StartViewChange.{calls_length}
 use Rattle.view_change.proofs.ChangeSuffices.{started-suffices, sent-start-view-suffices}
 use Rattle.do_view_change.specs.Begin.{first_length}
 use Rattle.do_view_change.proofs.RecordSuffices.{Enough, first_fits, send-suffices}
-use Rattle.voting.specs.Votes.{sent_first, maybe_step, same_view_lem, start_view_change_step}
+use Rattle.voting.specs.Votes.{sent_first, maybe_step, same_view, start_view_change_step}
 use Rattle.voting.specs.Tick.{view_after, next_view, next_view_asking, repeated, change_tick}
 
 -- from state t; s is the state as it was
@@ -51,8 +51,8 @@ module _ (s : Replica) (m : Memory) (h : Gathering s m) where
 
   -- ---- StartViewChange
 
-  same-view-suffices : (r : ℕ) → r < s.setup.n → EnoughHere (same_view_lem s r m)
-  unfolding same_view_lem
+  same-view-suffices : (r : ℕ) → r < s.setup.n → EnoughHere (same_view s r m)
+  unfolding same_view
   same-view-suffices r lt =
       split EnoughHere _ _ _
       (λ _. maybe-suffices s (with_start s r) m (moves here (with_start s r) refl refl refl (start-gathered s.setup s.starts r _ lt h.reports)) h.stored-long false) λ _.

@@ -3,9 +3,8 @@ ghost use Rattle.std.specs.Prelude.{◌≡◌, true, false, ◌+◌};
 ghost use Rattle.config.specs.Setup.{setup_ok};
 ghost use Rattle.steps.specs.Steps.{spoke};
 ghost use Rattle.steps.specs.Recorded.{Gathering, Does};
-ghost use Rattle.book.specs.Memory.{memory_held};
+ghost use Rattle.book.specs.Memory.{memory};
 ghost use Rattle.voting.specs.Tick.{in_last_view, next_view, next_view_asking, repeated, change_tick};
-ghost use Rattle.numbers.specs.Lending.{was, last};
 
 use clock::Clock;
 use numbers::View;
@@ -21,7 +20,7 @@ fn in_last_view(s: Replica) -> bool
 // The wait is over, in Normal and in ViewChange: the next view, or refusal 8.
 pub fn next_view(s: Replica, c: Clock, out: &mut [u8]) -> Returned
     requires { setup_ok s.setup ≡ true }
-    ensures { spoke result (last out) ≡ next_view s c (was out) }
+    ensures { spoke result out.new ≡ next_view s c out.old }
 {
     if in_last_view(s) {
         return state::refused(8, s);
@@ -33,7 +32,7 @@ pub fn next_view(s: Replica, c: Clock, out: &mut [u8]) -> Returned
 // The wait is over, in StateTransfer: GetState first, in the view that is left.
 pub fn next_view_asking(s: Replica, c: Clock, out: &mut [u8]) -> Returned
     requires { setup_ok s.setup ≡ true }
-    ensures { spoke result (last out) ≡ next_view_asking s c (was out) }
+    ensures { spoke result out.new ≡ next_view_asking s c out.old }
 {
     if in_last_view(s) {
         return state::refused(8, s);
@@ -67,8 +66,8 @@ fn repeat(
     out: &mut [u8],
     reps: &mut [u8],
 ) -> Returned
-    requires { Gathering s (memory_held log results totals acks stored out reps) }
-    ensures { Does (repeated s c) result log results totals acks stored out reps }
+    requires { Gathering s (memory log.old results.old totals.old acks.old stored.old out.old reps.old) }
+    ensures { Does (repeated s c) result (memory log.old results.old totals.old acks.old stored.old out.old reps.old) (memory log.new results.new totals.new acks.new stored.new out.new reps.new) }
 {
     let t = state::with_clock(s, c);
     let at = s.commit;
@@ -96,8 +95,8 @@ pub fn tick_change(
     out: &mut [u8],
     reps: &mut [u8],
 ) -> Returned
-    requires { Gathering s (memory_held log results totals acks stored out reps) }
-    ensures { Does (change_tick s c up) result log results totals acks stored out reps }
+    requires { Gathering s (memory log.old results.old totals.old acks.old stored.old out.old reps.old) }
+    ensures { Does (change_tick s c up) result (memory log.old results.old totals.old acks.old stored.old out.old reps.old) (memory log.new results.new totals.new acks.new stored.new out.new reps.new) }
 {
     if up {
         return next_view(s, c, out);

@@ -3,9 +3,8 @@ ghost use Rattle.std.specs.Prelude.{◌≡◌, true, ◌<◌};
 ghost use Rattle.config.specs.Setup.{setup_ok};
 ghost use Rattle.steps.specs.Steps.{spoke};
 ghost use Rattle.steps.specs.Recorded.{Gathering, Does};
-ghost use Rattle.book.specs.Memory.{memory_held};
+ghost use Rattle.book.specs.Memory.{memory};
 ghost use Rattle.voting.specs.Votes.{sent_first, report_due, maybe_step, same_view, start_view_change_step};
-ghost use Rattle.numbers.specs.Lending.{was, last};
 
 use numbers::View;
 use state::{Replica, Returned};
@@ -13,7 +12,7 @@ use state::{Replica, Returned};
 // Only what goes out first, from state t; `s` is the state as it was, for refusal 9.
 pub fn call(s: Replica, t: Replica, first: bool, out: &mut [u8]) -> Returned
     requires { setup_ok t.setup ≡ true }
-    ensures { spoke result (last out) ≡ sent_first s t first (was out) }
+    ensures { spoke result out.new ≡ sent_first s t first out.old }
 {
     if out.len() < do_view_change::begin::first_len(first, t) {
         return state::refused(9, s);
@@ -53,8 +52,8 @@ fn maybe_send_do_view_change(
     out: &mut [u8],
     reps: &mut [u8],
 ) -> Returned
-    requires { Gathering t (memory_held log results totals acks stored out reps) }
-    ensures { Does (maybe_step s t first) result log results totals acks stored out reps }
+    requires { Gathering t (memory log.old results.old totals.old acks.old stored.old out.old reps.old) }
+    ensures { Does (maybe_step s t first) result (memory log.old results.old totals.old acks.old stored.old out.old reps.old) (memory log.new results.new totals.new acks.new stored.new out.new reps.new) }
 {
     if !is_due(t) {
         return call(s, t, first, out);
@@ -85,8 +84,8 @@ fn on_same_view(
     out: &mut [u8],
     reps: &mut [u8],
 ) -> Returned
-    requires { Gathering s (memory_held log results totals acks stored out reps) × (r < s.setup.n) }
-    ensures { Does (same_view s r) result log results totals acks stored out reps }
+    requires { Gathering s (memory log.old results.old totals.old acks.old stored.old out.old reps.old) × (r < s.setup.n) }
+    ensures { Does (same_view s r) result (memory log.old results.old totals.old acks.old stored.old out.old reps.old) (memory log.new results.new totals.new acks.new stored.new out.new reps.new) }
 {
     let status = s.status;
     if state::is_changing(status) {
@@ -117,8 +116,8 @@ pub fn on_start_view_change(
     out: &mut [u8],
     reps: &mut [u8],
 ) -> Returned
-    requires { Gathering s (memory_held log results totals acks stored out reps) × (r < s.setup.n) }
-    ensures { Does (start_view_change_step s v r) result log results totals acks stored out reps }
+    requires { Gathering s (memory log.old results.old totals.old acks.old stored.old out.old reps.old) × (r < s.setup.n) }
+    ensures { Does (start_view_change_step s v r) result (memory log.old results.old totals.old acks.old stored.old out.old reps.old) (memory log.new results.new totals.new acks.new stored.new out.new reps.new) }
 {
     if v.0 < s.view.0 {
         return state::done(s, 0, 0, false);

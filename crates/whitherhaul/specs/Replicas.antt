@@ -12,8 +12,6 @@ use Rattle.outside.specs.Takings.{taken, takings_call}
 use Rattle.outside.specs.declared.takings.Taken.{Taken}
 use Rattle.replica.specs.Promise.{MessagePromise, IdlePromise, CreatePromise, RecoverPromise, TakingsPromise}
 use Rattle.state_bytes.specs.Layout.{state_of, encode_state, state_ok, HoldsState}
-use Rattle.numbers.specs.Lending.{last}
-use Rattle.book.specs.Memory.{Run}
 
 -- what a call returns and leaves: its number, the counts of message and reply bytes, the state run, everything else that was lent
 pub record Ran : Type 0 where
@@ -25,11 +23,9 @@ pub record Ran : Type 0 where
 abbrev pub ran : (code : ℕ) (counts state : List ℕ) → Lent → Ran
 ran k counts state x = record { code = k; counts = counts; state = state; lent = x }
 
--- a call that returns a number and counts, on these runs, keeps a promise
-abbrev pub Ends : (promise : Lent → Ran → Type 0) (code : ℕ) (counts : List ℕ) (state : Run) → (log results totals acks stored table out reps : Run) → Type 0
-Ends promise code counts state log results totals acks stored table out reps =
-    promise (lent_before log results totals acks stored table out reps)
-    (ran code counts (last state) (lent_after log results totals acks stored table out reps))
+-- a call that returns a number and counts and leaves this state run, on this and leaving that, keeps a promise
+abbrev pub Ends : (promise : Lent → Ran → Type 0) (code : ℕ) (counts state : List ℕ) → (before after : Lent) → Type 0
+Ends promise code counts state before after = promise before (ran code counts state after)
 
 -- the state run after a call
 unfoldable pub kept_state : Returned → (state : List ℕ) → List ℕ

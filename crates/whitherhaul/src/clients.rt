@@ -3,7 +3,6 @@ ghost use Rattle.std.specs.Prelude.{◌≡◌};
 ghost use Rattle.client.specs.Replies.{outcome_number, reply_ok};
 ghost use Rattle.offsets.specs.Offsets.{Points};
 ghost use Rattle.whitherhaul.specs.Clients.{ClientCreateRan, RequestRan, ReplyRan, client_idle_run, read_run};
-ghost use Rattle.numbers.specs.Lending.{was, last};
 
 use client::{Read, ReplyOutcome};
 use numbers::View;
@@ -11,7 +10,7 @@ use numbers::View;
 // create
 #[unsafe(no_mangle)]
 pub extern "C" fn whitherhaul_client_create(n: u32, id: u64, held: &mut [u8]) -> u8
-    ensures { ClientCreateRan n id (was held) (record { code = result; run = last held }) }
+    ensures { ClientCreateRan n id held.old (record { code = result; run = held.new }) }
 {
     if held.len() != 54 {
         return 1;
@@ -35,7 +34,7 @@ pub extern "C" fn whitherhaul_client_request(
     area: &mut [u8],
     answers: &mut [u64; 2],
 ) -> u8
-    ensures { RequestRan (was held) operation member cents (was area) (record { code = result; answers = last answers; run = last held; area = last area }) }
+    ensures { RequestRan held.old operation member cents area.old (record { code = result; answers = answers.new; run = held.new; area = area.new }) }
 {
     *answers = [0, 0];
     if !client_bytes::client_ok(held) {
@@ -65,7 +64,7 @@ pub extern "C" fn whitherhaul_client_reply(
     view: u32,
     answers: &mut [u64; 1],
 ) -> u8
-    ensures { ReplyRan (was held) number (record { 0 = view }) (record { code = result; answers = last answers; run = last held }) }
+    ensures { ReplyRan held.old number (record { 0 = view }) (record { code = result; answers = answers.new; run = held.new }) }
 {
     *answers = [0];
     if !client_bytes::client_ok(held) {
@@ -88,7 +87,7 @@ pub extern "C" fn whitherhaul_client_idle(
     area: &mut [u8],
     answers: &mut [u64; 1],
 ) -> u8
-    ensures { (record { code = result; answers = last answers; area = last area }) ≡ client_idle_run (was held) (was area) }
+    ensures { (record { code = result; answers = answers.new; area = area.new }) ≡ client_idle_run held.now area.old }
 {
     *answers = [0];
     if !client_bytes::client_ok(held) {
@@ -120,7 +119,7 @@ pub extern "C" fn whitherhaul_read_reply(
     answers: &mut [u64; 5],
     offset: &mut u64,
 ) -> u8
-    ensures { ((record { code = result; answers = last answers }) ≡ read_run (was frame)) × Points reply_ok (was frame) result (last offset) }
+    ensures { ((record { code = result; answers = answers.new }) ≡ read_run frame.now) × Points reply_ok frame.now result offset.new }
 {
     *answers = [0, 0, 0, 0, 0];
     *offset = 0;

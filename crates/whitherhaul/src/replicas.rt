@@ -5,8 +5,7 @@ ghost use Rattle.frames.specs.Kinds.{well_formed};
 ghost use Rattle.state_bytes.specs.Layout.{state_of, Onward, Clocked, state_ok, is_quiet};
 ghost use Rattle.whitherhaul.specs.Replicas.{KeptIn, may_be_usual, CreateRan, RecoverRan, MessageRan, IdleRan, TakingsRan, Ends};
 ghost use Rattle.outside.specs.Takings.{taken};
-ghost use Rattle.numbers.specs.Lending.{was, last};
-ghost use Rattle.book.specs.Memory.{unlent};
+ghost use Rattle.replica.specs.Lent.{lent};
 
 use numbers::View;
 use state::Returned;
@@ -14,7 +13,7 @@ use state::Returned;
 // The state after a call that wasn't refused; a refused one leaves the run as it was.
 fn keep(a: Returned, state: &mut [u8]) -> u8
     requires { length state.old ≡ 154 }
-    ensures { KeptIn a (was state) (last state) result }
+    ensures { KeptIn a state.old state.new result }
 {
     if a.code != 0 {
         return a.code;
@@ -27,7 +26,7 @@ fn keep(a: Returned, state: &mut [u8]) -> u8
 // The same of an answer that is further on in the view of the state that the run holds.
 fn keep_onward(a: Returned, state: &mut [u8]) -> u8
     requires { (state_ok state.old ≡ true) × Onward (state_of state.old) a.state }
-    ensures { KeptIn a (was state) (last state) result }
+    ensures { KeptIn a state.old state.new result }
 {
     if a.code != 0 {
         return a.code;
@@ -40,7 +39,7 @@ fn keep_onward(a: Returned, state: &mut [u8]) -> u8
 // And of one that has another clock only.
 fn keep_clocked(a: Returned, state: &mut [u8]) -> u8
     requires { (state_ok state.old ≡ true) × Clocked (state_of state.old) a.state }
-    ensures { KeptIn a (was state) (last state) result }
+    ensures { KeptIn a state.old state.new result }
 {
     if a.code != 0 {
         return a.code;
@@ -66,7 +65,7 @@ pub extern "C" fn whitherhaul_create(
     stored: &[u8],
     table: &mut [u8],
 ) -> u8
-    ensures { Ends (CreateRan (record { n = n; id = id; timeout = timeout; room = room; members = members }) (was state)) result (0 ∷ 0 ∷ []) state log results totals acks stored table unlent unlent }
+    ensures { Ends (CreateRan (record { n = n; id = id; timeout = timeout; room = room; members = members }) state.old) result (0 ∷ 0 ∷ []) state.new (lent log.now results.now totals.old acks.old stored.now table.old [] []) (lent log.now results.now totals.new acks.new stored.now table.new [] []) }
 {
     if state.len() != 154 {
         return 1;
@@ -101,7 +100,7 @@ pub extern "C" fn whitherhaul_recover(
     out: &mut [u8],
     counts: &mut [u64; 2],
 ) -> u8
-    ensures { Ends (RecoverRan (record { n = n; id = id; timeout = timeout; room = room; members = members }) (record { 0 = view }) nonce (was state)) result (last counts) state log results totals acks stored table out unlent }
+    ensures { Ends (RecoverRan (record { n = n; id = id; timeout = timeout; room = room; members = members }) (record { 0 = view }) nonce state.old) result counts.new state.new (lent log.now results.now totals.old acks.old stored.now table.old out.old []) (lent log.now results.now totals.new acks.new stored.now table.new out.new []) }
 {
     *counts = [0, 0];
     if state.len() != 154 {
@@ -143,7 +142,7 @@ fn message_whole(
     offset: &mut u64,
 ) -> u8
     requires { state_ok state.old ≡ true }
-    ensures { Ends (MessageRan (was state) (was frame)) result (last counts) state log results totals acks stored table out reps × Points well_formed (was frame) result (last offset) }
+    ensures { Ends (MessageRan state.old frame.now) result counts.new state.new (lent log.old results.old totals.old acks.old stored.old table.old out.old reps.old) (lent log.new results.new totals.new acks.new stored.new table.new out.new reps.new) × Points well_formed frame.now result offset.new }
 {
     let r = replica::call::on_message(
         state_bytes::read_state(state),
@@ -179,7 +178,7 @@ fn message_usual(
     offset: &mut u64,
 ) -> u8
     requires { (state_ok state.old ≡ true) × (is_quiet state.old ≡ true) }
-    ensures { Ends (MessageRan (was state) (was frame)) result (last counts) state log results totals acks stored table out reps × Points well_formed (was frame) result (last offset) }
+    ensures { Ends (MessageRan state.old frame.now) result counts.new state.new (lent log.old results.old totals.old acks.old stored.old table.old out.old reps.old) (lent log.new results.new totals.new acks.new stored.new table.new out.new reps.new) × Points well_formed frame.now result offset.new }
 {
     let s = state_bytes::read_quiet(state);
     if !usual::is_usual(s, frame) {
@@ -198,7 +197,7 @@ fn message_usual(
 
 // Whether a frame may be a usual one: it names a kind, and no report is there.
 fn may_be_usual(quiet: bool, frame: &[u8]) -> bool
-    ensures { result ≡ may_be_usual quiet (was frame) }
+    ensures { result ≡ may_be_usual quiet frame.now }
 {
     if frame.len() < 7 {
         return false;
@@ -222,7 +221,7 @@ pub extern "C" fn whitherhaul_on_message(
     counts: &mut [u64; 2],
     offset: &mut u64,
 ) -> u8
-    ensures { Ends (MessageRan (was state) (was frame)) result (last counts) state log results totals acks stored table out reps × Points well_formed (was frame) result (last offset) }
+    ensures { Ends (MessageRan state.old frame.now) result counts.new state.new (lent log.old results.old totals.old acks.old stored.old table.old out.old reps.old) (lent log.new results.new totals.new acks.new stored.new table.new out.new reps.new) × Points well_formed frame.now result offset.new }
 {
     *counts = [0, 0];
     *offset = 0;
@@ -271,7 +270,7 @@ fn tick_whole(
     counts: &mut [u64; 2],
 ) -> u8
     requires { state_ok state.old ≡ true }
-    ensures { Ends (IdleRan (was state)) result (last counts) state log results totals acks stored table out reps }
+    ensures { Ends (IdleRan state.old) result counts.new state.new (lent log.old results.old totals.old acks.old stored.old table.old out.old reps.old) (lent log.new results.new totals.new acks.new stored.new table.new out.new reps.new) }
 {
     let a = replica::call::on_idle(
         state_bytes::read_state(state),
@@ -302,7 +301,7 @@ fn tick_usual(
     counts: &mut [u64; 2],
 ) -> u8
     requires { (state_ok state.old ≡ true) × (is_quiet state.old ≡ true) }
-    ensures { Ends (IdleRan (was state)) result (last counts) state log results totals acks stored table out reps }
+    ensures { Ends (IdleRan state.old) result counts.new state.new (lent log.old results.old totals.old acks.old stored.old table.old out.old reps.old) (lent log.new results.new totals.new acks.new stored.new table.new out.new reps.new) }
 {
     let s = state_bytes::read_quiet(state);
     if !usual::is_leading(s) {
@@ -329,7 +328,7 @@ pub extern "C" fn whitherhaul_on_idle(
     reps: &mut [u8],
     counts: &mut [u64; 2],
 ) -> u8
-    ensures { Ends (IdleRan (was state)) result (last counts) state log results totals acks stored table out reps }
+    ensures { Ends (IdleRan state.old) result counts.new state.new (lent log.old results.old totals.old acks.old stored.old table.old out.old reps.old) (lent log.new results.new totals.new acks.new stored.new table.new out.new reps.new) }
 {
     *counts = [0, 0];
     let l = state_bytes::look_over(state);
@@ -349,7 +348,7 @@ pub extern "C" fn whitherhaul_on_idle(
 // takings: the sum over all members, 0 where it is refused. Nothing is written but the answer.
 #[unsafe(no_mangle)]
 pub extern "C" fn whitherhaul_takings(state: &[u8], cents: &mut u64) -> u8
-    ensures { TakingsRan (was state) (taken result (last cents)) }
+    ensures { TakingsRan state.now (taken result cents.new) }
 {
     *cents = 0;
     if !state_bytes::look_over(state).ok {

@@ -3,7 +3,6 @@ ghost use Rattle.std.specs.Prelude.{[], ◌+◌, ◌-◌, ◌*◌, ◌≤◌, le
 ghost use Rattle.numbers.specs.Numbers.{Wrote};
 ghost use Rattle.frames.specs.Kinds.{fields_end, state_end};
 ghost use Rattle.writers.specs.Writers.{encode};
-ghost use Rattle.numbers.specs.Lending.{was, last};
 
 use crate::parts;
 use entries::Entry;
@@ -12,7 +11,7 @@ use numbers::{Op, View};
 
 pub fn prepare(area: &mut [u8], to: u8, v: View, o: Op, c: Op, e: Entry) -> usize
     requires { fields_end 2 + 32 ≤ length area.old }
-    ensures { Wrote (encode to (Message.Prepare v o c e) []) (was area) (last area) result }
+    ensures { Wrote (encode to (Message.Prepare v o c e) []) area.old area.new result }
 {
     parts::write_viewed(area, 47, 2, to, v);
     numbers::write_u32(&mut area[11..], o.0);
@@ -23,7 +22,7 @@ pub fn prepare(area: &mut [u8], to: u8, v: View, o: Op, c: Op, e: Entry) -> usiz
 
 pub fn prepare_ok(area: &mut [u8], to: u8, v: View, o: Op, r: u8) -> usize
     requires { fields_end 3 ≤ length area.old }
-    ensures { Wrote (encode to (Message.PrepareOk v o r) []) (was area) (last area) result }
+    ensures { Wrote (encode to (Message.PrepareOk v o r) []) area.old area.new result }
 {
     parts::write_viewed(area, 12, 3, to, v);
     numbers::write_u32(&mut area[11..], o.0);
@@ -33,7 +32,7 @@ pub fn prepare_ok(area: &mut [u8], to: u8, v: View, o: Op, r: u8) -> usize
 
 pub fn commit(area: &mut [u8], to: u8, v: View, c: Op) -> usize
     requires { fields_end 4 ≤ length area.old }
-    ensures { Wrote (encode to (Message.Commit v c) []) (was area) (last area) result }
+    ensures { Wrote (encode to (Message.Commit v c) []) area.old area.new result }
 {
     parts::write_viewed(area, 11, 4, to, v);
     numbers::write_u32(&mut area[11..], c.0);
@@ -42,7 +41,7 @@ pub fn commit(area: &mut [u8], to: u8, v: View, c: Op) -> usize
 
 pub fn get_state(area: &mut [u8], to: u8, r: u8, v: View, o: Op) -> usize
     requires { fields_end 5 ≤ length area.old }
-    ensures { Wrote (encode to (Message.GetState r v o) []) (was area) (last area) result }
+    ensures { Wrote (encode to (Message.GetState r v o) []) area.old area.new result }
 {
     parts::write_header(area, 12, 5, to);
     numbers::write_u8(&mut area[7..], r);
@@ -54,7 +53,7 @@ pub fn get_state(area: &mut [u8], to: u8, r: u8, v: View, o: Op) -> usize
 // The entries after op number a, up to z; `log` begins with them.
 pub fn new_state(area: &mut [u8], to: u8, v: View, a: Op, z: Op, c: Op, log: &[u8]) -> usize
     requires { (z.0 - a.0 ≤ 4096) × ((32 * (z.0 - a.0) ≤ length log.now) × (fields_end 6 + 32 * (z.0 - a.0) ≤ length area.old)) }
-    ensures { Wrote (encode to (Message.NewState v a z c) (take (32 * (z.0 - a.0)) (was log))) (was area) (last area) result }
+    ensures { Wrote (encode to (Message.NewState v a z c) (take (32 * (z.0 - a.0)) log.now)) area.old area.new result }
 {
     let k = crate::span(a, z);
     let n = 32 * (k as usize);
@@ -66,7 +65,7 @@ pub fn new_state(area: &mut [u8], to: u8, v: View, a: Op, z: Op, c: Op, log: &[u
 
 pub fn start_view_change(area: &mut [u8], to: u8, v: View, r: u8) -> usize
     requires { fields_end 7 ≤ length area.old }
-    ensures { Wrote (encode to (Message.StartViewChange v r) []) (was area) (last area) result }
+    ensures { Wrote (encode to (Message.StartViewChange v r) []) area.old area.new result }
 {
     parts::write_viewed(area, 8, 7, to, v);
     numbers::write_u8(&mut area[11..], r);
@@ -84,7 +83,7 @@ pub fn do_view_change(
     log: &[u8],
 ) -> usize
     requires { (o.0 ≤ 4096) × ((32 * o.0 ≤ length log.now) × (fields_end 8 + 32 * o.0 ≤ length area.old)) }
-    ensures { Wrote (encode to (Message.DoViewChange v r l o c) (take (32 * o.0) (was log))) (was area) (last area) result }
+    ensures { Wrote (encode to (Message.DoViewChange v r l o c) (take (32 * o.0) log.now)) area.old area.new result }
 {
     let n = 32 * (o.0 as usize);
     parts::write_report(area, 20 + 32 * o.0, to, v, r, l);
@@ -96,7 +95,7 @@ pub fn do_view_change(
 
 pub fn start_view(area: &mut [u8], to: u8, v: View, o: Op, c: Op, log: &[u8]) -> usize
     requires { (o.0 ≤ 4096) × ((32 * o.0 ≤ length log.now) × (fields_end 9 + 32 * o.0 ≤ length area.old)) }
-    ensures { Wrote (encode to (Message.StartView v o c) (take (32 * o.0) (was log))) (was area) (last area) result }
+    ensures { Wrote (encode to (Message.StartView v o c) (take (32 * o.0) log.now)) area.old area.new result }
 {
     let n = 32 * (o.0 as usize);
     parts::write_viewed(area, 15 + 32 * o.0, 9, to, v);
@@ -108,7 +107,7 @@ pub fn start_view(area: &mut [u8], to: u8, v: View, o: Op, c: Op, log: &[u8]) ->
 
 pub fn recovery(area: &mut [u8], to: u8, r: u8, x: u64, v: View) -> usize
     requires { fields_end 10 ≤ length area.old }
-    ensures { Wrote (encode to (Message.Recovery r x v) []) (was area) (last area) result }
+    ensures { Wrote (encode to (Message.Recovery r x v) []) area.old area.new result }
 {
     parts::write_header(area, 16, 10, to);
     numbers::write_u8(&mut area[7..], r);
@@ -120,7 +119,7 @@ pub fn recovery(area: &mut [u8], to: u8, r: u8, x: u64, v: View) -> usize
 // A RecoveryResponse of a replica that does not lead.
 pub fn response_bare(area: &mut [u8], to: u8, v: View, x: u64, r: u8) -> usize
     requires { fields_end 11 ≤ length area.old }
-    ensures { Wrote (encode to (Message.RecoveryResponse v x r RecoveryState.Absent) []) (was area) (last area) result }
+    ensures { Wrote (encode to (Message.RecoveryResponse v x r RecoveryState.Absent) []) area.old area.new result }
 {
     parts::write_response(area, 17, to, v, x, r, 0);
     21
@@ -138,7 +137,7 @@ pub fn response_full(
     log: &[u8],
 ) -> usize
     requires { (o.0 ≤ 4096) × ((32 * o.0 ≤ length log.now) × (state_end + 32 * o.0 ≤ length area.old)) }
-    ensures { Wrote (encode to (Message.RecoveryResponse v x r (RecoveryState.Present o c)) (take (32 * o.0) (was log))) (was area) (last area) result }
+    ensures { Wrote (encode to (Message.RecoveryResponse v x r (RecoveryState.Present o c)) (take (32 * o.0) log.now)) area.old area.new result }
 {
     let n = 32 * (o.0 as usize);
     parts::write_response(area, 25 + 32 * o.0, to, v, x, r, 1);

@@ -4,7 +4,6 @@ ghost use Rattle.numbers.specs.Numbers.{Wrote};
 ghost use Rattle.numbers.specs.Words.{if◌then◌else◌};
 ghost use Rattle.frames.specs.Kinds.{fields_end};
 ghost use Rattle.writers.specs.Writers.{encode, reply, state_size, size_of, length_of, Room, to_others};
-ghost use Rattle.numbers.specs.Lending.{was, last};
 
 use entries::Entry;
 use frames::{Message, RecoveryState};
@@ -14,7 +13,7 @@ mod parts; // the header, and the fields of frames that carry a log
 pub mod kinds; // a writer for each kind that replicas send each other
 
 // The bytes of a frame before the log that it carries, and how many entries that has.
-#[derive(Drop)]
+#[derive(Clone, Copy)]
 pub struct Size {
     pub fields: usize,
     pub entries: u32,
@@ -23,7 +22,7 @@ pub struct Size {
 // A Request to replica `to`.
 pub fn write_request(area: &mut [u8], to: u8, e: Entry) -> usize
     requires { fields_end 1 + 32 ≤ length area.old }
-    ensures { Wrote (encode to (Message.Request e) []) (was area) (last area) result }
+    ensures { Wrote (encode to (Message.Request e) []) area.old area.new result }
 {
     parts::write_header(area, 35, 1, to);
     entries::write_entry(&mut area[7..], e);
@@ -40,7 +39,7 @@ pub fn write_reply(
     total: u64,
 ) -> usize
     requires { 36 ≤ length area.old }
-    ensures { Wrote (reply v client request outcome total) (was area) (last area) result }
+    ensures { Wrote (reply v client request outcome total) area.old area.new result }
 {
     parts::write_answered(area, v, client, request);
     numbers::write_u8(&mut area[27..], outcome);
@@ -109,7 +108,7 @@ fn write_state(
     log: &[u8],
 ) -> usize
     requires { Room (Message.RecoveryResponse v x r state) (length log.now) (length area.old) }
-    ensures { Wrote (encode to (Message.RecoveryResponse v x r state) (take (32 * (size_of (Message.RecoveryResponse v x r state)).entries) (was log))) (was area) (last area) result }
+    ensures { Wrote (encode to (Message.RecoveryResponse v x r state) (take (32 * (size_of (Message.RecoveryResponse v x r state)).entries) log.now)) area.old area.new result }
 {
     match state {
         RecoveryState::Absent => kinds::response_bare(area, to, v, x, r),
@@ -122,7 +121,7 @@ fn write_state(
 // A message's frame to replica `to`. `log` begins with the entries that it carries.
 pub fn write_frame(area: &mut [u8], to: u8, m: Message, log: &[u8]) -> usize
     requires { Room m (length log.now) (length area.old) }
-    ensures { Wrote (encode to m (take (32 * (size_of m).entries) (was log))) (was area) (last area) result }
+    ensures { Wrote (encode to m (take (32 * (size_of m).entries) log.now)) area.old area.new result }
 {
     match m {
         Message::Request { entry } => write_request(area, to, entry),
@@ -165,7 +164,7 @@ pub fn write_frame(area: &mut [u8], to: u8, m: Message, log: &[u8]) -> usize
 // A message's frame, or nothing where it would go to ourselves.
 fn write_other(area: &mut [u8], to: u8, me: u8, m: Message, log: &[u8]) -> usize
     requires { (to ≡ me → ⊥) → Room m (length log.now) (length area.old) }
-    ensures { Wrote (if eqb to me then [] else encode to m (take (32 * (size_of m).entries) (was log))) (was area) (last area) result }
+    ensures { Wrote (if eqb to me then [] else encode to m (take (32 * (size_of m).entries) log.now)) area.old area.new result }
 {
     if to == me {
         return 0;
@@ -176,7 +175,7 @@ fn write_other(area: &mut [u8], to: u8, me: u8, m: Message, log: &[u8]) -> usize
 // A message to each replica but ourselves, in id order: the rest of the area is lent to the next frame.
 pub fn broadcast(area: &mut [u8], n: u8, me: u8, m: Message, log: &[u8]) -> usize
     requires { (me < n) × (((size_of m).entries ≤ 4096) × ((32 * (size_of m).entries ≤ length log.now) × ((n - 1) * length_of m ≤ length area.old))) }
-    ensures { Wrote (to_others n me m (take (32 * (size_of m).entries) (was log))) (was area) (last area) result }
+    ensures { Wrote (to_others n me m (take (32 * (size_of m).entries) log.now)) area.old area.new result }
 {
     let mut at = 0;
     let mut to = 0;

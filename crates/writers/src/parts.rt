@@ -2,14 +2,13 @@
 ghost use Rattle.std.specs.Prelude.{◌++◌, ◌≡◌, ◌≤◌, length};
 ghost use Rattle.numbers.specs.Numbers.{big, over};
 ghost use Rattle.writers.specs.Writers.{header};
-ghost use Rattle.numbers.specs.Lending.{was, last};
 
 use numbers::{Op, View};
 
 // Length, version, kind, addressee.
 pub fn write_header(area: &mut [u8], len: u32, kind: u8, to: u8)
     requires { 7 ≤ length area.old }
-    ensures { last area ≡ over (header len kind to) (was area) }
+    ensures { area.new ≡ over (header len kind to) area.old }
 {
     numbers::write_u32(area, len);
     numbers::write_u8(&mut area[4..], 1);
@@ -20,7 +19,7 @@ pub fn write_header(area: &mut [u8], len: u32, kind: u8, to: u8)
 // The header, and a view number.
 pub fn write_viewed(area: &mut [u8], len: u32, kind: u8, to: u8, v: View)
     requires { 11 ≤ length area.old }
-    ensures { last area ≡ over (header len kind to ++ big 4 v.0) (was area) }
+    ensures { area.new ≡ over (header len kind to ++ big 4 v.0) area.old }
 {
     write_header(area, len, kind, to);
     numbers::write_u32(&mut area[7..], v.0);
@@ -29,7 +28,7 @@ pub fn write_viewed(area: &mut [u8], len: u32, kind: u8, to: u8, v: View)
 // A NewState up to its end.
 pub fn write_span(area: &mut [u8], len: u32, to: u8, v: View, a: Op, z: Op)
     requires { 19 ≤ length area.old }
-    ensures { last area ≡ over (header len 6 to ++ big 4 v.0 ++ big 4 a.0 ++ big 4 z.0) (was area) }
+    ensures { area.new ≡ over (header len 6 to ++ big 4 v.0 ++ big 4 a.0 ++ big 4 z.0) area.old }
 {
     write_viewed(area, len, 6, to, v);
     numbers::write_u32(&mut area[11..], a.0);
@@ -39,7 +38,7 @@ pub fn write_span(area: &mut [u8], len: u32, to: u8, v: View, a: Op, z: Op)
 // A Reply up to the request number.
 pub fn write_answered(area: &mut [u8], v: View, client: u64, request: u64)
     requires { 27 ≤ length area.old }
-    ensures { last area ≡ over (header 32 12 0 ++ big 4 v.0 ++ big 8 client ++ big 8 request) (was area) }
+    ensures { area.new ≡ over (header 32 12 0 ++ big 4 v.0 ++ big 8 client ++ big 8 request) area.old }
 {
     write_viewed(area, 32, 12, 0, v);
     numbers::write_u64(&mut area[11..], client);
@@ -49,7 +48,7 @@ pub fn write_answered(area: &mut [u8], v: View, client: u64, request: u64)
 // A DoViewChange up to the last normal view.
 pub fn write_report(area: &mut [u8], len: u32, to: u8, v: View, r: u8, l: View)
     requires { 16 ≤ length area.old }
-    ensures { last area ≡ over (header len 8 to ++ big 4 v.0 ++ big 1 r ++ big 4 l.0) (was area) }
+    ensures { area.new ≡ over (header len 8 to ++ big 4 v.0 ++ big 1 r ++ big 4 l.0) area.old }
 {
     write_viewed(area, len, 8, to, v);
     numbers::write_u8(&mut area[11..], r);
@@ -59,7 +58,7 @@ pub fn write_report(area: &mut [u8], len: u32, to: u8, v: View, r: u8, l: View)
 // A RecoveryResponse up to its mark: 0, or 1 where a log follows.
 pub fn write_response(area: &mut [u8], len: u32, to: u8, v: View, x: u64, r: u8, mark: u8)
     requires { 21 ≤ length area.old }
-    ensures { last area ≡ over (header len 11 to ++ big 4 v.0 ++ big 8 x ++ big 1 r ++ big 1 mark) (was area) }
+    ensures { area.new ≡ over (header len 11 to ++ big 4 v.0 ++ big 8 x ++ big 1 r ++ big 1 mark) area.old }
 {
     write_viewed(area, len, 11, to, v);
     numbers::write_u64(&mut area[11..], x);

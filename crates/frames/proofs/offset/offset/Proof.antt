@@ -10,7 +10,7 @@ use lib.ListN.{drop}
 use Rattle.numbers.specs.Numbers.{num}
 use Rattle.offsets.specs.Rules.{reach}
 use Rattle.frames.specs.Kinds.{kind_of}
-use Rattle.frames.specs.FrameRules.{fits, some_fits_lem, kind_rule, offset_of}
+use Rattle.frames.specs.FrameRules.{fits, some_fits, kind_rule, offset_of}
 use Rattle.frames.proofs.LiveLaws.{fits_low}
 use Rattle.frames.proofs.ReaderLaws.{length-short, length_none, length-wrong, length-there, version-short, kind-none, kind-wrong, kind-there}
 use Rattle.frames.proofs.offset.offset.Statement.{statement}
@@ -25,8 +25,8 @@ returns-2 c =
     sym (length_none t.before.before.before.args.frame.now _ t.before.number.ensures t.if1.false c.if2.true)
 
 -- the length as the code reads it
-some : (c : tie.After-some-fits) → c.some_fits.result ≡ some_fits_lem 11 (num 4 0 c.before.before.before.before.before.before.args.frame.now)
-some c = c.some_fits.ensures ∙ ap (some_fits_lem 11) c.before.read_u32.ensures
+some : (c : tie.After-some-fits) → c.some_fits.result ≡ some_fits 11 (num 4 0 c.before.before.before.before.before.before.args.frame.now)
+some c = c.some_fits.ensures ∙ ap (some_fits 11) c.before.read_u32.ensures
 
 returns-3 : tie.Need-returns-3
 returns-3 c =

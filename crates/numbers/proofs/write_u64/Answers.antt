@@ -1,0 +1,13 @@
+-- `numbers::write_u64` meets its contract: a turned number written the lowest byte first is big-endian. Assumes nothing.
+use Rattle.numbers.proofs.TurnLaws.{big-turned8}
+use Rattle.numbers.proofs.write_u64.Reads as reads
+use Rattle.numbers.proofs.write_u64.Lts as lts
+use Rattle.numbers.proofs.put8.Reads as put8-reads
+use Rattle.numbers.proofs.turned8.Reads as turned8-reads
+use Rattle.numbers.proofs.write_u64.Goals as goal
+
+-- src/lib.rt:171:1
+pub returns : goal.returns
+returns c =
+    let a = c.args in
+    rw (← big-turned8 a.x, ← c.turned8.ensures) c.put8.ensures
