@@ -1,8 +1,8 @@
 // A field at the front of what is left of a file: where it stands, how it ends, and what it says.
 ghost use Rattle.std.specs.Prelude.{◌≡◌, true, ◌+◌, ◌≤◌, ◌<◌, length, drop};
 ghost use Rattle.decimal.specs.Decimal.{said, no_number};
-ghost use Rattle.csv.specs.Table.{header_words};
-ghost use Rattle.csv.specs.Fields.{stops, stretch, ending, ending_size, plain_field, quoted_field, field_at_front, same, row_op_in, kind_in, cents_in, header_in, sense, wrong_field, judged_field, field_told};
+ghost use Rattle.csv_table.specs.Table.{header_words};
+ghost use Rattle.csv_table.specs.Fields.{stops, stretch, ending, ending_size, plain_field, quoted_field, field_at_front, same, row_op_in, kind_in, cents_in, header_in, sense, wrong_field, judged_field, field_told};
 
 use crate::{Field, FieldTold};
 use decimal::Number;

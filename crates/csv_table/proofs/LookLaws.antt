@@ -15,15 +15,15 @@ use lib.ListN.{length, drop, length-append, length-drop}
 use lib.Seq.{drop_at, drop-length}
 use Rattle.numbers.specs.Words.{if◌then◌else◌}
 use Rattle.entries.specs.declared.Entry.{Entry}
-use Rattle.csv.specs.Rows.{comma, crlf, RowText}
-use Rattle.csv.specs.Table.{header_words, entry_fields}
-use Rattle.csv.specs.Fields.{ending, ending_size}
-use Rattle.csv.specs.Reading.{no_values, entry_of_values, good_row, row_from, row_in, scanned_as, scanned_after}
-use Rattle.csv.specs.Laws.{IsRow, BeginsWith}
-use Rattle.csv.specs.declared.RowRead.{RowRead}
-use Rattle.csv.proofs.ScanLaws.{after-bad, after_last, after_next}
-use Rattle.csv.proofs.RowLaws.{EndsRow, SaysAll, put_all, file-ends, row_ends, row-complete, row-sound}
-use Rattle.csv.proofs.EntryRows.{header-fields, entry-fields}
+use Rattle.csv_table.specs.Rows.{comma, crlf, RowText}
+use Rattle.csv_table.specs.Table.{header_words, entry_fields}
+use Rattle.csv_table.specs.Fields.{ending, ending_size}
+use Rattle.csv_table.specs.Reading.{no_values, entry_of_values, good_row, row_from, row_in, scanned_as, scanned_after}
+use Rattle.csv_table.specs.Laws.{IsRow, BeginsWith}
+use Rattle.csv_table.specs.declared.RowRead.{RowRead}
+use Rattle.csv_table.proofs.ScanLaws.{after-bad, after_last, after_next}
+use Rattle.csv_table.proofs.RowLaws.{EndsRow, SaysAll, put_all, file-ends, row_ends, row-complete, row-sound}
+use Rattle.csv_table.proofs.EntryRows.{header-fields, entry-fields}
 
 -- ---- one row
 

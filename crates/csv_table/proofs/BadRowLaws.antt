@@ -13,13 +13,13 @@ use Rattle.numbers.specs.Words.{All}
 use Rattle.numbers.proofs.NumberLaws.{eq-or-not}
 use Rattle.entries.specs.Entries.{Sendable}
 use Rattle.entries.specs.declared.Entry.{Entry}
-use Rattle.csv.specs.Rows.{crlf, RowsText}
-use Rattle.csv.specs.Table.{header_words, entry_fields, entry_rows_after, table}
-use Rattle.csv.specs.Reading.{row_in, scanned_after, scanned}
-use Rattle.csv.specs.Laws.{BeginsWith, FirstBad}
-use Rattle.csv.specs.declared.Scanned.{Scanned}
-use Rattle.csv.proofs.LookLaws.{before, begins-good, empty-not, less_none, scan-bad, scan-end, scan-on}
-use Rattle.csv.proofs.TableLaws.{ended, EntryAt, entry_at, less-left, pos, HeaderAt, header_at, u, header-less, header-on}
+use Rattle.csv_table.specs.Rows.{crlf, RowsText}
+use Rattle.csv_table.specs.Table.{header_words, entry_fields, entry_rows_after, table}
+use Rattle.csv_table.specs.Reading.{row_in, scanned_after, scanned}
+use Rattle.csv_table.specs.Laws.{BeginsWith, FirstBad}
+use Rattle.csv_table.specs.declared.Scanned.{Scanned}
+use Rattle.csv_table.proofs.LookLaws.{before, begins-good, empty-not, less_none, scan-bad, scan-end, scan-on}
+use Rattle.csv_table.proofs.TableLaws.{ended, EntryAt, entry_at, less-left, pos, HeaderAt, header_at, u, header-less, header-on}
 
 -- the rows of entries before it, from row i + 1 on
 record BadRows (n i p : ℕ) (s : List ℕ) : Type 0 where

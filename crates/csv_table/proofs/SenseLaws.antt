@@ -22,9 +22,9 @@ use Rattle.entries.specs.Entries.{operation_ok}
 use Rattle.decimal.specs.Decimal.{decimal, all_figures, said, number_in}
 use Rattle.decimal.specs.declared.Number.{Number}
 use Rattle.decimal.proofs.DecimalLaws.{decimal-figures, decimal-there, number-of-decimal, number-there}
-use Rattle.csv.specs.Rows.{quote, comma, is_text, all_of}
-use Rattle.csv.specs.Table.{header_words, kind_word}
-use Rattle.csv.specs.Fields.{same, row_op_in, kind_in, cents_in, header_in, sense}
+use Rattle.csv_table.specs.Rows.{quote, comma, is_text, all_of}
+use Rattle.csv_table.specs.Table.{header_words, kind_word}
+use Rattle.csv_table.specs.Fields.{same, row_op_in, kind_in, cents_in, header_in, sense}
 
 -- ---- the same
 

@@ -19,15 +19,15 @@ use Rattle.numbers.proofs.CellLaws.{cells-length}
 use Rattle.entries.specs.Entries.{entry_of, encode_entry, entries, run_count, run_ok, Sendable}
 use Rattle.entries.specs.declared.Entry.{Entry}
 use Rattle.entries.proofs.SendableLaws.{run_long, run-sendable, run_is, entries-packed, packed-long, packed-ok, packed-entries}
-use Rattle.csv.specs.Table.{exported, IsTable}
-use Rattle.csv.specs.Reading.{scanned, table_entries}
-use Rattle.csv.specs.Calls.{LeftExported, exporting, export_call, LeftImported, importing, import_scanned, import_call}
-use Rattle.csv.specs.Laws.{text_of, run_of, AcceptsOnly, AcceptsAll, FirstBad, ImportsBack, ExportsBack, UntouchedByExport, UntouchedByImport}
-use Rattle.csv.specs.declared.Scanned.{Scanned}
-use Rattle.csv.proofs.TextLaws.{other, past}
-use Rattle.csv.proofs.TableLaws.{Looked, good-table, table_is}
-use Rattle.csv.proofs.BadRowLaws.{first-bad}
-use Rattle.csv.proofs.PlainLaws.{exported-is}
+use Rattle.csv_table.specs.Table.{exported, IsTable}
+use Rattle.csv_table.specs.Reading.{scanned, table_entries}
+use Rattle.csv_table.specs.Calls.{LeftExported, exporting, export_call, LeftImported, importing, import_scanned, import_call}
+use Rattle.csv_table.specs.Laws.{text_of, run_of, AcceptsOnly, AcceptsAll, FirstBad, ImportsBack, ExportsBack, UntouchedByExport, UntouchedByImport}
+use Rattle.csv_table.specs.declared.Scanned.{Scanned}
+use Rattle.csv_table.proofs.TextLaws.{other, past}
+use Rattle.csv_table.proofs.TableLaws.{Looked, good-table, table_is}
+use Rattle.csv_table.proofs.BadRowLaws.{first-bad}
+use Rattle.csv_table.proofs.PlainLaws.{exported-is}
 
 -- ---- import
 

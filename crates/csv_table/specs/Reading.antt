@@ -3,9 +3,9 @@
 use Rattle.std.specs.Prelude.{not, List, [], ◌∷◌, ℕ, zero, suc, ◌+◌, eqb, length, get_or, set, drop, replicate}
 use Rattle.numbers.specs.Words.{if◌then◌else◌}
 use Rattle.entries.specs.declared.Entry.{Entry}
-use Rattle.csv.specs.Fields.{field_told}
-use Rattle.csv.specs.declared.RowRead.{RowRead}
-use Rattle.csv.specs.declared.Scanned.{Scanned}
+use Rattle.csv_table.specs.Fields.{field_told}
+use Rattle.csv_table.specs.declared.RowRead.{RowRead}
+use Rattle.csv_table.specs.declared.Scanned.{Scanned}
 
 -- what the six fields say, none yet; and the entry that they make
 abbrev pub no_values : List ℕ

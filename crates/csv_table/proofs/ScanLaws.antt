@@ -15,10 +15,10 @@ use lib.Seq.{drop-drop}
 use borrow.Author.Tests.{eqb-true, eqb-false, eq-eqb, ne_eqb, not-true, not-false}
 use Rattle.numbers.proofs.WordLaws.{if-true, if-false, split}
 use Rattle.numbers.proofs.RunLaws.{part-rest}
-use Rattle.csv.specs.declared.RowRead.{RowRead}
-use Rattle.csv.specs.declared.Scanned.{Scanned}
-use Rattle.csv.specs.Reading.{row_in, scanned_as, scanned_after, scanned}
-use Rattle.csv.proofs.ReadingLaws.{row-used, row-place, row-some}
+use Rattle.csv_table.specs.declared.RowRead.{RowRead}
+use Rattle.csv_table.specs.declared.Scanned.{Scanned}
+use Rattle.csv_table.specs.Reading.{row_in, scanned_as, scanned_after, scanned}
+use Rattle.csv_table.proofs.ReadingLaws.{row-used, row-place, row-some}
 
 -- ---- a row at a time
 

@@ -22,8 +22,8 @@ use Rattle.entries.specs.Entries.{EntryFits}
 use Rattle.entries.specs.declared.Entry.{Entry}
 use Rattle.decimal.specs.Decimal.{decimal}
 use Rattle.decimal.proofs.DecimalLaws.{decimal-short}
-use Rattle.csv.specs.Rows.{comma, crlf}
-use Rattle.csv.specs.Table.{kind_word, entry_fields, joined_fields, plain_row, front_of, back_of}
+use Rattle.csv_table.specs.Rows.{comma, crlf}
+use Rattle.csv_table.specs.Table.{kind_word, entry_fields, joined_fields, plain_row, front_of, back_of}
 
 -- ---- one writer behind the other
 

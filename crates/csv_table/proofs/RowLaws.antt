@@ -20,15 +20,15 @@ use Rattle.numbers.proofs.WordLaws.{split, if-false, and_left}
 use Rattle.numbers.proofs.NumberLaws.{eq-or-not}
 use Rattle.decimal.specs.Decimal.{said}
 use Rattle.decimal.specs.declared.Number.{Number}
-use Rattle.csv.specs.Rows.{comma, crlf, FieldText, RowText}
-use Rattle.csv.specs.Fields.{stops, stretch, ending, ending_size, field_at_front, content, sense, judged_field, field_told}
-use Rattle.csv.specs.Reading.{good_row, row_from}
-use Rattle.csv.specs.declared.Field.{Field}
-use Rattle.csv.specs.declared.FieldTold.{FieldTold}
-use Rattle.csv.specs.declared.RowRead.{RowRead}
-use Rattle.csv.proofs.TextLaws.{other, past, ending-cons, text_of, of-text, text-free, ends-comma, ends-row, ends-file, field-complete, field-sound}
-use Rattle.csv.proofs.ReadingLaws.{row_step}
-use Rattle.csv.proofs.SenseLaws.{sense-text}
+use Rattle.csv_table.specs.Rows.{comma, crlf, FieldText, RowText}
+use Rattle.csv_table.specs.Fields.{stops, stretch, ending, ending_size, field_at_front, content, sense, judged_field, field_told}
+use Rattle.csv_table.specs.Reading.{good_row, row_from}
+use Rattle.csv_table.specs.declared.Field.{Field}
+use Rattle.csv_table.specs.declared.FieldTold.{FieldTold}
+use Rattle.csv_table.specs.declared.RowRead.{RowRead}
+use Rattle.csv_table.proofs.TextLaws.{other, past, ending-cons, text_of, of-text, text-free, ends-comma, ends-row, ends-file, field-complete, field-sound}
+use Rattle.csv_table.proofs.ReadingLaws.{row_step}
+use Rattle.csv_table.proofs.SenseLaws.{sense-text}
 
 -- ---- what stands behind a field
 

@@ -7,11 +7,11 @@ use Rattle.numbers.specs.Numbers.{over}
 use Rattle.numbers.specs.Cells.{packed}
 use Rattle.entries.specs.Entries.{encode_entry, entries, run_count, run_ok}
 use Rattle.entries.specs.declared.Entry.{Entry}
-use Rattle.csv.specs.Table.{exported}
-use Rattle.csv.specs.Reading.{scanned, table_entries}
-use Rattle.csv.specs.declared.Scanned.{Scanned}
-use Rattle.csv.specs.declared.Exported.{Exported}
-use Rattle.csv.specs.declared.Imported.{Imported}
+use Rattle.csv_table.specs.Table.{exported}
+use Rattle.csv_table.specs.Reading.{scanned, table_entries}
+use Rattle.csv_table.specs.declared.Scanned.{Scanned}
+use Rattle.csv_table.specs.declared.Exported.{Exported}
+use Rattle.csv_table.specs.declared.Imported.{Imported}
 
 -- ---- export
 

@@ -6,9 +6,9 @@ use Rattle.numbers.specs.Words.{All}
 use Rattle.numbers.specs.Numbers.{over}
 use Rattle.entries.specs.Entries.{entries, run_count, Sendable}
 use Rattle.entries.specs.declared.Entry.{Entry}
-use Rattle.csv.specs.Rows.{crlf, RowText, RowsText}
-use Rattle.csv.specs.Table.{header_words, entry_fields, table, exported, IsTable}
-use Rattle.csv.specs.Calls.{LeftExported, not_exported, export_call, LeftImported, not_imported, importing, import_call}
+use Rattle.csv_table.specs.Rows.{crlf, RowText, RowsText}
+use Rattle.csv_table.specs.Table.{header_words, entry_fields, table, exported, IsTable}
+use Rattle.csv_table.specs.Calls.{LeftExported, not_exported, export_call, LeftImported, not_imported, importing, import_call}
 
 -- the text that a call wrote, and the run of entries that a call gave
 abbrev pub text_of : LeftExported → List ℕ

@@ -21,11 +21,11 @@ use Rattle.numbers.proofs.RunLaws.{part-rest}
 use Rattle.decimal.specs.Decimal.{number_in}
 use Rattle.decimal.specs.declared.Number.{Number}
 use Rattle.decimal.proofs.DecimalLaws.{number_bound}
-use Rattle.csv.specs.declared.FieldTold.{FieldTold}
-use Rattle.csv.specs.declared.RowRead.{RowRead}
-use Rattle.csv.specs.Fields.{field_at_front, content, kind_in, header_in, sense, field_told}
-use Rattle.csv.specs.Reading.{no_values, good_row, bad_row, row_from, row_in}
-use Rattle.csv.proofs.FieldLaws.{told-used, told-some, kind-bound, judged-value}
+use Rattle.csv_table.specs.declared.FieldTold.{FieldTold}
+use Rattle.csv_table.specs.declared.RowRead.{RowRead}
+use Rattle.csv_table.specs.Fields.{field_at_front, content, kind_in, header_in, sense, field_told}
+use Rattle.csv_table.specs.Reading.{no_values, good_row, bad_row, row_from, row_in}
+use Rattle.csv_table.proofs.FieldLaws.{told-used, told-some, kind-bound, judged-value}
 
 -- ---- a row, a field at a time
 

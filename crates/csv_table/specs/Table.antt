@@ -6,7 +6,7 @@ use Rattle.numbers.specs.Cells.{packed}
 use Rattle.entries.specs.Entries.{Sendable}
 use Rattle.entries.specs.declared.Entry.{Entry}
 use Rattle.decimal.specs.Decimal.{decimal}
-use Rattle.csv.specs.Rows.{comma, crlf, FileText}
+use Rattle.csv_table.specs.Rows.{comma, crlf, FileText}
 
 -- the words of the header, in ASCII
 unfoldable pub header_words : List (List ℕ)

@@ -23,11 +23,11 @@ use Rattle.numbers.proofs.CellLaws.{packed-append, packed-length}
 use Rattle.entries.specs.Entries.{encode_entry, entry_of, EntryFits}
 use Rattle.entries.specs.declared.Entry.{Entry}
 use Rattle.entries.proofs.EntryLaws.{entry-codec}
-use Rattle.csv.specs.declared.RowRead.{RowRead}
-use Rattle.csv.specs.declared.Scanned.{Scanned}
-use Rattle.csv.specs.Reading.{row_in, scanned, row_entries, table_entries}
-use Rattle.csv.specs.Calls.{LeftImported, not_imported, importing, import_scanned, import_call}
-use Rattle.csv.proofs.ScanLaws.{scan-rows, scan-counts}
+use Rattle.csv_table.specs.declared.RowRead.{RowRead}
+use Rattle.csv_table.specs.declared.Scanned.{Scanned}
+use Rattle.csv_table.specs.Reading.{row_in, scanned, row_entries, table_entries}
+use Rattle.csv_table.specs.Calls.{LeftImported, not_imported, importing, import_scanned, import_call}
+use Rattle.csv_table.proofs.ScanLaws.{scan-rows, scan-counts}
 
 -- ---- rows, one more at the end
 

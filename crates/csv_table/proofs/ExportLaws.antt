@@ -24,10 +24,10 @@ use Rattle.numbers.proofs.CellLaws.{packed-append, cells-length}
 use Rattle.entries.specs.Entries.{entry_of, entries, run_count, run_ok}
 use Rattle.entries.specs.declared.Entry.{Entry}
 use Rattle.entries.proofs.SendableLaws.{entry-fits}
-use Rattle.csv.specs.Table.{header_words, entry_fields, entry_rows_after, table, joined_fields, plain_row, exported}
-use Rattle.csv.specs.declared.Exported.{Exported}
-use Rattle.csv.specs.Calls.{LeftExported, exporting, export_call}
-use Rattle.csv.proofs.ExportRowLaws.{row-most}
+use Rattle.csv_table.specs.Table.{header_words, entry_fields, entry_rows_after, table, joined_fields, plain_row, exported}
+use Rattle.csv_table.specs.declared.Exported.{Exported}
+use Rattle.csv_table.specs.Calls.{LeftExported, exporting, export_call}
+use Rattle.csv_table.proofs.ExportRowLaws.{row-most}
 
 -- ---- the table
 

@@ -3,7 +3,7 @@ ghost use Rattle.std.specs.Prelude.{◌≡◌, ◌+◌, ◌*◌, ◌≤◌, ◌<
 ghost use Rattle.numbers.specs.Numbers.{over};
 ghost use Rattle.numbers.specs.Cells.{packed};
 ghost use Rattle.entries.specs.Entries.{encode_entry};
-ghost use Rattle.csv.specs.Reading.{bad_row, row_in, scanned, table_entries};
+ghost use Rattle.csv_table.specs.Reading.{bad_row, row_in, scanned, table_entries};
 
 use crate::{RowRead, Scanned, fields};
 use entries::Entry;

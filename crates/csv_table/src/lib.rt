@@ -2,7 +2,7 @@
 #![tactic(auto)]
 
 ghost use Rattle.std.specs.Prelude.{◌≡◌};
-ghost use Rattle.csv.specs.Calls.{export_call, import_call};
+ghost use Rattle.csv_table.specs.Calls.{export_call, import_call};
 
 use entries::Entry;
 

@@ -3,8 +3,8 @@ ghost use Rattle.std.specs.Prelude.{◌≡◌, [], ◌∷◌, ◌++◌, ◌+◌,
 ghost use Rattle.numbers.specs.Numbers.{over, Wrote};
 ghost use Rattle.entries.specs.Entries.{entries, run_count};
 ghost use Rattle.decimal.specs.Decimal.{decimal};
-ghost use Rattle.csv.specs.Rows.{comma};
-ghost use Rattle.csv.specs.Table.{kind_word, entry_fields, plain_row, front_of, back_of, exported};
+ghost use Rattle.csv_table.specs.Rows.{comma};
+ghost use Rattle.csv_table.specs.Table.{kind_word, entry_fields, plain_row, front_of, back_of, exported};
 
 use entries::Entry;
 

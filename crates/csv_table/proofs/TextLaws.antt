@@ -19,10 +19,10 @@ use Rattle.numbers.specs.Words.{if◌then◌else◌, ◌and◌, ◌or◌}
 use Rattle.numbers.specs.Numbers.{within}
 use Rattle.numbers.proofs.WordLaws.{split, if-true, if-false, and_both, and-true, or_left}
 use Rattle.numbers.proofs.NumberLaws.{eq-or-not, le-or-lt}
-use Rattle.csv.specs.Rows.{quote, comma, crlf, is_text, is_quotable, all_of, quotes_doubled, quoted, FieldText}
-use Rattle.csv.specs.Fields.{stops, stretch, ending, ending_size, field_as, plain_field, quoted_field, field_at_front, content}
-use Rattle.csv.specs.declared.Field.{Field}
-use Rattle.csv.proofs.FieldLaws.{stretch-le}
+use Rattle.csv_table.specs.Rows.{quote, comma, crlf, is_text, is_quotable, all_of, quotes_doubled, quoted, FieldText}
+use Rattle.csv_table.specs.Fields.{stops, stretch, ending, ending_size, field_as, plain_field, quoted_field, field_at_front, content}
+use Rattle.csv_table.specs.declared.Field.{Field}
+use Rattle.csv_table.proofs.FieldLaws.{stretch-le}
 
 -- a byte that ends no field
 abbrev pub free : ℕ → Bool

@@ -14,12 +14,12 @@ use Rattle.entries.specs.declared.Entry.{Entry}
 use Rattle.decimal.specs.Decimal.{decimal, said, number_in}
 use Rattle.decimal.specs.declared.Number.{Number}
 use Rattle.decimal.proofs.DecimalLaws.{number-of-decimal, number-there}
-use Rattle.csv.specs.Table.{header_words, kind_word, entry_fields}
-use Rattle.csv.specs.Fields.{sense, kind_in, cents_in}
-use Rattle.csv.specs.Reading.{no_values, entry_of_values}
-use Rattle.csv.proofs.TextLaws.{other, past}
-use Rattle.csv.proofs.SenseLaws.{header-says, header-said, op-says, op-said, kind-says, kind-said, cents-says, cents-said, cents-most, sense-header, sense-op, sense-client, sense-request, sense-kind, sense-member, sense-cents}
-use Rattle.csv.proofs.RowLaws.{SaysAll, put_all}
+use Rattle.csv_table.specs.Table.{header_words, kind_word, entry_fields}
+use Rattle.csv_table.specs.Fields.{sense, kind_in, cents_in}
+use Rattle.csv_table.specs.Reading.{no_values, entry_of_values}
+use Rattle.csv_table.proofs.TextLaws.{other, past}
+use Rattle.csv_table.proofs.SenseLaws.{header-says, header-said, op-says, op-said, kind-says, kind-said, cents-says, cents-said, cents-most, sense-header, sense-op, sense-client, sense-request, sense-kind, sense-member, sense-cents}
+use Rattle.csv_table.proofs.RowLaws.{SaysAll, put_all}
 
 -- what says a value is there
 said-there : (n : Number) (v : ℕ) → n ≡ said v → n.there ≡ true

@@ -5,10 +5,10 @@ use Rattle.numbers.specs.Words.{if◌then◌else◌, ◌and◌, ◌or◌}
 use Rattle.entries.specs.Entries.{operation_ok}
 use Rattle.decimal.specs.Decimal.{said, no_number, number_in}
 use Rattle.decimal.specs.declared.Number.{Number}
-use Rattle.csv.specs.Rows.{quote, comma}
-use Rattle.csv.specs.Table.{header_words, kind_word}
-use Rattle.csv.specs.declared.Field.{Field}
-use Rattle.csv.specs.declared.FieldTold.{FieldTold}
+use Rattle.csv_table.specs.Rows.{quote, comma}
+use Rattle.csv_table.specs.Table.{header_words, kind_word}
+use Rattle.csv_table.specs.declared.Field.{Field}
+use Rattle.csv_table.specs.declared.FieldTold.{FieldTold}
 
 -- a byte that ends a content: a quote, a comma, CR or LF
 unfoldable pub stops : ℕ → Bool

@@ -12,14 +12,14 @@ use Rattle.numbers.specs.Words.{All}
 use Rattle.numbers.proofs.NumberLaws.{eq-or-not}
 use Rattle.entries.specs.Entries.{Sendable}
 use Rattle.entries.specs.declared.Entry.{Entry}
-use Rattle.csv.specs.Rows.{crlf, RowText, FileText}
-use Rattle.csv.specs.Table.{header_words, entry_fields, entry_rows_after, table, IsTable}
-use Rattle.csv.specs.Reading.{no_values, entry_of_values, row_in, scanned_as, scanned_after, scanned, row_entries, table_entries}
-use Rattle.csv.specs.declared.Scanned.{Scanned}
-use Rattle.csv.proofs.TextLaws.{past}
-use Rattle.csv.proofs.RowLaws.{SaysAll, put_all}
-use Rattle.csv.proofs.EntryRows.{header_row, header-fields, entry_row, entry-fields}
-use Rattle.csv.proofs.LookLaws.{RowAt, alone, before, row_is, empty-not, less_none, scan-bad, scan-end, scan-on, row-byte, shorter}
+use Rattle.csv_table.specs.Rows.{crlf, RowText, FileText}
+use Rattle.csv_table.specs.Table.{header_words, entry_fields, entry_rows_after, table, IsTable}
+use Rattle.csv_table.specs.Reading.{no_values, entry_of_values, row_in, scanned_as, scanned_after, scanned, row_entries, table_entries}
+use Rattle.csv_table.specs.declared.Scanned.{Scanned}
+use Rattle.csv_table.proofs.TextLaws.{past}
+use Rattle.csv_table.proofs.RowLaws.{SaysAll, put_all}
+use Rattle.csv_table.proofs.EntryRows.{header_row, header-fields, entry_row, entry-fields}
+use Rattle.csv_table.proofs.LookLaws.{RowAt, alone, before, row_is, empty-not, less_none, scan-bad, scan-end, scan-on, row-byte, shorter}
 
 -- ---- a file that is a table
 

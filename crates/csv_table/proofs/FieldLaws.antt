@@ -25,10 +25,10 @@ use Rattle.numbers.proofs.WordLaws.{if-true, if-false, split, and_both, and-fals
 use Rattle.entries.specs.Entries.{operation_ok}
 use Rattle.decimal.specs.Decimal.{no_number, number_in}
 use Rattle.decimal.specs.declared.Number.{Number}
-use Rattle.csv.specs.declared.Field.{Field}
-use Rattle.csv.specs.declared.FieldTold.{FieldTold}
-use Rattle.csv.specs.Table.{kind_word}
-use Rattle.csv.specs.Fields.{stops, stretch, ending, ending_size, field_as, plain_field, quoted_field, field_at_front, content, same, row_op_in, kind_in, cents_in, sense, wrong_field, judged_field, field_told}
+use Rattle.csv_table.specs.declared.Field.{Field}
+use Rattle.csv_table.specs.declared.FieldTold.{FieldTold}
+use Rattle.csv_table.specs.Table.{kind_word}
+use Rattle.csv_table.specs.Fields.{stops, stretch, ending, ending_size, field_as, plain_field, quoted_field, field_at_front, content, same, row_op_in, kind_in, cents_in, sense, wrong_field, judged_field, field_told}
 
 -- a place with another byte than 0 is there
 there : (s : List ℕ) (i k : ℕ) → get_or s i 0 ≡ suc k → i < length s

@@ -10,9 +10,9 @@ use Rattle.numbers.specs.Words.{All}
 use Rattle.numbers.specs.Cells.{packed}
 use Rattle.entries.specs.Entries.{Sendable}
 use Rattle.entries.specs.declared.Entry.{Entry}
-use Rattle.csv.specs.Rows.{crlf, RowText, FileText}
-use Rattle.csv.specs.Table.{header_words, entry_fields, entry_rows_after, table, joined_fields, plain_row, exported, IsTable}
-use Rattle.csv.proofs.SenseLaws.{Some, decimal-text, kind-text, header-text}
+use Rattle.csv_table.specs.Rows.{crlf, RowText, FileText}
+use Rattle.csv_table.specs.Table.{header_words, entry_fields, entry_rows_after, table, joined_fields, plain_row, exported, IsTable}
+use Rattle.csv_table.proofs.SenseLaws.{Some, decimal-text, kind-text, header-text}
 
 -- a row of one field or more, each text of a plain field
 abbrev Plain : List (List ℕ) → Type 0
