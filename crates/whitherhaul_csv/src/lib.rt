@@ -1,5 +1,7 @@
 // The C boundary of the treasurer's table: each call takes byte runs and returns the refusal's number, 0 where it is done. Counts and other answers go to a lent number or array of numbers, and are 0 with a refusal, but for
 // what 13 carries. None asks anything of its caller but that what he points to is there, and that no two of these places overlap.
+#![tactic(auto)]
+
 ghost use Rattle.std.specs.Prelude.{◌≡◌};
 ghost use Rattle.csv_table.specs.Calls.{export_call, import_call};
 ghost use Rattle.whitherhaul_csv.specs.Boundary.{exported_as, imported_as};
