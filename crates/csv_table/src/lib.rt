@@ -1,4 +1,6 @@
 // The treasurer's table of entries as CSV by RFC 4180: exported from a run of entries, and imported, with fields plain or quoted.
+#![tactic(auto)]
+
 ghost use Rattle.std.specs.Prelude.{◌≡◌};
 ghost use Rattle.csv_table.specs.Calls.{export_call, import_call};
 
