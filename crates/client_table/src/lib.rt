@@ -1,4 +1,6 @@
 // The client table as a list of rows, whichever way the rows are held: what a call changes, and the steps of the search by halves.
+#![tactic(auto)]
+
 ghost use Rattle.std.specs.Prelude.{◌≡◌, ◌-◌, ◌≤◌, ◌<◌};
 ghost use Rattle.client_table.specs.Latest.{held_of, is_new};
 ghost use Rattle.client_table.specs.Search.{mid_of, halved, is_before};

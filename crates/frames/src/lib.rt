@@ -1,4 +1,6 @@
 // Frames: what a frame says (`parse`), and the refusals 2 to 6 on the frame alone (`check`).
+#![tactic(auto)]
+
 ghost use Rattle.std.specs.Prelude.{◌≡◌, ◌+◌, ◌*◌, ◌≤◌, length};
 ghost use Rattle.frames.specs.Kinds.{kind_of};
 ghost use Rattle.frames.specs.Messages.{carried_of, carried_bytes};

@@ -5,10 +5,10 @@ use Rattle.numbers.specs.Numbers.{big, num, within, over}
 use Rattle.numbers.specs.Cells.{cells, packed}
 use Rattle.entries.specs.Entries.{operation_ok, entry_of, entry_ok, encode_entry, entries_ok, run_ok}
 use Rattle.decimal.specs.Decimal.{value_from, all_figures, leading_zero, is_decimal, number_in}
-use Rattle.csv.specs.Table.{header_words, kind_word, joined_fields, plain_row}
-use Rattle.csv.specs.Fields.{stops, stretch, ending, ending_size, plain_field, quoted_field, field_at_front, same, row_op_in, kind_in, cents_in, header_in, sense, judged_field, field_told}
-use Rattle.csv.specs.Reading.{row_from, row_in, scanned_after, scanned, row_entries, table_entries}
-use Rattle.csv.specs.Calls.{exporting, importing, import_scanned, import_call}
+use Rattle.csv_table.specs.Table.{header_words, kind_word, joined_fields, plain_row}
+use Rattle.csv_table.specs.Fields.{stops, stretch, ending, ending_size, plain_field, quoted_field, field_at_front, same, row_op_in, kind_in, cents_in, header_in, sense, judged_field, field_told}
+use Rattle.csv_table.specs.Reading.{row_from, row_in, scanned_after, scanned, row_entries, table_entries}
+use Rattle.csv_table.specs.Calls.{exporting, importing, import_scanned, import_call}
 use Rattle.against_rust.specs.Shape.{hex}
 use Rattle.recorded_csv.specs.Shape.{lent_area, all_exported, none_exported, as_recorded, import_of, all_imported, none_imported}
 use Rattle.recorded_csv.proofs.Short.{short, short_row, short_rows, short_export}

@@ -14,8 +14,8 @@ use Rattle.entries.specs.Entries.{entries, run_count, run_ok}
 use Rattle.entries.specs.declared.Entry.{Entry}
 use Rattle.decimal.specs.Decimal.{figure, decimal}
 use Rattle.decimal.proofs.FigureLaws.{by_size, decimal-one, decimal-more}
-use Rattle.csv.specs.Table.{header_words, kind_word, entry_fields, entry_rows_after, table, plain_row, exported}
-use Rattle.csv.specs.Calls.{LeftExported, not_exported, exporting, export_call}
+use Rattle.csv_table.specs.Table.{header_words, kind_word, entry_fields, entry_rows_after, table, plain_row, exported}
+use Rattle.csv_table.specs.Calls.{LeftExported, not_exported, exporting, export_call}
 use Rattle.recorded_csv.specs.Shape.{lent_area, ToExport, export_of}
 
 -- k figures of a number from its last on, and the others as `decimal` has them
@@ -31,7 +31,7 @@ short-is (suc k) n =
     (λ l. rw (le-ltb n 10 l) (decimal-more n l ∙ ap (λ (s : List ℕ). s ++ figure (n % 10) ∷ []) (short-is k (n / 10))))
     (λ l. rw (lt-ltb n 10 l) (decimal-one n l))
 
--- the same rows and calls as in csv, by it
+-- the same rows and calls as in csv_table, by it
 unfoldable pub short_row : (op : ℕ) → Entry → List (List ℕ)
 short_row op e =
     short 20 op ∷ short 20 e.client ∷ short 20 e.request ∷ kind_word e.operation ∷ short 20 e.member ∷ short 20 e.cents ∷ []

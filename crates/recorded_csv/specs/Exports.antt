@@ -1,7 +1,7 @@
 -- Recorded calls and their answers. By tools/recorded-csv. Assumes nothing.
 use Rattle.std.specs.Prelude.{List, [], ◌∷◌}
 use Rattle.against_rust.specs.Shape.{hex}
-use Rattle.csv.specs.Calls.{LeftExported}
+use Rattle.csv_table.specs.Calls.{LeftExported}
 use Rattle.recorded_csv.specs.Shape.{ToExport, to_export, all_exported, none_exported}
 
 unfoldable pub exports0 : List ToExport

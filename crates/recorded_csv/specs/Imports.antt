@@ -1,7 +1,7 @@
 -- Recorded calls and their answers. By tools/recorded-csv. Assumes nothing.
 use Rattle.std.specs.Prelude.{List, [], ◌∷◌}
 use Rattle.against_rust.specs.Shape.{hex}
-use Rattle.csv.specs.Calls.{LeftImported}
+use Rattle.csv_table.specs.Calls.{LeftImported}
 use Rattle.recorded_csv.specs.Shape.{ToImport, to_import, all_imported, none_imported}
 
 unfoldable pub imports0 : List ToImport

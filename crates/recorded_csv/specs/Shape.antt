@@ -3,7 +3,7 @@
 use Rattle.std.specs.Prelude.{List, ◌++◌, ℕ, ◌-◌, eqb, length, replicate}
 use Rattle.numbers.specs.Words.{if◌then◌else◌}
 use Rattle.entries.specs.Entries.{run_count}
-use Rattle.csv.specs.Calls.{LeftExported, not_exported, export_call, LeftImported, not_imported, import_call}
+use Rattle.csv_table.specs.Calls.{LeftExported, not_exported, export_call, LeftImported, not_imported, import_call}
 
 -- What is lent is filled with a byte other than 0: what a call leaves as it was differs from a 0 that it writes.
 unfoldable pub lent_area : (room : ℕ) → List ℕ

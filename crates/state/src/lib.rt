@@ -1,4 +1,6 @@
 // The replica's state by value, and one small function for each change of it.
+#![tactic(auto)]
+
 ghost use Rattle.std.specs.Prelude.{◌≡◌, ◌<◌};
 ghost use Rattle.state.specs.State.{leads, heard_by, with_clock, with_status, with_log, with_commit, moved, normal_in, catching_up_in, changing_to, with_start, with_sent, with_reports, new_in};
 ghost use Rattle.state.specs.Statuses.{is_normal, is_transfer, is_changing, no_reports};

@@ -1,6 +1,6 @@
 -- Export and import at the C boundary: the same answers, as numbers. Assumes nothing.
 use Rattle.std.specs.Prelude.{List, ℕ, get_or}
-use Rattle.csv.specs.Calls.{LeftExported, LeftImported}
+use Rattle.csv_table.specs.Calls.{LeftExported, LeftImported}
 
 -- an export: it returned this number, and left these bytes written and this area
 abbrev pub exported_as : (code bytes : ℕ) (area : List ℕ) → LeftExported

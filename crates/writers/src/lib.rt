@@ -1,4 +1,6 @@
 // Frames written: each over the front of the part that is lent, with the count of its bytes as the answer.
+#![tactic(auto)]
+
 ghost use Rattle.std.specs.Prelude.{◌≡◌, ◌+◌, ◌-◌, ◌*◌, ◌≤◌, ◌<◌, length, take, [], eqb};
 ghost use Rattle.numbers.specs.Numbers.{Wrote};
 ghost use Rattle.numbers.specs.Words.{if◌then◌else◌};

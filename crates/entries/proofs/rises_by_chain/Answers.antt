@@ -1,12 +1,12 @@
 -- `entries::rises_by_chain` meets its contract. Assumes nothing.
 use mathlib.Core.Path.{◌≡◌, refl, sym, ◌∙◌}
 use mathlib.Core.Bool.{true}
-use mathlib.Core.Logic.{⊎_elim}
 use Prim.Native.Nat.{◌+◌, ◌-◌}
 use native.Mathlib.Omega.{arith}
 use Rattle.entries.proofs.ChainLaws.{NoneOf, linked-start, linked-next}
 use Rattle.entries.proofs.PairLaws.{client_at, rises-true, rises-false, grown-none, grown-over}
 use Rattle.entries.proofs.rises_by_chain.Goals as goal
+use Rattle.entries.proofs.rises_by_chain.Goals.{else-loop-j-test, then-loop-j-test+else-looks-eq0+then-read_u64-c+else-r-read_u64}
 
 pub pairs-init : goal.pairs-init
 pairs-init c = (omega arith, refl, linked-start (client_at c.args.s.now), λ p q m u e. absurd (omega arith))
@@ -22,12 +22,14 @@ pairs-preserved c =
       omega arith,
       l.invariant.0,
       rw x.ensures (linked-next (client_at a.s.now) p.latest p.earlier p.i p.invariant.2 (omega arith)),
-      ⊎_elim
-          (λ w. let z : l.j ≡ 0 = omega arith in grown-none a.s.now p.i p.invariant.3 (rw z at none))
-          (λ w.
-          let e : l.j ≡ l.j - 1 + 1 = omega (arith, w.0.taken) in
-          grown-over a.s.now p.i (l.j - 1) p.invariant.3 (omega (arith, w.0.taken)) (rw (← e) none) (sym w.2.ensures ∙ w.3.taken ∙ x.ensures) (rw (← y.ensures, ← w.4.ensures) w.5.left))
-          c.loop-j-test.branch,
+      elim c.loop-j-test.branch [
+          else-loop-j-test w ↦ let z : l.j ≡ 0 = omega arith in grown-none a.s.now p.i p.invariant.3 (rw z at none)
+          | then-loop-j-test+else-looks-eq0+then-read_u64-c+else-r-read_u64 w ↦
+              let e : l.j ≡ l.j - 1 + 1 = omega (arith, w.loop-j-test.true) in
+              grown-over a.s.now p.i (l.j - 1) p.invariant.3 (omega (arith, w.loop-j-test.true)) (rw (← e) none)
+                  (sym w.read_u64.ensures ∙ w.if-read_u64-c.true ∙ x.ensures)
+                  (rw (← y.ensures, ← w.read_u64-then-read_u64-c.ensures) w.if-r-read_u64.false)
+      ],
     )
 
 pub returns-after-pairs : goal.returns-after-pairs

@@ -10,7 +10,7 @@ use native.Mathlib.Omega.{arith}
 use lib.ListN.{length, get_or, drop}
 use Rattle.numbers.specs.Words.{if◌then◌else◌}
 use Rattle.numbers.specs.Numbers.{within}
-use Rattle.numbers.proofs.NumberLaws.{pow-le256}
+use Rattle.numbers.proofs.NumberLaws.{pow-pos256, pow-le256}
 use Rattle.numbers.proofs.WordLaws.{if-true, if-false}
 use Rattle.offsets.specs.Rules.{reach, between, number_reach}
 use Rattle.offsets.proofs.ReadLaws.{number-next, number-none}
@@ -69,6 +69,10 @@ overflow_add-x-in-loop-i c =
       small {i = l.i} (omega arith) l.invariant.2,
     )
 
+pub nonzero_div-low : goal.nonzero_div-low
+nonzero_div-low c =
+    omega (arith, c.power-p.ensures, pow-pos256 (c.args.n - 1 - c.loop-i.i))
+
 pub returns-then-not-within : goal.returns-then-not-within
 returns-then-not-within c =
     let l = c.loop-i in
@@ -98,7 +102,5 @@ returns c =
     omega (arith, l.invariant.3, zero-reach a.low a.high l.x (drop (a.at + l.i) a.s.now), ap (λ (m : ℕ). number_reach m l.x a.low a.high (drop (a.at + l.i) a.s.now)) z)
 
 pub nonzero_div-high : goal.nonzero_div-high
-nonzero_div-high c = ?
-
-pub nonzero_div-low : goal.nonzero_div-low
-nonzero_div-low c = ?
+nonzero_div-high c =
+    omega (arith, c.power-p.ensures, pow-pos256 (c.args.n - 1 - c.loop-i.i))

@@ -1,0 +1,7 @@
+-- `frames::table::looks_at` meets its contract. Assumes nothing.
+use Rattle.frames.proofs.TableLaws.{table-right}
+use Rattle.frames.proofs.table.looks_at.Goals as goal
+
+pub returns : goal.returns
+returns c =
+    rw c.status_number-i.ensures.0 (table-right c.args.s c.args.kind c.requires.0 c.requires.1)
