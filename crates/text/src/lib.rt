@@ -3,7 +3,7 @@
 
 ghost use Rattle.std.specs.Prelude.{◌≡◌, ◌<◌, ◌≤◌, ◌++◌, true, length, OnOk, IfOk, take};
 ghost use Rattle.std.specs.Fmt.{decimal, digit_glyph};
-ghost use Rattle.std.specs.Io.KnownBytes.{Appends, Consumes};
+ghost use Rattle.std.specs.Io.KnownBytes.{Appends, Consumes, IsAtEnd};
 ghost use Rattle.text.specs.Text.{hex_pair, spaced_pairs, name_of_kind, kind_text};
 
 use std::io;
@@ -89,6 +89,7 @@ pub fn kind<W: io::Write>(writer: &mut W, kind: u8) -> io::Result<()>
 pub fn read_full<R: io::Read>(reader: &mut R, area: &mut [u8]) -> io::Result<usize>
     ensures within { IfOk result (λ n. n ≤ length area.new) }
     ensures bytes { IfOk result (λ n. Consumes (R.remaining reader.old) (R.remaining reader.new) (take n area.new)) }
+    ensures whole { IfOk result (λ n. n < length area.new → IsAtEnd (R.remaining reader.new)) }
 {
     let mut n = 0;
     while n < area.len() {

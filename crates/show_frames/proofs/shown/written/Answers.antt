@@ -1,6 +1,6 @@
 -- The tests of the length leave room for the entries, which are a part of it.
 use Rattle.std.proofs.Common.{arith}
-use Rattle.writers.specs.Writers.{Room, length_of}
+use Rattle.writers.specs.Writers.{length_of}
 use Rattle.show_frames.proofs.shown.written.Goals as goal
 
 pub write_frame-requires : goal.write_frame-requires
