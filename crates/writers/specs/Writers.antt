@@ -1,10 +1,9 @@
 -- Document 01, "Frames": the bytes of a frame of each kind, and frames one after the other. v view, o op, c commit (4 bytes each), r sender (1),
 -- x nonce (8). The length is that of what follows it. Assumes nothing.
-use Rattle.std.specs.Prelude.{List, [], ◌∷◌, ◌++◌, ℕ, zero, suc, ◌+◌, ◌-◌, ◌*◌, ◌≤◌, eqb}
+use Rattle.std.specs.Prelude.{List, [], ◌++◌, ℕ, zero, suc, ◌+◌, ◌-◌, ◌*◌, ◌≤◌, eqb}
 use Rattle.numbers.specs.Words.{if◌then◌else◌}
 use Rattle.numbers.specs.Numbers.{big}
 use Rattle.numbers.specs.declared.View.{View}
-use Rattle.numbers.specs.declared.Op.{Op}
 use Rattle.entries.specs.Entries.{encode_entry}
 use Rattle.frames.specs.Kinds.{fields_end, state_end}
 use Rattle.frames.specs.declared.RecoveryState.{RecoveryState}

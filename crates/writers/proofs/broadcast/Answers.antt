@@ -1,14 +1,13 @@
 -- `writers::broadcast` meets its contract. The invariant: the frames to the others below `to` stand over the front of the area. Assumes nothing.
 use mathlib.Core.Path.{◌≡◌, refl, sym, ap, ◌∙◌}
 use mathlib.Core.List.{[]}
-use Prim.Native.Nat.{ℕ, suc, ◌+◌, ◌-◌, ◌*◌, ◌≤◌}
+use Prim.Native.Nat.{ℕ, suc, ◌+◌, ◌*◌, ◌≤◌}
 use native.Mathlib.Numerals.{add-one}
 use native.Mathlib.Omega.{arith}
 use lib.Dec.{eqb}
 use lib.ListN.{length, length-take, length-drop, length-append}
 use lib.Seq.{length-take-le}
 use Rattle.numbers.specs.Words.{if◌then◌else◌}
-use Rattle.numbers.specs.Numbers.{over}
 use Rattle.numbers.proofs.RunLaws.{over-lend, over-nil, length_over}
 use Rattle.writers.specs.Writers.{encode, size_of, to_others}
 use Rattle.writers.proofs.WriterLaws.{room-left, others-most}
@@ -70,7 +69,7 @@ loop-to-preserved c =
     )
 
 pub slice_bounds-write_other-count : goal.slice_bounds-write_other-count
-slice_bounds-write_other-count c = 
+slice_bounds-write_other-count c =
     let enough : let a = c.args in length (carried a.m a.log.now) ≡ 32 * (size_of a.m).entries = length-take-le (32 * (size_of c.args.m).entries) c.args.log.now c.requires.1.1.0 in
     let most : (k : ℕ) → let a = c.args in
     k ≤ a.n → length (to_others k a.me a.m (carried a.m a.log.now)) ≤ length a.area.now = λ k h. let a = c.args in
@@ -79,7 +78,7 @@ slice_bounds-write_other-count c =
     omega (arith, fits)
 
 pub slice_bounds-write_other-start : goal.slice_bounds-write_other-start
-slice_bounds-write_other-start c = 
+slice_bounds-write_other-start c =
     let enough : let a = c.args in length (carried a.m a.log.now) ≡ 32 * (size_of a.m).entries = length-take-le (32 * (size_of c.args.m).entries) c.args.log.now c.requires.1.1.0 in
     let most : (k : ℕ) → let a = c.args in
     k ≤ a.n → length (to_others k a.me a.m (carried a.m a.log.now)) ≤ length a.area.now = λ k h. let a = c.args in

@@ -14,7 +14,7 @@ use Rattle.frames.proofs.ReaderLaws.{good-entry}
 use Rattle.frames.proofs.offset.entry.Goals as goal
 
 pub returns-then-is_good : goal.returns-then-is_good
-returns-then-is_good c = 
+returns-then-is_good c =
     let whole : let a = c.args in reach (entry_rule end) (drop a.at a.s.now) ≡ 32 = let a = c.args in
     let s = drop a.at a.s.now in
     let b : Bytes a.s.now = λ i. omega (arith, c.shared_slice_known-1.given i) in

@@ -89,20 +89,20 @@ returns c =
     ∙ sym (operation-there ∙ zeros-there ∙ member-there ∙ cents-there)
 
 pub number-zeros-requires : goal.number-zeros-requires
-number-zeros-requires c = 
+number-zeros-requires c =
     let operation-le : c.free-operation.result ≤ length c.args.s.now = omega (arith, c.free-operation.ensures, place-le (free 16 end) c.args.at c.args.s.now c.requires) in
     (operation-le, lit≤ tt)
 
 pub number-member-requires : goal.number-member-requires
 unfolding number_reach
-number-member-requires c = 
+number-member-requires c =
     let operation-le : c.free-operation.result ≤ length c.args.s.now = omega (arith, c.free-operation.ensures, place-le (free 16 end) c.args.at c.args.s.now c.requires) in
     let zeros-le : c.number-zeros.result ≤ length c.args.s.now = omega (arith, c.number-zeros.ensures, place-le (between 1 0 1 3 (λ v. end)) c.free-operation.result c.args.s.now operation-le) in
     (zeros-le, lit≤ tt)
 
 pub free-last-requires : goal.free-last-requires
 unfolding number_reach
-free-last-requires c = 
+free-last-requires c =
     let operation-le : c.free-operation.result ≤ length c.args.s.now = omega (arith, c.free-operation.ensures, place-le (free 16 end) c.args.at c.args.s.now c.requires) in
     let zeros-le : c.number-zeros.result ≤ length c.args.s.now = omega (arith, c.number-zeros.ensures, place-le (between 1 0 1 3 (λ v. end)) c.free-operation.result c.args.s.now operation-le) in
     let member-le : c.number-member.result ≤ length c.args.s.now = omega (arith, c.number-member.ensures, place-le (between 3 0 0 0 (λ v. end)) c.number-zeros.result c.args.s.now zeros-le) in
@@ -110,7 +110,7 @@ free-last-requires c =
 
 pub bounds-s-operation : goal.bounds-s-operation
 unfolding number_reach
-bounds-s-operation c = 
+bounds-s-operation c =
     let operation-le : c.free-operation.result ≤ length c.args.s.now = omega (arith, c.free-operation.ensures, place-le (free 16 end) c.args.at c.args.s.now c.requires) in
     let zeros-le : c.number-zeros.result ≤ length c.args.s.now = omega (arith, c.number-zeros.ensures, place-le (between 1 0 1 3 (λ v. end)) c.free-operation.result c.args.s.now operation-le) in
     let operation-before : c.free-operation.result < length c.args.s.now = omega (arith, c.number-zeros.ensures, c.if-zeros-operation.false, zeros-le) in
@@ -118,7 +118,7 @@ bounds-s-operation c =
 
 pub cents-requires : goal.cents-requires
 unfolding number_reach
-cents-requires c = 
+cents-requires c =
     let operation-le : c.free-operation.result ≤ length c.args.s.now = omega (arith, c.free-operation.ensures, place-le (free 16 end) c.args.at c.args.s.now c.requires) in
     let zeros-le : c.number-zeros.result ≤ length c.args.s.now = omega (arith, c.number-zeros.ensures, place-le (between 1 0 1 3 (λ v. end)) c.free-operation.result c.args.s.now operation-le) in
     let member-le : c.number-member.result ≤ length c.args.s.now = omega (arith, c.number-member.ensures, place-le (between 3 0 0 0 (λ v. end)) c.number-zeros.result c.args.s.now zeros-le) in

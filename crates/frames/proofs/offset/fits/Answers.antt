@@ -29,13 +29,13 @@ returns c =
     rw (kind, ← c.count_for.ensures.0, ← c.entries_from.ensures)
 
 pub entries_from-requires : goal.entries_from-requires
-entries_from-requires c = 
+entries_from-requires c =
     let kind : within 1 11 c.args.kind ≡ true = sym c.within.ensures ∙ c.if-not-within.false in
     let bounds : (1 ≤ c.args.kind) × (c.args.kind ≤ 11) = within_both 1 11 c.args.kind kind in
     bounds.1
 
 pub count_for-requires : goal.count_for-requires
-count_for-requires c = 
+count_for-requires c =
     let kind : within 1 11 c.args.kind ≡ true = sym c.within.ensures ∙ c.if-not-within.false in
     let bounds : (1 ≤ c.args.kind) × (c.args.kind ≤ 11) = within_both 1 11 c.args.kind kind in
     bounds.1

@@ -31,6 +31,6 @@ returns c =
 
 pub log-requires : goal.log-requires
 unfolding number_reach
-log-requires c = 
+log-requires c =
     let log-le : c.number-op.result ≤ length c.args.s.now = omega (arith, c.number-op.ensures, place-le (between 1 0 1 1 (λ v. end)) c.args.at c.args.s.now c.requires) in
     log-le

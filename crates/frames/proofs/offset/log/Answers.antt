@@ -35,13 +35,13 @@ returns c =
 
 pub free-first-requires : goal.free-first-requires
 unfolding number_reach
-free-first-requires c = 
+free-first-requires c =
     let commit-le : c.number-commit.result ≤ length c.args.s.now = omega (arith, c.number-commit.ensures, place-le (between 4 0 c.args.count c.args.count (λ v. end)) c.args.at c.args.s.now c.requires) in
     commit-le
 
 pub entries-requires : goal.entries-requires
 unfolding number_reach
-entries-requires c = 
+entries-requires c =
     let commit-le : c.number-commit.result ≤ length c.args.s.now = omega (arith, c.number-commit.ensures, place-le (between 4 0 c.args.count c.args.count (λ v. end)) c.args.at c.args.s.now c.requires) in
     let first-le : c.free-first.result ≤ length c.args.s.now = omega (arith, c.free-first.ensures, place-le (free 4 end) c.number-commit.result c.args.s.now commit-le) in
     first-le

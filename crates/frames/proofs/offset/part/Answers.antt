@@ -80,7 +80,7 @@ read_be-requires c =
 
 pub number-commit-requires : goal.number-commit-requires
 unfolding number_reach
-number-commit-requires c = 
+number-commit-requires c =
     let end-le : c.number-stop.result ≤ length c.args.s.now = omega (arith, c.number-stop.ensures, place-le (between 4 0 0 (4294967295 - c.args.count) (λ v. end)) c.args.at c.args.s.now c.requires.0) in
     (end-le, lit≤ tt)
 
