@@ -2,3 +2,4 @@ pub mod CellLaws
 pub mod FollowLaws
 pub mod FoundLaws
 pub mod OneAnswer
+pub mod Rowed
