@@ -1,4 +1,6 @@
 // The log, the results and the totals in lent runs: append and install, commits by the fee rules, replies.
+#![tactic(auto)]
+
 ghost use Rattle.std.specs.Prelude.{true, ◌≡◌, ◌+◌, ◌*◌, ◌≤◌, ◌<◌, length, take};
 ghost use Rattle.numbers.specs.Numbers.{over};
 ghost use Rattle.entries.specs.Entries.{encode_entry, entries};

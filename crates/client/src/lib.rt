@@ -1,4 +1,6 @@
 // The client: its record's steps by value (`create`, `requested`, `replied`, `idled`), and a Reply read by the desk (`read_reply`).
+#![tactic(auto)]
+
 ghost use Rattle.std.specs.Prelude.{◌≡◌, ◌*◌, ◌≤◌, length};
 ghost use Rattle.numbers.specs.Numbers.{Wrote};
 ghost use Rattle.client.specs.Client.{fresh_client, create_of, request_refusal, requested_of, requested_area, raised_view, awaits, left_pending, replied_of, frames_to, frames_again, idle_refusal, idled_of, idled_area};

@@ -1,4 +1,6 @@
 // The client's record in a lent byte run of 54 bytes, for callers that aren't Rattle: read, written, and tested for bytes without meaning.
+#![tactic(auto)]
+
 ghost use Rattle.std.specs.Prelude.{◌≡◌, ◌≤◌, length, drop};
 ghost use Rattle.numbers.specs.Numbers.{over};
 ghost use Rattle.client_bytes.specs.Layout.{pending_of, encode_pending, record_of, record_ok, HoldsClient};

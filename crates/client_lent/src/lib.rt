@@ -1,4 +1,6 @@
 // The client's record, lent and changed in its place: thin functions over `&mut Client` that call the covered ones of `client` by value.
+#![tactic(auto)]
+
 ghost use Rattle.std.specs.Prelude.{◌≡◌, length};
 ghost use Rattle.client.specs.Client.{Requests, replied_of, idled_of, idled_area};
 

@@ -150,21 +150,21 @@ module _ {R Q : Type 0} (h : Shape R) (g : Shape Q) (Is : R → Q → Type 0) wh
     appended-alike : (xs : List R) (ys : List Q) (es : List Entry) → Both xs ys → Both (appended h xs es) (appended g ys es)
     unfolding appended
     appended-alike xs ys [] b = b
-    appended-alike xs ys (e ∷ es) b = appended-alike _ _ es (put-alike xs ys b _ _ (law.fresh e))
+    appended-alike xs ys (e ∷ es) b = appended-alike (put_row h xs (h.fresh e)) (put_row g ys (g.fresh e)) es (put-alike xs ys b _ _ (law.fresh e))
 
     committed-alike : (xs : List R) (ys : List Q) (es : List Entry) (os : List Outcome) → Coded os → Both xs ys
         → Both (rows_committed h xs es os) (rows_committed g ys es os)
     unfolding rows_committed
     committed-alike xs ys [] os c b = b
     committed-alike xs ys (e ∷ es) [] c b = b
-    committed-alike xs ys (e ∷ es) (o ∷ os) c b = committed-alike _ _ es os c.1 (replied-alike xs ys b e o c.0.0 c.0.1)
+    committed-alike xs ys (e ∷ es) (o ∷ os) c b = committed-alike (replied h xs e o) (replied g ys e o) es os c.1 (replied-alike xs ys b e o c.0.0 c.0.1)
 
     rebuilt-alike : (xs : List R) (ys : List Q) (es : List Entry) (os : List Outcome) → Coded os → Both xs ys → Both (rebuilt h xs es os) (rebuilt g ys es os)
     unfolding rebuilt
     rebuilt-alike xs ys [] os c b = b
-    rebuilt-alike xs ys (e ∷ es) [] c b = rebuilt-alike _ _ es [] c (put-alike xs ys b _ _ (law.fresh e))
+    rebuilt-alike xs ys (e ∷ es) [] c b = rebuilt-alike (put_row h xs (h.fresh e)) (put_row g ys (g.fresh e)) es [] c (put-alike xs ys b _ _ (law.fresh e))
     rebuilt-alike xs ys (e ∷ es) (o ∷ os) c b =
-        rebuilt-alike _ _ es os c.1 (put-alike xs ys b _ _ (law.answered e o c.0.0 c.0.1))
+        rebuilt-alike (put_row h xs (h.answered e o)) (put_row g ys (g.answered e o)) es os c.1 (put-alike xs ys b _ _ (law.answered e o c.0.0 c.0.1))
 
     coded-drop : (n : ℕ) (os : List Outcome) → Coded os → Coded (drop n os)
     coded-drop zero os c = c

@@ -1,4 +1,6 @@
 // The client table in lent bytes: 25 a row, in rising order of client id, unused rows last.
+#![tactic(auto)]
+
 ghost use Rattle.std.specs.Prelude.{◌≡◌, ◌-◌, ◌*◌, ◌≤◌, length, drop, replicate};
 ghost use Rattle.entries.specs.Entries.{entries};
 ghost use Rattle.entries.specs.Places.{entry_place, result_place};

@@ -51,7 +51,7 @@ pub record Settled (b : Book) : Type 0 where
 pub answers-coded : (ts : List ℕ) (es : List Entry) → Coded (results_of ts es)
 unfolding results_of
 answers-coded ts [] = tt
-answers-coded ts (e ∷ es) = (outcome-code ts e, answers-coded _ es)
+answers-coded ts (e ∷ es) = (outcome-code ts e, answers-coded (totals_after ts e) es)
 
 until-log : (b : Book) (j : ℕ) → (commit_up_to b j).log ≡ b.log
 unfolding commit_up_to
@@ -133,9 +133,9 @@ module _ {R : Type 0} (h : Shape R) where
     unfolding M.rebuilt rebuilt
     rebuild-lift s new [] os c m l = m
     rebuild-lift s new (e ∷ es) [] c m l =
-        rebuild-lift _ _ es [] c (put-entry s new (h.fresh e) e none (law.fresh e) m (omega arith)) (omega (arith, put-length s (entry_row e none)))
+        rebuild-lift (put s (entry_row e none)) (put_row h new (h.fresh e)) es [] c (put-entry s new (h.fresh e) e none (law.fresh e) m (omega arith)) (omega (arith, put-length s (entry_row e none)))
     rebuild-lift s new (e ∷ es) (o ∷ os) c m l =
-        rebuild-lift _ _ es os c.1 (put-entry s new (h.answered e o) e (some o) (law.answered e o c.0.0 c.0.1) m (omega arith))
+        rebuild-lift (put s (entry_row e (some o))) (put_row h new (h.answered e o)) es os c.1 (put-entry s new (h.answered e o) e (some o) (law.answered e o c.0.0 c.0.1) m (omega arith))
         (omega (arith, put-length s (entry_row e (some o))))
 
     pub blank-means : Means h n [] (replicate n h.blank)

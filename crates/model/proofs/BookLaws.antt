@@ -17,6 +17,7 @@ use mathlib.Core.Bool.{true}
 use mathlib.Core.List.{List, [], ◌∷◌, ◌++◌, append_assoc, append-nil}
 use lib.ListN.{length, take, length-append, length-take, length-drop, length-set}
 use borrow.Author.Tests.{eqb-true}
+use Rattle.fees.specs.Takings.{takings_after}
 use Rattle.numbers.proofs.WordLaws.{split, and_left, and_right}
 use Rattle.entries.specs.declared.Entry.{Entry}
 use Rattle.entries.specs.declared.Operation.{Operation}
@@ -69,7 +70,7 @@ answers-append ts (x ∷ xs) ys = ap (◌∷◌ (outcome ts x)) (answers-append 
 pub takings-append : (t : ℕ) (ts : List ℕ) (xs ys : List Entry) → takings_through t ts (xs ++ ys) ≡ takings_through (takings_through t ts xs) (through ts xs) ys
 unfolding through takings_through
 takings-append t ts [] ys = refl
-takings-append t ts (x ∷ xs) ys = takings-append _ (totals_after ts x) xs ys
+takings-append t ts (x ∷ xs) ys = takings-append (takings_after t (outcome ts x) x.cents) (totals_after ts x) xs ys
 
 -- a commit of entries, field by field
 pub commit_all-log : (b : Book) (es : List Entry) → (commit_all b es).log ≡ b.log

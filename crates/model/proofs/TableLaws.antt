@@ -186,8 +186,8 @@ keep-rises t e o p = split Rises _ _ _ (λ _. put-rises t _ p) (λ _. p)
 pub rebuilt-rises : (new : List ClientEntry) (es : List Entry) (os : List Outcome) → Rises new → Rises (rebuilt new es os)
 unfolding rebuilt
 rebuilt-rises new [] os p = p
-rebuilt-rises new (e ∷ es) [] p = rebuilt-rises _ es [] (put-rises new _ p)
-rebuilt-rises new (e ∷ es) (o ∷ os) p = rebuilt-rises _ es os (put-rises new _ p)
+rebuilt-rises new (e ∷ es) [] p = rebuilt-rises (put new (entry_row e none)) es [] (put-rises new _ p)
+rebuilt-rises new (e ∷ es) (o ∷ os) p = rebuilt-rises (put new (entry_row e (some o))) es os (put-rises new _ p)
 
 pub table-rises : (log : List Entry) (results : List Outcome) (commit : ℕ) → Rises (table_of log results commit)
 unfolding table_of
@@ -219,8 +219,8 @@ append_all-table b (e ∷ es) s =
 rebuilt-length : (new : List ClientEntry) (es : List Entry) (os : List Outcome) → length (rebuilt new es os) ≤ length new + length es
 unfolding rebuilt
 rebuilt-length new [] os = omega arith
-rebuilt-length new (e ∷ es) [] = one_more new _ (length es) _ (rebuilt-length _ es [])
-rebuilt-length new (e ∷ es) (o ∷ os) = one_more new _ (length es) _ (rebuilt-length _ es os)
+rebuilt-length new (e ∷ es) [] = one_more new _ (length es) _ (rebuilt-length (put new (entry_row e none)) es [])
+rebuilt-length new (e ∷ es) (o ∷ os) = one_more new _ (length es) _ (rebuilt-length (put new (entry_row e (some o))) es os)
 
 pub table-length : (log : List Entry) (results : List Outcome) (commit : ℕ) → length (table_of log results commit) ≤ length log
 unfolding table_of

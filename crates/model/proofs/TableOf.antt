@@ -97,16 +97,16 @@ module _ (c : ℕ) where
       → find (rebuilt t es os) c ≡ find (rebuilt t' es os) c
   unfolding rebuilt
   rebuilt-same t t' [] os p = p
-  rebuilt-same t t' (e ∷ es) [] p = rebuilt-same _ _ es [] (put_same t t' _ p)
-  rebuilt-same t t' (e ∷ es) (o ∷ os) p = rebuilt-same _ _ es os (put_same t t' _ p)
+  rebuilt-same t t' (e ∷ es) [] p = rebuilt-same (put t (entry_row e none)) (put t' (entry_row e none)) es [] (put_same t t' _ p)
+  rebuilt-same t t' (e ∷ es) (o ∷ os) p = rebuilt-same (put t (entry_row e (some o))) (put t' (entry_row e (some o))) es os (put_same t t' _ p)
 
   -- no entry is the client's
   pub rebuilt-none : (t : List ClientEntry) (es : List Entry) (os : List Outcome) (d : Entry)
       → ((j : ℕ) → j < length es → (get_or es j d).client ≡ c → ⊥) → find (rebuilt t es os) c ≡ find t c
   unfolding rebuilt entry_row
   rebuilt-none t [] os d n = refl
-  rebuilt-none t (e ∷ es) [] d n = rebuilt-none _ es [] d (λ j h. n (suc j) (omega arith)) ∙ find-other t _ c (n 0 (omega arith))
-  rebuilt-none t (e ∷ es) (o ∷ os) d n = rebuilt-none _ es os d (λ j h. n (suc j) (omega arith)) ∙ find-other t _ c (n 0 (omega arith))
+  rebuilt-none t (e ∷ es) [] d n = rebuilt-none (put t (entry_row e none)) es [] d (λ j h. n (suc j) (omega arith)) ∙ find-other t _ c (n 0 (omega arith))
+  rebuilt-none t (e ∷ es) (o ∷ os) d n = rebuilt-none (put t (entry_row e (some o))) es os d (λ j h. n (suc j) (omega arith)) ∙ find-other t _ c (n 0 (omega arith))
 
 -- what the entry at place i gave, as far as there are outcomes
 unfoldable pub gave : List Outcome → (i : ℕ) → Option Outcome
@@ -136,8 +136,8 @@ rebuilt-last t (e ∷ es) [] d zero h n =
     rebuilt-none e.client _ es [] d (λ j l. n (suc j) (omega arith) (omega arith)) ∙ find-put t (entry_row e none)
 rebuilt-last t (e ∷ es) (o ∷ os) d zero h n =
     rebuilt-none e.client _ es os d (λ j l. n (suc j) (omega arith) (omega arith)) ∙ find-put t (entry_row e (some o))
-rebuilt-last t (e ∷ es) [] d (suc i) h n = rebuilt-last _ es [] d i (omega arith) (λ j l k. n (suc j) (omega arith) (omega arith))
-rebuilt-last t (e ∷ es) (o ∷ os) d (suc i) h n = rebuilt-last _ es os d i (omega arith) (λ j l k. n (suc j) (omega arith) (omega arith))
+rebuilt-last t (e ∷ es) [] d (suc i) h n = rebuilt-last (put t (entry_row e none)) es [] d i (omega arith) (λ j l k. n (suc j) (omega arith) (omega arith))
+rebuilt-last t (e ∷ es) (o ∷ os) d (suc i) h n = rebuilt-last (put t (entry_row e (some o))) es os d i (omega arith) (λ j l k. n (suc j) (omega arith) (omega arith))
 
 -- ---- each client of the log has a row, of its latest number
 
@@ -151,8 +151,8 @@ put-stays t r c p =
 rebuilt-stays : (t : List ClientEntry) (es : List Entry) (os : List Outcome) (c : ℕ) → (find t c).there ≡ true → (find (rebuilt t es os) c).there ≡ true
 unfolding rebuilt
 rebuilt-stays t [] os c p = p
-rebuilt-stays t (e ∷ es) [] c p = rebuilt-stays _ es [] c (put-stays t _ c p)
-rebuilt-stays t (e ∷ es) (o ∷ os) c p = rebuilt-stays _ es os c (put-stays t _ c p)
+rebuilt-stays t (e ∷ es) [] c p = rebuilt-stays (put t (entry_row e none)) es [] c (put-stays t _ c p)
+rebuilt-stays t (e ∷ es) (o ∷ os) c p = rebuilt-stays (put t (entry_row e (some o))) es os c (put-stays t _ c p)
 
 put-there : (t : List ClientEntry) (e : Entry) (k : Option Outcome) → (find (put t (entry_row e k)) e.client).there ≡ true
 unfolding entry_row
@@ -164,8 +164,8 @@ unfolding rebuilt
 rebuilt-there t [] os d i h = absurd (omega arith)
 rebuilt-there t (e ∷ es) [] d zero h = rebuilt-stays _ es [] _ (put-there t e none)
 rebuilt-there t (e ∷ es) (o ∷ os) d zero h = rebuilt-stays _ es os _ (put-there t e (some o))
-rebuilt-there t (e ∷ es) [] d (suc i) h = rebuilt-there _ es [] d i (omega arith)
-rebuilt-there t (e ∷ es) (o ∷ os) d (suc i) h = rebuilt-there _ es os d i (omega arith)
+rebuilt-there t (e ∷ es) [] d (suc i) h = rebuilt-there (put t (entry_row e none)) es [] d i (omega arith)
+rebuilt-there t (e ∷ es) (o ∷ os) d (suc i) h = rebuilt-there (put t (entry_row e (some o))) es os d i (omega arith)
 
 -- one entry more, and then the others
 latest-step : (t : List ClientEntry) (es : List Entry) (f : Entry) (fs : List Entry) (k : Option Outcome) → Latest t es → rising (es ++ f ∷ fs) ≡ true
@@ -180,10 +180,10 @@ unfolding rebuilt
 rebuilt-latest t es [] os l h = rw (append-nil es) l
 rebuilt-latest t es (f ∷ fs) [] l h =
     let s = latest-step t es f fs none l h in
-    rw (← append_snoc es f fs) (rebuilt-latest _ (es ++ (f ∷ [])) fs [] s.0 s.1)
+    rw (← append_snoc es f fs) (rebuilt-latest (put t (entry_row f none)) (es ++ (f ∷ [])) fs [] s.0 s.1)
 rebuilt-latest t es (f ∷ fs) (o ∷ os) l h =
     let s = latest-step t es f fs (some o) l h in
-    rw (← append_snoc es f fs) (rebuilt-latest _ (es ++ (f ∷ [])) fs os s.0 s.1)
+    rw (← append_snoc es f fs) (rebuilt-latest (put t (entry_row f (some o))) (es ++ (f ∷ [])) fs os s.0 s.1)
 
 -- ---- the table of a log
 
@@ -223,8 +223,8 @@ rebuilt-more : (t : List ClientEntry) (es : List Entry) (os : List Outcome) (e :
 unfolding rebuilt
 rebuilt-more t [] [] e h = refl
 rebuilt-more t [] (o ∷ os) e h = absurd (omega arith)
-rebuilt-more t (x ∷ es) [] e h = rebuilt-more _ es [] e (omega arith)
-rebuilt-more t (x ∷ es) (o ∷ os) e h = rebuilt-more _ es os e (omega arith)
+rebuilt-more t (x ∷ es) [] e h = rebuilt-more (put t (entry_row x none)) es [] e (omega arith)
+rebuilt-more t (x ∷ es) (o ∷ os) e h = rebuilt-more (put t (entry_row x (some o))) es os e (omega arith)
 
 rebuilt-split : (t : List ClientEntry) (xs ys : List Entry) (os ps : List Outcome) → length xs ≡ length os
     → rebuilt t (xs ++ ys) (os ++ ps) ≡ rebuilt (rebuilt t xs os) ys ps
@@ -232,7 +232,7 @@ unfolding rebuilt
 rebuilt-split t [] ys [] ps h = refl
 rebuilt-split t [] ys (o ∷ os) ps h = absurd (omega arith)
 rebuilt-split t (x ∷ xs) ys [] ps h = absurd (omega arith)
-rebuilt-split t (x ∷ xs) ys (o ∷ os) ps h = rebuilt-split _ xs ys os ps (omega arith)
+rebuilt-split t (x ∷ xs) ys (o ∷ os) ps h = rebuilt-split (put t (entry_row x (some o))) xs ys os ps (omega arith)
 
 behind : (xs : List Entry) (e : Entry) (fs : List Entry) → rising (xs ++ e ∷ fs) ≡ true → follows e fs ≡ true
 unfolding rising
@@ -293,7 +293,7 @@ module _ (e : Entry) (o : Outcome) where
   kept-mine t t' (f ∷ fs) w p q =
       ⊎_elim (next-mine t t' f fs (not-true (breaks_at e f) (and_left _ _ w)) (and_right _ _ w))
       (λ n.
-      kept-mine _ _ fs (and_right _ _ w)
+      kept-mine (put t (entry_row f none)) (put t' (entry_row f none)) fs (and_right _ _ w)
       (find-other t (entry_row f none) e.client n ∙ p)
       (find-other t' (entry_row f none) e.client n ∙ q))
       (eq-or-not f.client e.client)

@@ -20,6 +20,7 @@ module _ (u : Setup) where
   -- ---- who asked in some calls asked in more of them
 
   asked-before : (cs ds : List Call) (v r : ℕ) → AskedIn u cs v r → AskedIn u (cs ++ ds) v r
+  asked-before [] ds v r x' = elim x' [ ]
   asked-before (c ∷ cs) ds v r (inl a) = inl a
   asked-before (c ∷ cs) ds v r (inr a) = inr (asked-before cs ds v r a)
 

@@ -17,13 +17,13 @@ use Rattle.config.specs.declared.Setup.{Setup}
 use Rattle.config.proofs.SetupLaws.{sized}
 use Rattle.fees.specs.Takings.{most_takings}
 use Rattle.frames.specs.declared.Status.{Status}
-use Rattle.model.specs.State.{Held, Reported, Response, State, Sent, Reply, Answer, op_of}
+use Rattle.model.specs.State.{Held, Reported, Response, State, Sent, Reply, Answer, op_of, after}
 use Rattle.model.specs.State.Answer.{refused, done}
 use Rattle.model.specs.Book.{through, results_of, takings_through, rebuilt, table_of, empty_book}
 use Rattle.model.specs.ViewChange.{no_reports}
 use Rattle.model.specs.Recovery.{no_responses}
 use Rattle.model.specs.Steps.{fitted, held_ok, held_ok_in, reported_ok, responses_ok, numbers_ok, new_at, create, recover}
-use Rattle.safety.specs.Demand.{Call, run, Created, At, Every, StoredSound, SoundReport, SoundResponse, zeros, Safe, Later, Demand3}
+use Rattle.safety.specs.Demand.{answer, Call, run, Created, At, Every, StoredSound, SoundReport, SoundResponse, zeros, Safe, Later, Demand3}
 use Rattle.safety.specs.Demand.Created.{new, back}
 use Rattle.safety.specs.Money.{sum}
 use Rattle.safety.specs.Ranges.{Small}
@@ -159,7 +159,7 @@ module _ (u : Setup) where
   run-next : (m : State) (cs : List Call) → Next u m (run u m cs)
   unfolding run
   run-next m [] = still u (le_refl _) refl refl
-  run-next m (c ∷ cs) = next-next u (after_next u (call-good u m c)) (run-next _ cs)
+  run-next m (c ∷ cs) = next-next u (after_next u (call-good u m c)) (run-next (after m (answer u m c)) cs)
 
   reached : (m : State) → Inv u m → (cs : List Call) → Inv u (run u m cs)
   reached m i cs = record { book = ((run-next m cs).book-ok i).inv; store = (run-next m cs).store_ok i }

@@ -1,4 +1,6 @@
 // The state in a lent byte run of 154 bytes, for callers that aren't Rattle: read, written, and tested for bytes without meaning.
+#![tactic(auto)]
+
 ghost use Rattle.std.specs.Prelude.{◌≡◌, true, ◌≤◌, length};
 ghost use Rattle.numbers.specs.Numbers.{over};
 ghost use Rattle.state_bytes.specs.Layout.{state_with, state_of, encode_place, encode_votes, Onward, Clocked, state_ok, is_quiet, front_ok, look_of, HoldsState};

@@ -1,4 +1,6 @@
 // What several handlers share: whether a primary's message is taken, commits up to an op number, GetState and PrepareOk.
+#![tactic(auto)]
+
 ghost use Rattle.std.specs.Prelude.{◌≡◌, ◌≤◌, ◌<◌, length};
 ghost use Rattle.numbers.specs.Numbers.{over};
 ghost use Rattle.steps.specs.Steps.{Sound, spoke, left, accept_changing, is_take, committed_to, settled, asked_for_state, deferred, transferred, prepare_ok_of, committed_and_acked};

@@ -8,8 +8,7 @@ use client::{Read, ReplyOutcome};
 use numbers::View;
 
 // create
-#[unsafe(no_mangle)]
-pub extern "C" fn whitherhaul_client_create(n: u32, id: u64, held: &mut [u8]) -> u8
+pub fn whitherhaul_client_create(n: u32, id: u64, held: &mut [u8]) -> u8
     ensures { ClientCreateRan n id held.old (record { code = result; run = held.new }) }
 {
     if held.len() != 54 {
@@ -25,8 +24,7 @@ pub extern "C" fn whitherhaul_client_create(n: u32, id: u64, held: &mut [u8]) ->
 }
 
 // on_request
-#[unsafe(no_mangle)]
-pub extern "C" fn whitherhaul_client_request(
+pub fn whitherhaul_client_request(
     held: &mut [u8],
     operation: u8,
     member: u32,
@@ -57,8 +55,7 @@ pub extern "C" fn whitherhaul_client_request(
 }
 
 // on_reply
-#[unsafe(no_mangle)]
-pub extern "C" fn whitherhaul_client_reply(
+pub fn whitherhaul_client_reply(
     held: &mut [u8],
     number: u64,
     view: u32,
@@ -81,12 +78,7 @@ pub extern "C" fn whitherhaul_client_reply(
 }
 
 // on_idle
-#[unsafe(no_mangle)]
-pub extern "C" fn whitherhaul_client_idle(
-    held: &[u8],
-    area: &mut [u8],
-    answers: &mut [u64; 1],
-) -> u8
+pub fn whitherhaul_client_idle(held: &[u8], area: &mut [u8], answers: &mut [u64; 1]) -> u8
     ensures { (record { code = result; answers = answers.new; area = area.new }) ≡ client_idle_run held.now area.old }
 {
     *answers = [0];
@@ -113,12 +105,7 @@ fn outcome_number(o: ReplyOutcome) -> u8
 }
 
 // A Reply, read: view, client, request, outcome and total, or all are 0 where it is malformed; then the offset is that of its first wrong byte, else 0.
-#[unsafe(no_mangle)]
-pub extern "C" fn whitherhaul_read_reply(
-    frame: &[u8],
-    answers: &mut [u64; 5],
-    offset: &mut u64,
-) -> u8
+pub fn whitherhaul_read_reply(frame: &[u8], answers: &mut [u64; 5], offset: &mut u64) -> u8
     ensures { ((record { code = result; answers = answers.new }) ≡ read_run frame.now) × Points reply_ok frame.now result offset.new }
 {
     *answers = [0, 0, 0, 0, 0];

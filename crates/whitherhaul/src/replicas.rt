@@ -50,8 +50,7 @@ fn keep_clocked(a: Returned, state: &mut [u8]) -> u8
 }
 
 // new. The setup's numbers may be any: those outside the sizes are refused before they are put into the setup's fields.
-#[unsafe(no_mangle)]
-pub extern "C" fn whitherhaul_create(
+pub fn whitherhaul_create(
     n: u32,
     id: u32,
     timeout: u32,
@@ -65,7 +64,9 @@ pub extern "C" fn whitherhaul_create(
     stored: &[u8],
     table: &mut [u8],
 ) -> u8
-    ensures { Ends (CreateRan (record { n = n; id = id; timeout = timeout; room = room; members = members }) state.old) result (0 ∷ 0 ∷ []) state.new (lent log.now results.now totals.old acks.old stored.now table.old [] []) (lent log.now results.now totals.new acks.new stored.now table.new [] []) }
+    ensures { Ends (CreateRan (record { n = n; id = id; timeout = timeout; room = room; members = members }) state.old) result (0 ∷ 0 ∷ []) state.new
+        (lent log.now results.now totals.old acks.old stored.now table.old [] [])
+        (lent log.now results.now totals.new acks.new stored.now table.new [] []) }
 {
     if state.len() != 154 {
         return 1;
@@ -81,8 +82,7 @@ pub extern "C" fn whitherhaul_create(
 }
 
 // recover
-#[unsafe(no_mangle)]
-pub extern "C" fn whitherhaul_recover(
+pub fn whitherhaul_recover(
     n: u32,
     id: u32,
     timeout: u32,
@@ -100,7 +100,9 @@ pub extern "C" fn whitherhaul_recover(
     out: &mut [u8],
     counts: &mut [u64; 2],
 ) -> u8
-    ensures { Ends (RecoverRan (record { n = n; id = id; timeout = timeout; room = room; members = members }) (record { 0 = view }) nonce state.old) result counts.new state.new (lent log.now results.now totals.old acks.old stored.now table.old out.old []) (lent log.now results.now totals.new acks.new stored.now table.new out.new []) }
+    ensures { Ends (RecoverRan (record { n = n; id = id; timeout = timeout; room = room; members = members }) (record { 0 = view }) nonce state.old) result counts.new state.new
+        (lent log.now results.now totals.old acks.old stored.now table.old out.old [])
+        (lent log.now results.now totals.new acks.new stored.now table.new out.new []) }
 {
     *counts = [0, 0];
     if state.len() != 154 {
@@ -142,7 +144,9 @@ fn message_whole(
     offset: &mut u64,
 ) -> u8
     requires { state_ok state.old ≡ true }
-    ensures { Ends (MessageRan state.old frame.now) result counts.new state.new (lent log.old results.old totals.old acks.old stored.old table.old out.old reps.old) (lent log.new results.new totals.new acks.new stored.new table.new out.new reps.new) × Points well_formed frame.now result offset.new }
+    ensures { Ends (MessageRan state.old frame.now) result counts.new state.new
+        (lent log.old results.old totals.old acks.old stored.old table.old out.old reps.old)
+        (lent log.new results.new totals.new acks.new stored.new table.new out.new reps.new) × Points well_formed frame.now result offset.new }
 {
     let r = replica::call::on_message(
         state_bytes::read_state(state),
@@ -178,7 +182,9 @@ fn message_usual(
     offset: &mut u64,
 ) -> u8
     requires { (state_ok state.old ≡ true) × (is_quiet state.old ≡ true) }
-    ensures { Ends (MessageRan state.old frame.now) result counts.new state.new (lent log.old results.old totals.old acks.old stored.old table.old out.old reps.old) (lent log.new results.new totals.new acks.new stored.new table.new out.new reps.new) × Points well_formed frame.now result offset.new }
+    ensures { Ends (MessageRan state.old frame.now) result counts.new state.new
+        (lent log.old results.old totals.old acks.old stored.old table.old out.old reps.old)
+        (lent log.new results.new totals.new acks.new stored.new table.new out.new reps.new) × Points well_formed frame.now result offset.new }
 {
     let s = state_bytes::read_quiet(state);
     if !usual::is_usual(s, frame) {
@@ -206,8 +212,7 @@ fn may_be_usual(quiet: bool, frame: &[u8]) -> bool
 }
 
 // on_message, and with refusal 2 the offset of the frame's first wrong byte, else 0. The same call stands once for each kind of a usual frame, and nothing is written between the look at the kind and the call: so the compiler makes of each the code of that kind alone.
-#[unsafe(no_mangle)]
-pub extern "C" fn whitherhaul_on_message(
+pub fn whitherhaul_on_message(
     state: &mut [u8],
     frame: &[u8],
     log: &mut [u8],
@@ -221,7 +226,9 @@ pub extern "C" fn whitherhaul_on_message(
     counts: &mut [u64; 2],
     offset: &mut u64,
 ) -> u8
-    ensures { Ends (MessageRan state.old frame.now) result counts.new state.new (lent log.old results.old totals.old acks.old stored.old table.old out.old reps.old) (lent log.new results.new totals.new acks.new stored.new table.new out.new reps.new) × Points well_formed frame.now result offset.new }
+    ensures { Ends (MessageRan state.old frame.now) result counts.new state.new
+        (lent log.old results.old totals.old acks.old stored.old table.old out.old reps.old)
+        (lent log.new results.new totals.new acks.new stored.new table.new out.new reps.new) × Points well_formed frame.now result offset.new }
 {
     *counts = [0, 0];
     *offset = 0;
@@ -315,8 +322,7 @@ fn tick_usual(
 }
 
 // on_idle
-#[unsafe(no_mangle)]
-pub extern "C" fn whitherhaul_on_idle(
+pub fn whitherhaul_on_idle(
     state: &mut [u8],
     log: &mut [u8],
     results: &mut [u8],
@@ -346,8 +352,7 @@ pub extern "C" fn whitherhaul_on_idle(
 }
 
 // takings: the sum over all members, 0 where it is refused. Nothing is written but the answer.
-#[unsafe(no_mangle)]
-pub extern "C" fn whitherhaul_takings(state: &[u8], cents: &mut u64) -> u8
+pub fn whitherhaul_takings(state: &[u8], cents: &mut u64) -> u8
     ensures { TakingsRan state.now (taken result cents.new) }
 {
     *cents = 0;

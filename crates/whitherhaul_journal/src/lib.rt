@@ -5,8 +5,7 @@ ghost use Rattle.journal.specs.Calls.{write_call, append_call, read_call, frame_
 ghost use Rattle.whitherhaul_journal.specs.Boundary.{wrote, read_as, framed_numbers, taken_as};
 
 // The journal of a run of entries.
-#[unsafe(no_mangle)]
-pub extern "C" fn whitherhaul_journal_write(
+pub fn whitherhaul_journal_write(
     members: u32,
     run: &[u8],
     area: &mut [u8],
@@ -20,8 +19,7 @@ pub extern "C" fn whitherhaul_journal_write(
 }
 
 // The frames of ops from + 1 to `to` out of a replica's log and results.
-#[unsafe(no_mangle)]
-pub extern "C" fn whitherhaul_journal_append(
+pub fn whitherhaul_journal_append(
     from: u32,
     to: u32,
     log: &[u8],
@@ -37,8 +35,7 @@ pub extern "C" fn whitherhaul_journal_append(
 }
 
 // A file read back; answers: entries, and with 12 the offset of the first bad frame and what is wrong with it.
-#[unsafe(no_mangle)]
-pub extern "C" fn whitherhaul_journal_read(
+pub fn whitherhaul_journal_read(
     members: u32,
     file: &[u8],
     area: &mut [u8],
@@ -53,8 +50,7 @@ pub extern "C" fn whitherhaul_journal_read(
 }
 
 // Frame number i + 1 of a file as it stands: returns what is wrong with its form, or 0; answers: client, request, operation, member, cents, outcome, total.
-#[unsafe(no_mangle)]
-pub extern "C" fn whitherhaul_journal_frame(file: &[u8], i: u64, answers: &mut [u64; 7]) -> u8
+pub fn whitherhaul_journal_frame(file: &[u8], i: u64, answers: &mut [u64; 7]) -> u8
     ensures { framed_numbers (frame_in i file.now) ≡ result ∷ answers.new }
 {
     let a = journal::frame(file, i as usize);
@@ -73,8 +69,7 @@ pub extern "C" fn whitherhaul_journal_frame(file: &[u8], i: u64, answers: &mut [
 }
 
 // The takings: all totals added up.
-#[unsafe(no_mangle)]
-pub extern "C" fn whitherhaul_journal_takings(members: u32, totals: &[u8], cents: &mut u64) -> u8
+pub fn whitherhaul_journal_takings(members: u32, totals: &[u8], cents: &mut u64) -> u8
     ensures { taken_as result cents.new ≡ takings_of members totals.now }
 {
     let a = journal::takings(members, totals);

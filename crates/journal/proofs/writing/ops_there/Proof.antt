@@ -18,14 +18,14 @@ returns-3 : tie.Need-returns-3
 unfolding ◌and◌ ops_there
 returns-3 c =
     let d = c.before.before in
-    rw (le-leb _ _ d.before.if1.false, le-leb _ _ d.if2.false, ← c.before.entry_Is_place.ensures, lt-leb _ _ c.if3.true)
+    rw (le-leb _ _ d.before.if1.false, le-leb _ _ d.if2.false, ← c.before.entry_place.ensures, lt-leb _ _ c.if3.true)
 
 returns-4 : tie.Need-returns-4
 unfolding ◌and◌ ops_there
 returns-4 c =
     let e = c.before in
     let d = e.before.before in
-    rw (le-leb _ _ d.before.if1.false, le-leb _ _ d.if2.false, ← e.before.entry_Is_place.ensures, le-leb _ _ e.if3.false, c.result-place.ensures)
+    rw (le-leb _ _ d.before.if1.false, le-leb _ _ d.if2.false, ← e.before.entry_place.ensures, le-leb _ _ e.if3.false, c.result-place.ensures)
 
 pub ops-there-spec : {M : Type 1} → statement M
 ops-there-spec =

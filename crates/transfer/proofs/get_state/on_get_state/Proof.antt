@@ -38,13 +38,13 @@ sub-new-state : tie.Need-overflow-sub-new-state
 sub-new-state c =
     let a = c.before.before.before.before.before.before.before.before.before.before.before.before.args in
     omega
-    (arith, c.before.entry_Is_place.ensures, (starts a.s a.o a.log.now c.before.before.before.before.before.before.before.before.before.before.before.before.requires (has a.s a.v a.o (ap not (sym c.before.before.before.before.before.before.before.before.before.answers.ensures) ∙ c.before.before.before.before.before.before.before.before.if1.false))).1)
+    (arith, c.before.entry_place.ensures, (starts a.s a.o a.log.now c.before.before.before.before.before.before.before.before.before.before.before.before.requires (has a.s a.v a.o (ap not (sym c.before.before.before.before.before.before.before.before.before.answers.ensures) ∙ c.before.before.before.before.before.before.before.before.if1.false))).1)
 
 part-new-state-start : tie.Need-slice-bounds-new-state-start
 part-new-state-start c =
     let a = c.before.before.before.before.before.before.before.before.before.before.before.before.args in
     omega
-    (arith, c.before.entry_Is_place.ensures, (starts a.s a.o a.log.now c.before.before.before.before.before.before.before.before.before.before.before.before.requires (has a.s a.v a.o (ap not (sym c.before.before.before.before.before.before.before.before.before.answers.ensures) ∙ c.before.before.before.before.before.before.before.before.if1.false))).1)
+    (arith, c.before.entry_place.ensures, (starts a.s a.o a.log.now c.before.before.before.before.before.before.before.before.before.before.before.before.requires (has a.s a.v a.o (ap not (sym c.before.before.before.before.before.before.before.before.before.answers.ensures) ∙ c.before.before.before.before.before.before.before.before.if1.false))).1)
 
 new-state-requires : tie.Need-new-state-requires
 new-state-requires c κs =
@@ -52,18 +52,18 @@ new-state-requires c κs =
     new-state-fits a.s a.o a.log.now
     c.before.before.before.before.before.before.before.before.before.before.before.before.before.requires
     (has a.s a.v a.o (ap not (sym c.before.before.before.before.before.before.before.before.before.before.answers.ensures) ∙ c.before.before.before.before.before.before.before.before.before.if1.false))
-    c.before.before.entry_Is_place.result a.out.now c.before.before.entry_Is_place.ensures
+    c.before.before.entry_place.result a.out.now c.before.before.entry_place.ensures
     c.before.before.before.before.before.before.if2.false
 
 returns-3 : tie.Need-returns-3
 returns-3 c =
     let a = c.before.before.before.before.before.before.before.before.before.before.before.before.before.before.before.before.before.args in
     answered a.s a.from a.v a.o a.log.now a.out.now _
-    c.before.before.before.before.before.before.entry_Is_place.result _ _
+    c.before.before.before.before.before.before.entry_place.result _ _
     c.before.before.before.before.before.before.before.before.before.before.before.before.before.before.before.before.before.requires
     (ap not (sym c.before.before.before.before.before.before.before.before.before.before.before.before.before.before.answers.ensures) ∙ c.before.before.before.before.before.before.before.before.before.before.before.before.before.if1.false)
     c.before.before.before.before.before.before.before.before.before.before.if2.false
-    c.before.before.before.before.before.before.entry_Is_place.ensures c.before.before.before.new-state.ensures
+    c.before.before.before.before.before.before.entry_place.ensures c.before.before.before.new-state.ensures
     c.done2.ensures
 
 pub on-get-state-spec : {M : Type 1} → statement M

@@ -1,0 +1,51 @@
+-- `client_table_bytes::follow_commit` meets its contract.
+-- The invariant: what the whole run of entries would leave is what the rest of it would leave of the rows that are there now. Assumes nothing.
+use mathlib.Core.Path.{refl, sym, ◌∙◌}
+use Prim.Native.Nat.{◌-◌, ◌*◌}
+use native.Mathlib.Omega.{arith}
+use lib.ListN.{drop}
+use Rattle.numbers.proofs.CellLaws.{cells-next, cells-none}
+use Rattle.entries.specs.Entries.{entry_of, entries}
+use Rattle.fees.specs.Results.{result_of, outcomes}
+use Rattle.client_table.proofs.Turns.{commit-turn, commit-nothing}
+use Rattle.client_table_bytes.specs.Layout.{byte_row, rows_of}
+use Rattle.client_table_bytes.proofs.LayoutLaws.{left-same, left_is, left-then, left-now}
+use Rattle.client_table_bytes.proofs.follow_commit.Goals as goal
+
+pub loop-k-init : goal.loop-k-init
+loop-k-init c =
+    let pre = c.requires in
+    let a = c.args in (
+      omega arith,
+      pre.1.1.1,
+      left-same a.n a.table.now (λ i. omega (arith, c.slice_known-1.given i))
+          pre.0,
+      refl,
+    )
+
+pub loop-k-preserved : goal.loop-k-preserved
+loop-k-preserved c =
+    let loop-test = c.loop-k-test in
+    let entry_in = c.entry_in-e in
+    let result-in = c.result_in-o in
+    let l = c.loop-k in
+    let a = c.args in
+    let p = c.reply.ensures in
+    let e = entry_in.result in
+    let o = result-in.result in (
+      omega arith,
+      omega arith,
+      left-now (left-then l.invariant.2 p),
+      l.invariant.3 ∙ commit-turn byte_row (rows_of a.n l.table) _ e o (entries (a.to - l.k) (drop (32 * l.k) a.log.now)) _
+          (outcomes (a.to - l.k) (drop (9 * l.k) a.results.now)) _
+          (cells-next 32 entry_of a.to a.log.now l.k e loop-test.true entry_in.ensures)
+          (cells-next 9 result_of a.to a.results.now l.k o loop-test.true result-in.ensures) p.rows,
+    )
+
+pub returns : goal.returns
+returns c = let l = c.loop-k in
+    let a = c.args in
+    left_is l.invariant.2 (sym (l.invariant.3 ∙ commit-nothing byte_row (rows_of a.n l.table)
+    (entries (a.to - l.k) (drop (32 * l.k) a.log.now))
+    (outcomes (a.to - l.k) (drop (9 * l.k) a.results.now)) (cells-none 9 result_of a.to (drop (9 * l.k) a.results.now)
+    l.k c.loop-k-test.false)))

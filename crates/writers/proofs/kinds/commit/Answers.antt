@@ -1,0 +1,11 @@
+-- `writers::kinds::commit` meets its contract: each part stands straight behind the one before. Assumes nothing.
+use mathlib.Core.Path.{refl}
+use Rattle.numbers.specs.Numbers.{big}
+use Rattle.numbers.proofs.RunLaws.{over-lend}
+use Rattle.writers.specs.Writers.{header, encode}
+use Rattle.writers.proofs.kinds.commit.Goals as goal
+
+pub returns : goal.returns
+unfolding big header encode
+returns c =
+    record { bytes = over-lend _ _ _ 11 refl c.write_viewed.ensures c.write_u32.ensures; count = refl }
