@@ -1,5 +1,5 @@
 // The outside calls but for the client table, of which they are told its length and a client's latest request.
-ghost use Rattle.core.specs.Prelude.{◌≡◌, []};
+ghost use Rattle.std.specs.Prelude.{◌≡◌, []};
 ghost use Rattle.book.specs.Memory.{memory};
 ghost use Rattle.steps.specs.Recorded.{Does};
 ghost use Rattle.frames.specs.Numbered.{checked_offset};
@@ -137,7 +137,7 @@ pub fn create(
     acks: &mut [u8],
     stored: &[u8],
 ) -> Returned
-    ensures { Does (create_core u rows) result log results totals acks stored unlent unlent }
+    ensures { Does (create_core u rows) result (memory log.now results.now totals.old acks.old stored.now [] []) (memory log.now results.now totals.new acks.new stored.now [] []) }
 {
     let l = Lengths {
         log: log.len(),
@@ -163,7 +163,7 @@ pub fn recover(
     stored: &[u8],
     out: &mut [u8],
 ) -> Returned
-    ensures { Does (recover_core u v nonce rows) result log results totals acks stored out unlent }
+    ensures { Does (recover_core u v nonce rows) result (memory log.now results.now totals.old acks.old stored.now out.old []) (memory log.now results.now totals.new acks.new stored.now out.new []) }
 {
     let l = Lengths {
         log: log.len(),
