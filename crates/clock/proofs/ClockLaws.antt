@@ -4,10 +4,10 @@
 --     limit-fits, limit-most                            a wait's length is below 2 ^ 27
 --     waits-on                                          a wait that is not over is shorter than that: no counter reaches its end
 -- Assumes nothing.
-use mathlib.Core.Path.{◌≡◌, refl, sym, ap, ◌∙◌}
+use mathlib.Core.Path.{◌≡◌, refl, ap, ◌∙◌}
 use mathlib.Core.Bool.{Bool, true, false}
 use Prim.Native.Nat.{ℕ, ◌+◌, ◌*◌, ◌^◌, ◌%◌, ◌≤◌, ◌<◌, min}
-use native.Mathlib.Nat.{mul-le-mul, mod-eq_of_lt, le_refl}
+use native.Mathlib.Nat.{mul-le-mul, mod-eq_of_lt}
 use native.Mathlib.Omega.{arith}
 use lib.Dec.{leb}
 use lib.Pow.{pow_mono}

@@ -16,7 +16,7 @@
 -- Assumes nothing.
 use mathlib.Core.Path.{◌≡◌, refl, sym, ap, ap₂, ◌∙◌, subst}
 use mathlib.Core.Logic.{◌⊎◌, inl, inr}
-use mathlib.Core.List.{List, [], ◌∷◌, ◌++◌}
+use mathlib.Core.List.{[], ◌∷◌}
 use Prim.Native.Nat.{ℕ, zero, suc, ◌+◌, ◌*◌, ◌/◌, ◌%◌, ◌^◌, ◌≤◌, ◌<◌, max}
 use native.Mathlib.Nat.{le_refl, zero-lt-suc, mod-lt, div-one, pow-suc, pow-succ', div-div-eq-div-mul, div-lt_iff_lt-mul, div-add-mod', max-zero, mul-div_cancel, mul-mod_left, zero-div, mod-eq_of_lt}
 use native.Mathlib.Omega.{arith}

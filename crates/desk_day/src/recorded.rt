@@ -4,6 +4,7 @@ use crate::lent;
 use client::{AfterRequest, Client, Pending};
 use comparing::{memory, words};
 use numbers::View;
+use std::io;
 
 // What was played: the record, the last call's number and how many bytes it wrote to an area of so many, and how many lines were compared and how many differ.
 #[derive(Clone, Copy)]
@@ -25,7 +26,7 @@ struct Turn {
 }
 
 fn next(x: u64) -> u64 {
-    std::num::wrapping_add_u64(x, 1)
+    x.wrapping_add(1)
 }
 
 fn low(x: u64) -> u32 {
@@ -186,7 +187,7 @@ fn end_of(trace: &[u8], at: usize) -> usize {
     if trace.len() <= at {
         return 0;
     }
-    std::num::wrapping_add_usize(at, words::find(&trace[at..], 10))
+    at.wrapping_add(words::find(&trace[at..], 10))
 }
 
 // The next line is played, if one is left.
@@ -202,7 +203,7 @@ fn next_line(trace: &[u8], t: Turn, area: &mut [u8]) -> Turn {
     }
     let c = first(&trace[at..to]);
     Turn {
-        at: std::num::wrapping_add_usize(to, 1),
+        at: to.wrapping_add(1),
         played: by_line(p, c, &trace[at..to], area),
     }
 }
@@ -225,21 +226,19 @@ fn beginning() -> Turn {
 // Every line; the last one may have no end.
 fn lines(trace: &[u8], area: &mut [u8]) -> Turn {
     let mut t = beginning();
-    let mut left = std::num::wrapping_add_usize(words::count(trace, 10), 1);
-    while 0 < left {
-        left -= 1;
+    for _ in 0..=words::count(trace, 10) {
         t = next_line(trace, t, area);
     }
     t
 }
 
 // A trace played, and the counts.
-pub fn replay(trace: &[u8]) {
+pub fn replay<W: io::Write>(writer: &mut W, trace: &[u8]) -> io::Result<()> {
     let mut area = [0u8; 512];
     let t = lines(trace, &mut area);
     let p = t.played;
-    text::labelled(b"recorded: ", p.calls);
-    text::labelled(b" calls of clients, ", p.records);
-    text::labelled(b" answers and records compared, ", p.differ);
-    text::say(b" differ\n");
+    text::labelled(writer, b"recorded: ", p.calls)?;
+    text::labelled(writer, b" calls of clients, ", p.records)?;
+    text::labelled(writer, b" answers and records compared, ", p.differ)?;
+    text::say(writer, b" differ\n")
 }

@@ -1,4 +1,6 @@
 // DoViewChange: sent, kept, and with a quorum of them the view begins.
+#![tactic(auto)]
+
 use numbers::Op;
 use reports::Best;
 

@@ -3,15 +3,14 @@
 --     inside, outside                                 an entry on a run of totals, by where its member stands
 --     fee-small                                       a total that was inside the limit stays inside it
 -- Assumes nothing.
-use mathlib.Core.Path.{◌≡◌, refl, ap, sym, ◌∙◌}
+use mathlib.Core.Path.{◌≡◌, ap, sym, ◌∙◌}
 use mathlib.Core.List.{List, ◌++◌}
 use Prim.Native.Nat.{ℕ, ◌+◌, ◌-◌, ◌*◌, ◌≤◌, ◌<◌}
 use native.Mathlib.Omega.{arith}
 use lib.Dec.{ltb}
 use lib.ListN.{length, take, drop}
 use borrow.Author.Tests.{lt-ltb, le-ltb, ltb-false}
-use Rattle.numbers.specs.Words.{if◌then◌else◌}
-use Rattle.numbers.specs.Numbers.{num, big, over, put_at}
+use Rattle.numbers.specs.Numbers.{big, over, put_at}
 use Rattle.numbers.proofs.WordLaws.{if-true, if-false, split}
 use Rattle.numbers.proofs.RunLaws.{put-part}
 use Rattle.entries.specs.Entries.{operation_of}

@@ -1,6 +1,7 @@
 // What holds of a frame of every kind: its length, version, kind and addressee.
 use crate::vector::Vector;
 use crate::{field, log, tried, vector};
+use std::io;
 
 fn below(n: usize) -> usize {
     if n == 0 {
@@ -16,22 +17,23 @@ fn above(n: usize) -> usize {
     n + 1
 }
 
-fn itself(v: Vector) {
-    text::labelled(b": ", v.len as u64);
-    tried::said(b" bytes, number ", v);
-    tried::said_kind(b", message of kind ", v);
+fn itself<W: io::Write>(writer: &mut W, v: Vector) -> io::Result<()> {
+    text::labelled(writer, b": ", v.len as u64)?;
+    tried::said(writer, b" bytes, number ", v)?;
+    tried::said_kind(writer, b", message of kind ", v)
 }
 
-fn cuts(v: Vector) {
-    text::labelled(b"; cut at 0 to ", below(v.len) as u64);
-    tried::said_cuts(b": ", v, false);
-    text::labelled(b" of ", v.len as u64);
-    tried::said_cuts(b" refused by 2, length field put right: ", v, true);
-    tried::said(b"; a byte more: ", vector::cut(v, above(v.len)));
+fn cuts<W: io::Write>(writer: &mut W, v: Vector) -> io::Result<()> {
+    text::labelled(writer, b"; cut at 0 to ", below(v.len) as u64)?;
+    tried::said_cuts(writer, b": ", v, false)?;
+    text::labelled(writer, b" of ", v.len as u64)?;
+    tried::said_cuts(writer, b" refused by 2, length field put right: ", v, true)?;
+    tried::said(writer, b"; a byte more: ", vector::cut(v, above(v.len)))?;
     tried::said(
+        writer,
         b", length field put right: ",
         vector::fitted(v, above(v.len)),
-    );
+    )
 }
 
 fn length_low(v: Vector) -> u8 {
@@ -39,48 +41,50 @@ fn length_low(v: Vector) -> u8 {
     bytes[3]
 }
 
-fn lengths(v: Vector) {
+fn lengths<W: io::Write>(writer: &mut W, v: Vector) -> io::Result<()> {
     let low = length_low(v);
     tried::said(
+        writer,
         b"; length field one less ",
-        vector::with_byte(v, 3, std::num::wrapping_sub_u8(low, 1)),
-    );
+        vector::with_byte(v, 3, low.wrapping_sub(1)),
+    )?;
     tried::said(
+        writer,
         b", one more ",
-        vector::with_byte(v, 3, std::num::wrapping_add_u8(low, 1)),
-    );
-    tried::said(b", 16777216 more ", vector::with_byte(v, 0, 1));
+        vector::with_byte(v, 3, low.wrapping_add(1)),
+    )?;
+    tried::said(writer, b", 16777216 more ", vector::with_byte(v, 0, 1))
 }
 
-fn head(v: Vector) {
-    itself(v);
-    cuts(v);
-    text::say(b"\n  kind bytes not refused by 2:");
-    tried::kind_bytes(v);
-    tried::bytes(b"\n  version", v, 4, &[0, 1, 2, 255]);
-    lengths(v);
-    tried::bytes(b"; addressee", v, 6, &[0, 1, 2, 3, 255]);
-    text::say(b"\n");
+fn head<W: io::Write>(writer: &mut W, v: Vector) -> io::Result<()> {
+    itself(writer, v)?;
+    cuts(writer, v)?;
+    text::say(writer, b"\n  kind bytes not refused by 2:")?;
+    tried::kind_bytes(writer, v)?;
+    tried::bytes(writer, b"\n  version", v, 4, &[0, 1, 2, 255])?;
+    lengths(writer, v)?;
+    tried::bytes(writer, b"; addressee", v, 6, &[0, 1, 2, 3, 255])?;
+    text::say(writer, b"\n")
 }
 
-pub fn short(kind: u8) {
+pub fn short<W: io::Write>(writer: &mut W, kind: u8) -> io::Result<()> {
     let v = vector::short(kind);
-    text::kind(kind);
-    head(v);
-    field::short(kind, v);
+    text::kind(writer, kind)?;
+    head(writer, v)?;
+    field::short(writer, kind, v)
 }
 
-fn carrying(kind: u8, k: u32) {
+fn carrying<W: io::Write>(writer: &mut W, kind: u8, k: u32) -> io::Result<()> {
     let v = vector::logged(kind, k);
-    text::kind(kind);
-    text::labelled(b", log of ", k as u64);
-    head(v);
-    field::logged(kind, v);
-    log::last_entry(kind, k, v);
+    text::kind(writer, kind)?;
+    text::labelled(writer, b", log of ", k as u64)?;
+    head(writer, v)?;
+    field::logged(writer, kind, v)?;
+    log::last_entry(writer, kind, k, v)
 }
 
-pub fn logged(kind: u8) {
-    carrying(kind, 0);
-    carrying(kind, 1);
-    carrying(kind, 2);
+pub fn logged<W: io::Write>(writer: &mut W, kind: u8) -> io::Result<()> {
+    carrying(writer, kind, 0)?;
+    carrying(writer, kind, 1)?;
+    carrying(writer, kind, 2)
 }

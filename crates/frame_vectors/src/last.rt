@@ -1,52 +1,70 @@
 // NewState's start and end together, the order of the refusals, and what is no frame of a kind.
 use crate::vector::Vector;
 use crate::{tried, vector};
+use std::io;
 
-fn span(name: &[u8], k: u32, start: u32, values: &[u32]) {
+fn span<W: io::Write>(
+    writer: &mut W,
+    name: &[u8],
+    k: u32,
+    start: u32,
+    values: &[u32],
+) -> io::Result<()> {
     tried::longs(
+        writer,
         name,
         vector::with_long(vector::logged(6, k), 11, start),
         15,
         values,
-    );
+    )
 }
 
-fn reach(name: &[u8], start: u32, end: u32) {
+fn reach<W: io::Write>(writer: &mut W, name: &[u8], start: u32, end: u32) -> io::Result<()> {
     let v = vector::with_long(vector::logged(6, 2), 11, start);
     tried::longs(
+        writer,
         name,
         vector::with_long(v, 15, end),
         19,
         &[0, 3, 4, 5, 4294967295],
-    );
+    )
 }
 
-pub fn spans() {
+pub fn spans<W: io::Write>(writer: &mut W) -> io::Result<()> {
     span(
+        writer,
         b"NewState without entries, start 2: end",
         0,
         2,
         &[0, 1, 2, 3],
-    );
-    span(b"; start 3: end", 0, 3, &[2, 3, 4]);
-    span(b"; start 4: end", 0, 4, &[3, 4, 5]);
+    )?;
+    span(writer, b"; start 3: end", 0, 3, &[2, 3, 4])?;
+    span(writer, b"; start 4: end", 0, 4, &[3, 4, 5])?;
     span(
+        writer,
         b"; start 4294967295: end",
         0,
         4294967295,
         &[0, 4294967294, 4294967295],
-    );
+    )?;
     span(
+        writer,
         b"\nNewState of 2 entries, start 1: end",
         2,
         1,
         &[0, 1, 2, 3, 4],
-    );
-    span(b"; start 2: end", 2, 2, &[3, 4, 5]);
-    span(b"; start 4294967295: end", 2, 4294967295, &[1, 4294967295]);
-    reach(b"\nNewState of 2 entries, 1 to 3: c", 1, 3);
-    reach(b"; 2 to 4: c", 2, 4);
-    text::say(b"\n");
+    )?;
+    span(writer, b"; start 2: end", 2, 2, &[3, 4, 5])?;
+    span(
+        writer,
+        b"; start 4294967295: end",
+        2,
+        4294967295,
+        &[1, 4294967295],
+    )?;
+    reach(writer, b"\nNewState of 2 entries, 1 to 3: c", 1, 3)?;
+    reach(writer, b"; 2 to 4: c", 2, 4)?;
+    text::say(writer, b"\n")
 }
 
 // A StartView whose second entry does not rise, with c past o.
@@ -55,39 +73,48 @@ fn faulty(k: u32) -> Vector {
     vector::with_long(v, 15, 9)
 }
 
-pub fn order() {
+pub fn order<W: io::Write>(writer: &mut W) -> io::Result<()> {
     let past = faulty(4);
     let full = faulty(3);
     let away = vector::with_byte(past, 6, 0);
     tried::said(
+        writer,
         b"StartView with every fault: ",
         vector::with_byte(away, 35, 0),
-    );
-    tried::said(b"; without 2's: ", away);
-    tried::said(b"; without 3's: ", past);
-    tried::said(b"; without 4's: ", full);
-    tried::said(b"; without 5's: ", vector::with_long(full, 15, 3));
+    )?;
+    tried::said(writer, b"; without 2's: ", away)?;
+    tried::said(writer, b"; without 3's: ", past)?;
+    tried::said(writer, b"; without 4's: ", full)?;
+    tried::said(writer, b"; without 5's: ", vector::with_long(full, 15, 3))?;
     tried::said(
+        writer,
         b"; without 6's: ",
         vector::with_long(vector::logged(9, 3), 15, 3),
-    );
-    text::say(b"\n");
+    )?;
+    text::say(writer, b"\n")
 }
 
-pub fn strays() {
-    tried::said(b"The empty frame: ", vector::cut(vector::short(1), 0));
-    tried::said(b"; a Reply, kind 12: ", vector::reply());
+pub fn strays<W: io::Write>(writer: &mut W) -> io::Result<()> {
     tried::said(
+        writer,
+        b"The empty frame: ",
+        vector::cut(vector::short(1), 0),
+    )?;
+    tried::said(writer, b"; a Reply, kind 12: ", vector::reply())?;
+    tried::said(
+        writer,
         b"; a Reply to addressee 1: ",
         vector::with_byte(vector::reply(), 6, 1),
-    );
+    )?;
     tried::said(
+        writer,
         b"; length 0, and no more: ",
         vector::fitted(vector::short(1), 4),
-    );
+    )?;
     tried::said(
+        writer,
         b"; a Commit and 15 bytes behind it: ",
         vector::cut(vector::short(4), 30),
-    );
-    text::say(b"\n");
+    )?;
+    text::say(writer, b"\n")
 }

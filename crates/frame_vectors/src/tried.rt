@@ -3,6 +3,7 @@ use crate::vector;
 use crate::vector::Vector;
 use config::Setup;
 use frames::{Checked, Message, Parsed};
+use std::io;
 
 fn setup() -> Setup {
     Setup {
@@ -87,56 +88,71 @@ fn kind(v: Vector) -> u8 {
 }
 
 // Text, then the frame's number.
-pub fn said(s: &[u8], v: Vector) {
-    text::labelled(s, number(v) as u64);
+pub fn said<W: io::Write>(writer: &mut W, s: &[u8], v: Vector) -> io::Result<()> {
+    text::labelled(writer, s, number(v) as u64)
 }
 
 // Text, then the kind of the message that is read.
-pub fn said_kind(s: &[u8], v: Vector) {
-    text::labelled(s, kind(v) as u64);
+pub fn said_kind<W: io::Write>(writer: &mut W, s: &[u8], v: Vector) -> io::Result<()> {
+    text::labelled(writer, s, kind(v) as u64)
 }
 
-fn pair(value: u64, v: Vector) {
-    text::labelled(b" ", value);
-    said(b":", v);
+fn pair<W: io::Write>(writer: &mut W, value: u64, v: Vector) -> io::Result<()> {
+    text::labelled(writer, b" ", value)?;
+    said(writer, b":", v)
 }
 
-fn byte(v: Vector, at: usize, b: u8) {
-    pair(b as u64, vector::with_byte(v, at, b));
+fn byte<W: io::Write>(writer: &mut W, v: Vector, at: usize, b: u8) -> io::Result<()> {
+    pair(writer, b as u64, vector::with_byte(v, at, b))
 }
 
-fn long(v: Vector, at: usize, x: u32) {
-    pair(x as u64, vector::with_long(v, at, x));
+fn long<W: io::Write>(writer: &mut W, v: Vector, at: usize, x: u32) -> io::Result<()> {
+    pair(writer, x as u64, vector::with_long(v, at, x))
 }
 
 // The frame with each value in turn at one place.
-pub fn bytes(name: &[u8], v: Vector, at: usize, values: &[u8]) {
-    text::say(name);
-    for i in 0..values.len() {
-        byte(v, at, values[i]);
+pub fn bytes<W: io::Write>(
+    writer: &mut W,
+    name: &[u8],
+    v: Vector,
+    at: usize,
+    values: &[u8],
+) -> io::Result<()> {
+    text::say(writer, name)?;
+    for b in values {
+        byte(writer, v, at, *b)?;
     }
+    Ok(())
 }
 
-pub fn longs(name: &[u8], v: Vector, at: usize, values: &[u32]) {
-    text::say(name);
-    for i in 0..values.len() {
-        long(v, at, values[i]);
+pub fn longs<W: io::Write>(
+    writer: &mut W,
+    name: &[u8],
+    v: Vector,
+    at: usize,
+    values: &[u32],
+) -> io::Result<()> {
+    text::say(writer, name)?;
+    for x in values {
+        long(writer, v, at, *x)?;
     }
+    Ok(())
 }
 
-fn kind_byte(v: Vector, b: u8) {
+fn kind_byte<W: io::Write>(writer: &mut W, v: Vector, b: u8) -> io::Result<()> {
     let w = vector::with_byte(v, 5, b);
     if number(w) == 2 {
-        return;
+        return Ok(());
     }
-    pair(b as u64, w);
+    pair(writer, b as u64, w)
 }
 
 // The kind bytes that are not refused by 2.
-pub fn kind_bytes(v: Vector) {
+pub fn kind_bytes<W: io::Write>(writer: &mut W, v: Vector) -> io::Result<()> {
     for b in 0..=255 {
-        kind_byte(v, b);
+        kind_byte(writer, v, b)?;
     }
+    Ok(())
 }
 
 fn cut_number(v: Vector, n: usize, fit: bool) -> u8 {
@@ -148,7 +164,7 @@ fn cut_number(v: Vector, n: usize, fit: bool) -> u8 {
 
 fn counted(hits: u64, k: u8) -> u64 {
     if k == 2 {
-        return std::num::wrapping_add_u64(hits, 1);
+        return hits.wrapping_add(1);
     }
     hits
 }
@@ -163,6 +179,6 @@ fn cuts(v: Vector, fit: bool) -> u64 {
 }
 
 // Text, then that count.
-pub fn said_cuts(s: &[u8], v: Vector, fit: bool) {
-    text::labelled(s, cuts(v, fit));
+pub fn said_cuts<W: io::Write>(writer: &mut W, s: &[u8], v: Vector, fit: bool) -> io::Result<()> {
+    text::labelled(writer, s, cuts(v, fit))
 }

@@ -4,14 +4,14 @@
 -- Assumes nothing.
 use mathlib.Core.Path.{◌≡◌, refl, sym, ◌∙◌, subst}
 use mathlib.Core.Bool.{true, false}
-use mathlib.Core.Logic.{◌⊎◌, ⊎_elim}
+use mathlib.Core.Logic.{⊎_elim}
 use mathlib.Core.List.{List}
 use Prim.Native.Nat.{ℕ, ◌+◌, ◌-◌, ◌*◌, ◌/◌, ◌≤◌, ◌<◌}
 use native.Mathlib.Omega.{arith}
 use borrow.Author.Tests.{eq-eqb, ne_eqb, le-leb, leb-true}
 use lib.Dec.{lit<, lit≤, eqb}
 use lib.ListN.{length, drop}
-use Rattle.numbers.specs.Words.{if◌then◌else◌, ◌and◌, ◌or◌}
+use Rattle.numbers.specs.Words.{if◌then◌else◌, ◌or◌}
 use Rattle.numbers.specs.Numbers.{num, within, Bytes}
 use Rattle.numbers.proofs.WordLaws.{and-true}
 use Rattle.numbers.proofs.NumberLaws.{num-lt, num-split, both-within, eq-or-not}

@@ -1,4 +1,6 @@
 // A journal of the applied entries, a frame of 50 bytes for each: written from a list of entries, appended to out of a replica's own log and results, and read back.
+#![tactic(auto)]
+
 ghost use Rattle.std.specs.Prelude.{◌≡◌};
 ghost use Rattle.journal.specs.Calls.{write_call, append_call, totals_there, read_call, not_framed, frame_in, takings_of};
 

@@ -1,14 +1,14 @@
 -- Laws of bytes the other way round: what is read as one number, the lowest byte first, and turned.
 -- Assumes nothing.
-use mathlib.Core.Path.{◌≡◌, refl, sym, ap, ◌∙◌}
-use mathlib.Core.List.{List, [], ◌∷◌, ◌++◌}
-use Prim.Native.Nat.{ℕ, zero, suc, ◌+◌, ◌-◌, ◌*◌, ◌/◌, ◌%◌, ◌^◌, ◌≤◌, ◌<◌}
+use mathlib.Core.Path.{◌≡◌}
+use mathlib.Core.List.{List, ◌++◌}
+use Prim.Native.Nat.{ℕ, suc, ◌+◌, ◌*◌, ◌/◌, ◌%◌, ◌≤◌, ◌<◌}
 use native.Mathlib.Omega.{arith}
 use native.Mathlib.Nat.{add-zero, add_comm, div-one, div-div-eq-div-mul}
 use lib.ListN.{length, get_or, take, drop, length-drop}
 use lib.Seq.{get_or-drop}
-use Rattle.numbers.specs.Numbers.{be, num, big, over}
-use Rattle.numbers.specs.Turned.{low4, turned4, turned8, little4, little8}
+use Rattle.numbers.specs.Numbers.{be, num, big}
+use Rattle.numbers.specs.Turned.{turned4, turned8, little4, little8}
 use Rattle.numbers.proofs.NumberLaws.{be-suc, num-split}
 
 pub turned4-lt : (x : ℕ) → turned4 x < 4294967296

@@ -1,5 +1,6 @@
 // Big-endian numbers in byte runs; bytes copied and filled; view and op numbers.
 #![tactic(auto)]
+
 ghost use Rattle.std.specs.Prelude.{◌≡◌, ◌+◌, ◌≤◌, ◌<◌, ◌^◌, length, take, replicate};
 ghost use Rattle.numbers.specs.Numbers.{num, big, within, over, view_at, op_at};
 ghost use Rattle.numbers.specs.Turned.{low4, turned4, turned8, little4, little8};

@@ -1,14 +1,13 @@
 -- The laws of fields by places: what the bytes from place a on say that keep a field, and how to see that they keep it.
 -- Assumes nothing.
 use mathlib.Core.Path.{◌≡◌, refl}
-use mathlib.Core.Bool.{Bool, true, false, false≢true}
+use mathlib.Core.Bool.{Bool, true, false≢true}
 use mathlib.Core.List.{List, [], ◌∷◌}
 use Prim.Native.Nat.{ℕ, zero, suc, ◌+◌, ◌-◌, ◌^◌, ◌≤◌, ◌<◌}
 use native.Mathlib.Nat.{zero-add}
 use native.Mathlib.Omega.{arith}
 use lib.ListN.{length, drop, length-drop}
 use lib.Seq.{drop-drop}
-use Rattle.numbers.specs.Words.{◌and◌}
 use Rattle.numbers.specs.Numbers.{num, Bytes}
 use Rattle.numbers.proofs.WordLaws.{and_both, and-true}
 use Rattle.numbers.proofs.NumberLaws.{drop-bytes}

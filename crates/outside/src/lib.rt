@@ -1,4 +1,6 @@
 // The outside calls but for the client table, which may have any form: refusals 1 to 6, whose entry a message carries, what the table has to follow, creation, the takings.
+#![tactic(auto)]
+
 pub mod sound; // refusal 1
 pub mod call; // a frame, and what it asks of the client table
 pub mod create; // new, recover

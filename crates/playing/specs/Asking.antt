@@ -1,5 +1,5 @@
 -- FORMAT.md: what a line of a trace asks for, by its first byte and what is due. L and M above 8 have no room in the memory; 0 and 4097 are passed on, since a creation with them is refused. Assumes nothing.
-use Rattle.std.specs.Prelude.{ℕ, Bool, true, false, not, leb, List, ◌==◌, nat_le, nat_lt}
+use Rattle.std.specs.Prelude.{ℕ, Bool, false, not, leb, List, ◌==◌, nat_le, nat_lt}
 use Rattle.numbers.specs.Words.{if◌then◌else◌, ◌and◌, ◌or◌}
 use Rattle.comparing.specs.Text.{number_at, lesser_of}
 use Rattle.playing.specs.declared.ReplicaCall.{ReplicaCall}

@@ -11,7 +11,7 @@ use state::Returned;
 fn next(x: u64) -> u64
     ensures { result ≡ next_of x }
 {
-    std::num::wrapping_add_u64(x, 1)
+    x.wrapping_add(1)
 }
 
 // Before the first line.

@@ -1,4 +1,6 @@
 // Recorded calls played: what a line of a trace asks for, and what is known of the trace so far. The calls themselves are made by the programs over this.
+#![tactic(auto)]
+
 use config::Setup;
 use numbers::View;
 use state::Returned;

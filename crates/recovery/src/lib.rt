@@ -1,4 +1,6 @@
 // Recovery: what is answered to a replica that is back from a crash, and how that one comes back.
+#![tactic(auto)]
+
 ghost use Rattle.std.specs.Prelude.{◌≡◌, true, length};
 ghost use Rattle.config.specs.Setup.{setup_ok};
 ghost use Rattle.steps.specs.Steps.{spoke};

@@ -2,13 +2,18 @@
 // them. The format of the input is ../shared/vectors/FORMAT.md, with the lines `+` and `$` of host/README.md. Each index is tested before it is used, so that no line,
 // however wrong, asks for a `requires`.
 // Here are the input, and one call with runs of the setup's lengths, which `trace` makes.
-ghost use Rattle.std.specs.Prelude.{◌≡◌, ◌≤◌, length};
+#![tactic(auto)]
+
+ghost use Rattle.std.specs.Prelude.{◌≡◌, ◌≤◌, IfOk, length};
 
 use comparing::memory;
 use config::Setup;
 use outside::call::WithOffset;
 use playing::ReplicaCall;
 use state::{Replica, Returned};
+use std::alloc::{AllocError, Global};
+use std::io;
+use std::io::{BufWriter, Write};
 
 mod trace; // a whole trace
 
@@ -159,27 +164,34 @@ fn make(g: Given, frame: &[u8], mem: &mut [u8], out: &mut [u8], reps: &mut [u8])
 }
 
 // Room for the whole input.
-fn room() -> [u8; 1048576]
-    ensures { 1048576 ≡ length result }
+fn room(alloc: Global) -> Result<Vec<u8>, AllocError>
+    ensures { IfOk result (λ v. 1048576 ≡ length v.items) }
 {
-    [0; 1048576]
+    vec![in alloc; 0; 1048576]
 }
 
 // What is beyond the room isn't played.
-fn say_rest() {
+fn say_rest<R: io::Read, W: io::Write>(reader: &mut R, writer: &mut W) -> io::Result<()> {
     let mut rest = [0; 1];
-    if io::read_full(0, &mut rest) == 0 {
-        return;
+    if text::read_full(reader, &mut rest)? == 0 {
+        return Ok(());
     }
-    text::say(b"the input is longer than 1048576 bytes, and the rest of it is passed over\n");
+    text::say(
+        writer,
+        b"the input is longer than 1048576 bytes, and the rest of it is passed over\n",
+    )
 }
 
-fn main() {
-    let mut input = room();
-    let n = io::read_full(0, &mut input);
+fn main(rt: HostRuntime) -> io::Result<()> {
+    let mut input = room(rt.alloc())?;
+    let mut reader = rt.reader();
+    let n = text::read_full(&mut reader, &mut input)?;
+    let mut writer = BufWriter::new(rt.alloc(), io::writer(&rt))?;
     text::say(
+        &mut writer,
         b"Recorded calls of replicas with L and M of 8 at most; areas for messages are cut to 8192 bytes, for replies to 512.\n",
-    );
-    trace::replay(&input[..n]);
-    say_rest();
+    )?;
+    trace::replay(&mut writer, &input[..n])?;
+    say_rest(&mut reader, &mut writer)?;
+    writer.flush()
 }

@@ -5,6 +5,7 @@ use comparing::{answer, digest, fields, memory, words};
 use config::Setup;
 use playing::{Asked, Play, ReplicaCall, asking, counts, say};
 use state::Returned;
+use std::io;
 
 // Where the next line begins, and the comment that ended just before it, if one did.
 #[derive(Clone, Copy)]
@@ -131,23 +132,30 @@ fn own_setup(p: Play) -> Setup {
 }
 
 // = code messages replies
-fn answered(p: Play, line: &[u8], mem: &[u8], out: &[u8], reps: &[u8]) -> Play {
+fn answered<W: io::Write>(
+    writer: &mut W,
+    p: Play,
+    line: &[u8],
+    mem: &[u8],
+    out: &[u8],
+    reps: &[u8],
+) -> io::Result<Play> {
     let a = p.answer;
     let k = answer::differs(a, line, out, reps);
     if k != 0 {
-        say::answer(p, k, out, reps);
-        return counts::ended(p);
+        say::answer(writer, p, k, out, reps)?;
+        return Ok(counts::ended(p));
     }
     let t = answer::touched(a, out, p.run.messages, reps, p.run.replies);
     if t != 0 {
-        say::touched(p, t);
-        return counts::ended(p);
+        say::touched(writer, p, t)?;
+        return Ok(counts::ended(p));
     }
     if !answer::clean(a, mem, p.run.before) {
-        say::unclean(p);
-        return counts::ended(p);
+        say::unclean(writer, p)?;
+        return Ok(counts::ended(p));
     }
-    counts::right(p)
+    Ok(counts::right(p))
 }
 
 fn field_at(values: &[u64; 19], k: usize) -> u64 {
@@ -158,71 +166,79 @@ fn field_at(values: &[u64; 19], k: usize) -> u64 {
 }
 
 // The state line.
-fn reached(p: Play, line: &[u8], mem: &[u8]) -> Play {
+fn reached<W: io::Write>(writer: &mut W, p: Play, line: &[u8], mem: &[u8]) -> io::Result<Play> {
     let a = p.answer;
     let s = a.state;
     let values = fields::values(s, mem);
     let k = fields::differing(line, &values);
     if k == 19 {
-        return counts::state_right(p);
+        return Ok(counts::state_right(p));
     }
-    say::field(p, k, field_at(&values, k));
-    counts::ended(p)
+    say::field(writer, p, k, field_at(&values, k))?;
+    Ok(counts::ended(p))
 }
 
 // + nonce reports
-fn told(p: Play, line: &[u8], mem: &[u8]) -> Play {
+fn told<W: io::Write>(writer: &mut W, p: Play, line: &[u8], mem: &[u8]) -> io::Result<Play> {
     let a = p.answer;
     let s = a.state;
     let k = answer::further(s, line, mem);
     if k == 0 {
-        return counts::further_right(p);
+        return Ok(counts::further_right(p));
     }
-    say::further(p, k, s.nonce, fields::reports(s, mem));
-    counts::ended(p)
+    say::further(writer, p, k, s.nonce, fields::reports(s, mem))?;
+    Ok(counts::ended(p))
 }
 
 // $ sum
-fn summed(p: Play, line: &[u8]) -> Play {
+fn summed<W: io::Write>(writer: &mut W, p: Play, line: &[u8]) -> io::Result<Play> {
     let a = p.answer;
     let s = a.state;
     let t = replica_structs::takings(s);
     let k = answer::takings(t.code, t.cents, line);
     if k == 0 {
-        return counts::takings_right(p);
+        return Ok(counts::takings_right(p));
     }
-    say::takings(p, k, t.code, t.cents);
-    counts::ended(p)
+    say::takings(writer, p, k, t.code, t.cents)?;
+    Ok(counts::ended(p))
 }
 
-fn missing(p: Play) -> Play {
-    say::missing(p);
-    counts::ended(p)
+fn missing<W: io::Write>(writer: &mut W, p: Play) -> io::Result<Play> {
+    say::missing(writer, p)?;
+    Ok(counts::ended(p))
 }
 
-fn unknown(p: Play) -> Play {
-    say::unknown(p);
-    counts::ended(p)
+fn unknown<W: io::Write>(writer: &mut W, p: Play) -> io::Result<Play> {
+    say::unknown(writer, p)?;
+    Ok(counts::ended(p))
 }
 
-fn larger(p: Play) -> Play {
-    say::larger(p);
-    counts::too_large(p)
+fn larger<W: io::Write>(writer: &mut W, p: Play) -> io::Result<Play> {
+    say::larger(writer, p)?;
+    Ok(counts::too_large(p))
 }
 
 // A line, `c` its first byte.
-fn line(p: Play, c: u8, line: &[u8], mem: &mut [u8], out: &mut [u8], reps: &mut [u8]) -> Play {
+fn line<W: io::Write>(
+    writer: &mut W,
+    p: Play,
+    c: u8,
+    line: &[u8],
+    mem: &mut [u8],
+    out: &mut [u8],
+    reps: &mut [u8],
+) -> io::Result<Play> {
     match asking::by(p.run, c, line) {
-        Asked::Nothing => p,
-        Asked::Missing => missing(p),
-        Asked::Unknown => unknown(p),
-        Asked::Larger => larger(p),
-        Asked::Client => counts::client(p),
+        Asked::Nothing => Ok(p),
+        Asked::Missing => missing(writer, p),
+        Asked::Unknown => unknown(writer, p),
+        Asked::Larger => larger(writer, p),
+        Asked::Client => Ok(counts::client(p)),
         Asked::Begin {
             call,
             setup,
             messages,
-        } => called(
+        } => Ok(called(
             counts::begun(p, messages),
             call,
             setup,
@@ -230,12 +246,12 @@ fn line(p: Play, c: u8, line: &[u8], mem: &mut [u8], out: &mut [u8], reps: &mut 
             mem,
             out,
             reps,
-        ),
+        )),
         Asked::Go {
             call,
             messages,
             replies,
-        } => called(
+        } => Ok(called(
             counts::going_on(p, messages, replies),
             call,
             own_setup(p),
@@ -243,11 +259,11 @@ fn line(p: Play, c: u8, line: &[u8], mem: &mut [u8], out: &mut [u8], reps: &mut 
             mem,
             out,
             reps,
-        ),
-        Asked::Answer => answered(p, line, mem, out, reps),
-        Asked::State => reached(p, line, mem),
-        Asked::Further => told(p, line, mem),
-        Asked::Takings => summed(p, line),
+        )),
+        Asked::Answer => answered(writer, p, line, mem, out, reps),
+        Asked::State => reached(writer, p, line, mem),
+        Asked::Further => told(writer, p, line, mem),
+        Asked::Takings => summed(writer, p, line),
     }
 }
 
@@ -268,29 +284,35 @@ fn begins(c: u8) -> bool {
 }
 
 // The run is over: what is missing, or its verdict.
-fn closed(p: Play) -> Play {
+fn closed<W: io::Write>(writer: &mut W, p: Play) -> io::Result<Play> {
     if counts::unfinished(p) {
-        return counts::closed(missing(p));
+        return Ok(counts::closed(missing(writer, p)?));
     }
-    say::verdict(p);
-    counts::closed(p)
+    say::verdict(writer, p)?;
+    Ok(counts::closed(p))
 }
 
 // At a line; before a run the one before is closed, and the title printed.
-fn opened(trace: &[u8], c: u8, t: Place, p: Play) -> Play {
+fn opened<W: io::Write>(
+    writer: &mut W,
+    trace: &[u8],
+    c: u8,
+    t: Place,
+    p: Play,
+) -> io::Result<Play> {
     let q = counts::next_line(p);
     if !begins(c) {
-        return q;
+        return Ok(q);
     }
-    let r = closed(q);
+    let r = closed(writer, q)?;
     if c == b'C' {
-        return r;
+        return Ok(r);
     }
     if !t.comment {
-        return r;
+        return Ok(r);
     }
-    say::title(trace, t.from, t.to);
-    counts::titled(r)
+    say::title(writer, trace, t.from, t.to)?;
+    Ok(counts::titled(r))
 }
 
 // Where the line from `at` on ends; 0 where none is left.
@@ -298,12 +320,12 @@ fn end_of(trace: &[u8], at: usize) -> usize {
     if trace.len() <= at {
         return 0;
     }
-    std::num::wrapping_add_usize(at, words::find(&trace[at..], 10))
+    at.wrapping_add(words::find(&trace[at..], 10))
 }
 
 fn after(from: usize, to: usize, c: u8) -> Place {
     Place {
-        at: std::num::wrapping_add_usize(to, 1),
+        at: to.wrapping_add(1),
         comment: c == b'#',
         from,
         to,
@@ -311,22 +333,29 @@ fn after(from: usize, to: usize, c: u8) -> Place {
 }
 
 // The next line is played, if one is left.
-fn next_line(trace: &[u8], t: Turn, mem: &mut [u8], out: &mut [u8], reps: &mut [u8]) -> Turn {
+fn next_line<W: io::Write>(
+    writer: &mut W,
+    trace: &[u8],
+    t: Turn,
+    mem: &mut [u8],
+    out: &mut [u8],
+    reps: &mut [u8],
+) -> io::Result<Turn> {
     let here = t.place;
     let p = t.play;
     let at = here.at;
     let to = end_of(trace, at);
     if trace.len() < to {
-        return t;
+        return Ok(t);
     }
     if to < at {
-        return t;
+        return Ok(t);
     }
     let c = first(&trace[at..to]);
-    let q = opened(trace, c, here, p);
-    let play = line(q, c, &trace[at..to], mem, out, reps);
+    let q = opened(writer, trace, c, here, p)?;
+    let play = line(writer, q, c, &trace[at..to], mem, out, reps)?;
     let place = after(at, to, c);
-    Turn { place, play }
+    Ok(Turn { place, play })
 }
 
 fn beginning() -> Turn {
@@ -341,26 +370,32 @@ fn beginning() -> Turn {
 }
 
 // Behind the last line.
-fn end(t: Turn) -> Play {
+fn end<W: io::Write>(writer: &mut W, t: Turn) -> io::Result<Play> {
     let p = t.play;
-    closed(counts::next_line(p))
+    closed(writer, counts::next_line(p))
 }
 
 // Every line; the last one may have no end.
-fn lines(trace: &[u8], mem: &mut [u8], out: &mut [u8], reps: &mut [u8]) -> Turn {
+fn lines<W: io::Write>(
+    writer: &mut W,
+    trace: &[u8],
+    mem: &mut [u8],
+    out: &mut [u8],
+    reps: &mut [u8],
+) -> io::Result<Turn> {
     let mut t = beginning();
-    let mut left = std::num::wrapping_add_usize(words::count(trace, 10), 1);
-    while 0 < left {
-        left -= 1;
-        t = next_line(trace, t, mem, out, reps);
+    for _ in 0..=words::count(trace, 10) {
+        t = next_line(writer, trace, t, mem, out, reps)?;
     }
-    t
+    Ok(t)
 }
 
 // A trace replayed: a verdict for each run that has a title, a line for each run that differs, and the counts.
-pub fn replay(trace: &[u8]) {
+pub fn replay<W: io::Write>(writer: &mut W, trace: &[u8]) -> io::Result<()> {
     let mut mem = [0; 2392];
     let mut out = [0; 8192];
     let mut reps = [0; 512];
-    say::end(end(lines(trace, &mut mem, &mut out, &mut reps)));
+    let last = lines(writer, trace, &mut mem, &mut out, &mut reps)?;
+    let play = end(writer, last)?;
+    say::end(writer, play)
 }

@@ -150,7 +150,9 @@ pub fn on_message(
     out: &mut [u8],
     reps: &mut [u8],
 ) -> WithOffset
-    ensures { Keeps (MessagePromise s frame.now) result.returned (lent log.old results.old totals.old acks.old stored.old table.old out.old reps.old) (lent log.new results.new totals.new acks.new stored.new table.new out.new reps.new) × Points well_formed frame.now result.returned.code result.offset }
+    ensures { Keeps (MessagePromise s frame.now) result.returned
+        (lent log.old results.old totals.old acks.old stored.old table.old out.old reps.old)
+        (lent log.new results.new totals.new acks.new stored.new table.new out.new reps.new) × Points well_formed frame.now result.returned.code result.offset }
 {
     let l = Lengths {
         log: log.len(),

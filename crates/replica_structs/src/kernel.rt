@@ -73,7 +73,9 @@ pub fn on_message(
     reps: &mut [u8],
 ) -> WithOffset
     requires { Passes c s frame.now (memory log.old results.old totals.old acks.old stored.old out.old reps.old) }
-    ensures { Does (checked_core c s latest frame.now) result.returned (memory log.old results.old totals.old acks.old stored.old out.old reps.old) (memory log.new results.new totals.new acks.new stored.new out.new reps.new) × (result.offset ≡ checked_offset c) }
+    ensures { Does (checked_core c s latest frame.now) result.returned
+        (memory log.old results.old totals.old acks.old stored.old out.old reps.old)
+        (memory log.new results.new totals.new acks.new stored.new out.new reps.new) × (result.offset ≡ checked_offset c) }
 {
     match c {
         Checked::Refused { number, offset } => WithOffset {

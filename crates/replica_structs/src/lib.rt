@@ -85,7 +85,9 @@ pub fn on_message(
     out: &mut [u8],
     reps: &mut [u8],
 ) -> WithOffset
-    ensures { KeepsRows (MessageRowsPromise s frame.now) result.returned (lent_rows log.old results.old totals.old acks.old stored.old table.old out.old reps.old) (lent_rows log.new results.new totals.new acks.new stored.new table.new out.new reps.new) × Points well_formed frame.now result.returned.code result.offset }
+    ensures { KeepsRows (MessageRowsPromise s frame.now) result.returned
+        (lent_rows log.old results.old totals.old acks.old stored.old table.old out.old reps.old)
+        (lent_rows log.new results.new totals.new acks.new stored.new table.new out.new reps.new) × Points well_formed frame.now result.returned.code result.offset }
 {
     let c = kernel::checked(
         s,

@@ -1,4 +1,6 @@
 // DoViewChanges and RecoveryResponses: the rows in which the state holds them, and a quorum of them judged before anything is stored.
+#![tactic(auto)]
+
 use numbers::Op;
 use state::Report;
 

@@ -5,6 +5,7 @@ ghost use Rattle.show_frames.specs.Shown.{setup_shown, number_shown};
 
 use config::Setup;
 use frames::Checked;
+use std::io;
 
 fn setup() -> Setup
     ensures { result ≡ setup_shown }
@@ -64,10 +65,14 @@ fn short(s: &[u8]) -> u8 {
     number_of_first(s, s.len() - 1)
 }
 
-pub fn copies(s: &[u8]) {
-    text::labelled(b"; without its last byte: refusal ", short(s) as u64);
-    text::labelled(b"; of version 2: ", changed(s, 4, 2) as u64);
-    text::labelled(b"; of kind 12: ", changed(s, 5, 12) as u64);
-    text::labelled(b"; to replica 2: ", changed(s, 6, 2) as u64);
-    text::say(b"\n");
+pub fn copies<W: io::Write>(writer: &mut W, s: &[u8]) -> io::Result<()> {
+    text::labelled(
+        writer,
+        b"; without its last byte: refusal ",
+        short(s) as u64,
+    )?;
+    text::labelled(writer, b"; of version 2: ", changed(s, 4, 2) as u64)?;
+    text::labelled(writer, b"; of kind 12: ", changed(s, 5, 12) as u64)?;
+    text::labelled(writer, b"; to replica 2: ", changed(s, 6, 2) as u64)?;
+    text::say(writer, b"\n")
 }

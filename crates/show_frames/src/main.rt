@@ -1,112 +1,163 @@
 // Shows one frame of each kind and a Reply: the bytes, the fields in words, read back, and damaged copies.
+#![tactic(auto)]
+
 mod words; // a message in words
 mod shown; // a frame shown
 mod damage; // a frame with a fault, handed in
 
 use frames::{Message, RecoveryState};
 use numbers::{Op, View};
+use std::io;
+use std::io::{BufWriter, Write};
 
 // Document 01's first example: what a fresh replica 0 of 3 sends on a tick.
-fn ticked() {
+fn ticked<W: io::Write>(writer: &mut W) -> io::Result<()> {
     let mut area = [0; 30];
     let m = Message::Commit {
         view: View(0),
         commit: Op(0),
     };
     writers::broadcast(&mut area, 3, 0, m, b"");
-    text::say(b"Two Commits, as a fresh replica 0 of 3 sends them on a tick:\n");
-    shown::pair(&area);
+    text::say(
+        writer,
+        b"Two Commits, as a fresh replica 0 of 3 sends them on a tick:\n",
+    )?;
+    shown::pair(writer, &area)
 }
 
-fn replied() {
+fn replied<W: io::Write>(writer: &mut W) -> io::Result<()> {
     let mut area = [0; 36];
     writers::write_reply(&mut area, View(0), 7, 0, 1, 4500);
-    text::say(b"Reply: view 0, client 7, request 0, outcome 1, total 4500\n");
-    shown::reply(&area);
+    text::say(
+        writer,
+        b"Reply: view 0, client 7, request 0, outcome 1, total 4500\n",
+    )?;
+    shown::reply(writer, &area)
 }
 
-fn normal() {
-    shown::message(Message::Request {
-        entry: shown::fee(),
-    });
-    shown::message(Message::Prepare {
-        view: View(3),
-        op: Op(1),
-        commit: Op(0),
-        entry: shown::fee(),
-    });
-    shown::message(Message::PrepareOk {
-        view: View(3),
-        op: Op(1),
-        from: 2,
-    });
-    shown::message(Message::Commit {
-        view: View(3),
-        commit: Op(1),
-    });
-    shown::message(Message::GetState {
-        from: 2,
-        view: View(3),
-        op: Op(1),
-    });
-    shown::message(Message::NewState {
-        view: View(3),
-        start: Op(0),
-        end: Op(2),
-        commit: Op(1),
-    });
+fn normal<W: io::Write>(writer: &mut W) -> io::Result<()> {
+    shown::message(
+        writer,
+        Message::Request {
+            entry: shown::fee(),
+        },
+    )?;
+    shown::message(
+        writer,
+        Message::Prepare {
+            view: View(3),
+            op: Op(1),
+            commit: Op(0),
+            entry: shown::fee(),
+        },
+    )?;
+    shown::message(
+        writer,
+        Message::PrepareOk {
+            view: View(3),
+            op: Op(1),
+            from: 2,
+        },
+    )?;
+    shown::message(
+        writer,
+        Message::Commit {
+            view: View(3),
+            commit: Op(1),
+        },
+    )?;
+    shown::message(
+        writer,
+        Message::GetState {
+            from: 2,
+            view: View(3),
+            op: Op(1),
+        },
+    )?;
+    shown::message(
+        writer,
+        Message::NewState {
+            view: View(3),
+            start: Op(0),
+            end: Op(2),
+            commit: Op(1),
+        },
+    )
 }
 
-fn view_change() {
-    shown::message(Message::StartViewChange {
-        view: View(4),
-        from: 2,
-    });
-    shown::message(Message::DoViewChange {
-        view: View(4),
-        from: 2,
-        last_normal: View(3),
-        op: Op(2),
-        commit: Op(1),
-    });
-    shown::message(Message::StartView {
-        view: View(4),
-        op: Op(2),
-        commit: Op(1),
-    });
+fn view_change<W: io::Write>(writer: &mut W) -> io::Result<()> {
+    shown::message(
+        writer,
+        Message::StartViewChange {
+            view: View(4),
+            from: 2,
+        },
+    )?;
+    shown::message(
+        writer,
+        Message::DoViewChange {
+            view: View(4),
+            from: 2,
+            last_normal: View(3),
+            op: Op(2),
+            commit: Op(1),
+        },
+    )?;
+    shown::message(
+        writer,
+        Message::StartView {
+            view: View(4),
+            op: Op(2),
+            commit: Op(1),
+        },
+    )
 }
 
-fn recovering() {
+fn recovering<W: io::Write>(writer: &mut W) -> io::Result<()> {
     let absent = RecoveryState::Absent;
     let present = RecoveryState::Present {
         op: Op(1),
         commit: Op(1),
     };
-    shown::message(Message::Recovery {
-        from: 2,
-        nonce: 99,
-        view: View(4),
-    });
-    shown::message(Message::RecoveryResponse {
-        view: View(4),
-        nonce: 99,
-        from: 2,
-        state: absent,
-    });
-    shown::message(Message::RecoveryResponse {
-        view: View(4),
-        nonce: 99,
-        from: 2,
-        state: present,
-    });
+    shown::message(
+        writer,
+        Message::Recovery {
+            from: 2,
+            nonce: 99,
+            view: View(4),
+        },
+    )?;
+    shown::message(
+        writer,
+        Message::RecoveryResponse {
+            view: View(4),
+            nonce: 99,
+            from: 2,
+            state: absent,
+        },
+    )?;
+    shown::message(
+        writer,
+        Message::RecoveryResponse {
+            view: View(4),
+            nonce: 99,
+            from: 2,
+            state: present,
+        },
+    )
 }
 
-fn main() {
-    ticked();
-    replied();
-    text::say(b"To replica 1 of 3, L = 8; the log that is carried:\n");
-    shown::carried();
-    normal();
-    view_change();
-    recovering();
+fn main(rt: HostRuntime) -> io::Result<()> {
+    let mut writer = BufWriter::new(rt.alloc(), io::writer(&rt))?;
+    ticked(&mut writer)?;
+    replied(&mut writer)?;
+    text::say(
+        &mut writer,
+        b"To replica 1 of 3, L = 8; the log that is carried:\n",
+    )?;
+    shown::carried(&mut writer)?;
+    normal(&mut writer)?;
+    view_change(&mut writer)?;
+    recovering(&mut writer)?;
+    writer.flush()
 }

@@ -5,34 +5,35 @@ ghost use Rattle.show_frames.specs.Shown.{fee_shown};
 use crate::{damage, words};
 use entries::Entry;
 use frames::{Message, Parsed};
+use std::io;
 
-fn line(s: &[u8]) {
-    text::say(b" ");
-    text::hex(s);
-    text::say(b"\n");
+fn line<W: io::Write>(writer: &mut W, s: &[u8]) -> io::Result<()> {
+    text::say(writer, b" ")?;
+    text::hex(writer, s)?;
+    text::say(writer, b"\n")
 }
 
 // Two frames of 15 bytes.
-pub fn pair(s: &[u8; 30]) {
-    halves(s);
+pub fn pair<W: io::Write>(writer: &mut W, s: &[u8; 30]) -> io::Result<()> {
+    halves(writer, s)
 }
 
-fn halves(s: &[u8]) {
+fn halves<W: io::Write>(writer: &mut W, s: &[u8]) -> io::Result<()> {
     if s.len() < 30 {
-        return;
+        return Ok(());
     }
-    line(&s[0..15]);
-    line(&s[15..30]);
+    line(writer, &s[0..15])?;
+    line(writer, &s[15..30])
 }
 
-pub fn reply(s: &[u8; 36]) {
-    handed_in(s);
+pub fn reply<W: io::Write>(writer: &mut W, s: &[u8; 36]) -> io::Result<()> {
+    handed_in(writer, s)
 }
 
-fn handed_in(s: &[u8]) {
-    line(s);
-    text::labelled(b"  handed in: refusal ", damage::number(s) as u64);
-    text::say(b"\n");
+fn handed_in<W: io::Write>(writer: &mut W, s: &[u8]) -> io::Result<()> {
+    line(writer, s)?;
+    text::labelled(writer, b"  handed in: refusal ", damage::number(s) as u64)?;
+    text::say(writer, b"\n")
 }
 
 fn put_entry(s: &mut [u8], at: usize, e: Entry) {
@@ -75,12 +76,12 @@ fn run() -> [u8; 96] {
     s
 }
 
-pub fn carried() {
-    text::say(b"  1: ");
-    words::entry(fee());
-    text::say(b"\n  2: ");
-    words::entry(refund());
-    text::say(b"\n");
+pub fn carried<W: io::Write>(writer: &mut W) -> io::Result<()> {
+    text::say(writer, b"  1: ")?;
+    words::entry(writer, fee())?;
+    text::say(writer, b"\n  2: ")?;
+    words::entry(writer, refund())?;
+    text::say(writer, b"\n")
 }
 
 // The frame's length, or 0 where it does not fit. A log as long as the whole frame has the entries that it carries.
@@ -102,7 +103,7 @@ fn same_first<'a>(area: &'a [u8], n: usize, s: &'a [u8]) -> bool {
     if area.len() < n {
         return false;
     }
-    check::same(&area[0..n], s)
+    &area[0..n] == s
 }
 
 fn same_again(s: &[u8], to: u8, m: Message) -> bool {
@@ -112,46 +113,49 @@ fn same_again(s: &[u8], to: u8, m: Message) -> bool {
     same_first(&area, n, s)
 }
 
-fn read(s: &[u8], to: u8, m: Message) {
-    text::labelled(b"  to ", to as u64);
-    text::say(b": ");
-    words::message(m);
+fn read<W: io::Write>(writer: &mut W, s: &[u8], to: u8, m: Message) -> io::Result<()> {
+    text::labelled(writer, b"  to ", to as u64)?;
+    text::say(writer, b": ")?;
+    words::message(writer, m)?;
     if same_again(s, to, m) {
-        text::say(b"\n  read back: the same");
-        return;
+        return text::say(writer, b"\n  read back: the same");
     }
-    text::say(b"\n  read back: another frame");
+    text::say(writer, b"\n  read back: another frame")
 }
 
-fn frame(s: &[u8]) {
-    line(s);
+fn frame<W: io::Write>(writer: &mut W, s: &[u8]) -> io::Result<()> {
+    line(writer, s)?;
     match frames::parse(s) {
-        Parsed::Malformed { offset } => text::labelled(b"  malformed at byte ", offset as u64),
-        Parsed::Frame { to, message } => read(s, to, message),
+        Parsed::Malformed { offset } => text::labelled(
+            writer,
+            b"  malformed at byte ",
+            offset as u64,
+        )?,
+        Parsed::Frame { to, message } => read(writer, s, to, message)?,
     }
-    damage::copies(s);
+    damage::copies(writer, s)
 }
 
-fn kind(s: &[u8]) {
+fn kind<W: io::Write>(writer: &mut W, s: &[u8]) -> io::Result<()> {
     if s.len() < 6 {
-        return;
+        return Ok(());
     }
-    text::kind(numbers::read_u8(s, 5));
-    text::say(b"\n");
+    text::kind(writer, numbers::read_u8(s, 5))?;
+    text::say(writer, b"\n")
 }
 
-fn first(area: &[u8], n: usize) {
+fn first<W: io::Write>(writer: &mut W, area: &[u8], n: usize) -> io::Result<()> {
     if area.len() < n {
-        return;
+        return Ok(());
     }
-    kind(&area[0..n]);
-    frame(&area[0..n]);
+    kind(writer, &area[0..n])?;
+    frame(writer, &area[0..n])
 }
 
 // The message's frame to replica 1.
-pub fn message(m: Message) {
+pub fn message<W: io::Write>(writer: &mut W, m: Message) -> io::Result<()> {
     let mut area = [0; 96];
     let log = run();
     let n = written(&mut area, 1, m, &log);
-    first(&area, n);
+    first(writer, &area, n)
 }

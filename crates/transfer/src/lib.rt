@@ -1,4 +1,6 @@
 // State transfer: what a replica answers to a GetState, what it does with a NewState, and a tick that waits for one.
+#![tactic(auto)]
+
 ghost use Rattle.std.specs.Prelude.{◌≡◌, ◌<◌};
 ghost use Rattle.steps.specs.Steps.{spoke};
 ghost use Rattle.transfer.specs.Tick.{transfer_tick};

@@ -1,4 +1,6 @@
 // View change: how a replica leaves a view, and how it joins the one that was started.
+#![tactic(auto)]
+
 pub mod start_view;
 pub mod start_view_change;
 

@@ -1,16 +1,13 @@
 // The C boundary of the journal: each call takes numbers and byte runs and returns the refusal's number, 0 where it is done. Counts and other answers go to a lent number or array of numbers, and are 0 with a refusal, but for
 // the offset and the fault that 12 carries. None asks anything of its caller but that what he points to is there, and that no two of these places overlap.
+#![tactic(auto)]
+
 ghost use Rattle.std.specs.Prelude.{◌≡◌, ◌∷◌};
 ghost use Rattle.journal.specs.Calls.{write_call, append_call, read_call, frame_in, takings_of};
 ghost use Rattle.whitherhaul_journal.specs.Boundary.{wrote, read_as, framed_numbers, taken_as};
 
 // The journal of a run of entries.
-pub fn whitherhaul_journal_write(
-    members: u32,
-    run: &[u8],
-    area: &mut [u8],
-    bytes: &mut u64,
-) -> u8
+pub fn whitherhaul_journal_write(members: u32, run: &[u8], area: &mut [u8], bytes: &mut u64) -> u8
     ensures { wrote result bytes.new area.new ≡ write_call members run.now area.old }
 {
     let a = journal::write(members, run, area);

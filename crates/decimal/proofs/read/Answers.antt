@@ -1,7 +1,6 @@
 -- `decimal::read` meets its contract. The invariant: the whole text is what its first i figures, which stand for x, leave of it.
 -- Assumes nothing.
 use mathlib.Core.Path.{sym, ◌∙◌}
-use Prim.Native.Nat.{◌-◌}
 use native.Mathlib.Omega.{arith}
 use Rattle.decimal.proofs.LeftLaws.{empty-none, leading-none, left-more, left-all, low-none, high-none, next-none}
 use Rattle.decimal.proofs.read.Goals as goal

@@ -1,8 +1,6 @@
 -- `decimal::width` meets its contract. The invariant: k, one more than the figures taken off, and the figures of what is left are one more than those of x.
 -- Assumes nothing.
 use native.Mathlib.Omega.{arith}
-use lib.ListN.{length}
-use Rattle.decimal.specs.Decimal.{decimal}
 use Rattle.decimal.proofs.FigureLaws.{length-one, length_more}
 use Rattle.decimal.proofs.DecimalLaws.{decimal-there, decimal-short}
 use Rattle.decimal.proofs.width.Goals as goal

@@ -1,6 +1,5 @@
 -- `entries::rises_by_chain` meets its contract. Assumes nothing.
 use mathlib.Core.Path.{◌≡◌, refl, sym, ◌∙◌}
-use mathlib.Core.Bool.{true}
 use Prim.Native.Nat.{◌+◌, ◌-◌}
 use native.Mathlib.Omega.{arith}
 use Rattle.entries.proofs.ChainLaws.{NoneOf, linked-start, linked-next}
@@ -23,12 +22,12 @@ pairs-preserved c =
       l.invariant.0,
       rw x.ensures (linked-next (client_at a.s.now) p.latest p.earlier p.i p.invariant.2 (omega arith)),
       elim c.loop-j-test.branch [
-          else-loop-j-test w ↦ let z : l.j ≡ 0 = omega arith in grown-none a.s.now p.i p.invariant.3 (rw z at none)
-          | then-loop-j-test+else-looks-eq0+then-read_u64-c+else-r-read_u64 w ↦
-              let e : l.j ≡ l.j - 1 + 1 = omega (arith, w.loop-j-test.true) in
-              grown-over a.s.now p.i (l.j - 1) p.invariant.3 (omega (arith, w.loop-j-test.true)) (rw (← e) none)
-                  (sym w.read_u64.ensures ∙ w.if-read_u64-c.true ∙ x.ensures)
-                  (rw (← y.ensures, ← w.read_u64-then-read_u64-c.ensures) w.if-r-read_u64.false)
+        | else-loop-j-test w ↦ let z : l.j ≡ 0 = omega arith in grown-none a.s.now p.i p.invariant.3 (rw z at none)
+        | then-loop-j-test+else-looks-eq0+then-read_u64-c+else-r-read_u64 w ↦
+            let e : l.j ≡ l.j - 1 + 1 = omega (arith, w.loop-j-test.true) in
+            grown-over a.s.now p.i (l.j - 1) p.invariant.3 (omega (arith, w.loop-j-test.true)) (rw (← e) none)
+            (sym w.read_u64.ensures ∙ w.if-read_u64-c.true ∙ x.ensures)
+            (rw (← y.ensures, ← w.read_u64-then-read_u64-c.ensures) w.if-r-read_u64.false)
       ],
     )
 

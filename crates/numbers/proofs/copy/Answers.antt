@@ -1,9 +1,7 @@
 -- `numbers::copy` meets its contract. Assumes nothing.
 use mathlib.Core.Path.{refl}
-use Prim.Native.Nat.{◌-◌}
 use native.Mathlib.Omega.{arith}
-use lib.ListN.{length, length-set}
-use Rattle.numbers.specs.Numbers.{over}
+use lib.ListN.{length-set}
 use Rattle.numbers.proofs.RunLaws.{over-take, over-nil}
 use Rattle.numbers.proofs.copy.Goals as goal
 

@@ -1,9 +1,9 @@
 -- `numbers::fill` meets its contract. Assumes nothing.
 use mathlib.Core.Path.{◌≡◌, sym, ap, ◌∙◌}
 use mathlib.Core.List.{◌++◌}
-use Prim.Native.Nat.{ℕ, ◌+◌, ◌-◌}
+use Prim.Native.Nat.{ℕ}
 use native.Mathlib.Omega.{arith}
-use lib.ListN.{length, replicate, drop, length-replicate}
+use lib.ListN.{replicate, drop, length-replicate}
 use Rattle.numbers.specs.Numbers.{over}
 use Rattle.numbers.proofs.fill.Goals as goal
 

@@ -4,9 +4,6 @@ use native.Mathlib.Omega.{arith}
 use mathlib.Core.Path.{sym, ◌∙◌}
 use Rattle.numbers.proofs.TurnLaws.{num4, turn-digits}
 use mathlib.Core.Path.{refl}
-use Rattle.numbers.proofs.low4.Reads as reads
-use Rattle.numbers.proofs.low4.Lts as lts
-use Rattle.numbers.proofs.wide.Reads as wide-reads
 use Rattle.numbers.proofs.low4.Goals as goal
 
 -- src/lib.rt:45:1

@@ -1,8 +1,5 @@
 -- `numbers::low8` meets its contract: eight bytes, likewise. Assumes nothing.
 use Rattle.numbers.proofs.TurnLaws.{turned8-low}
-use Rattle.numbers.proofs.low8.Reads as reads
-use Rattle.numbers.proofs.low8.Lts as lts
-use Rattle.numbers.proofs.low4.Reads as low4-reads
 use Rattle.numbers.proofs.low8.Goals as goal
 
 -- src/lib.rt:53:1

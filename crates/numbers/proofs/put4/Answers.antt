@@ -5,8 +5,6 @@ use mathlib.Core.List.{[], ◌∷◌}
 use Prim.Native.Nat.{◌/◌, ◌%◌}
 use Rattle.numbers.specs.Turned.{little4}
 use Rattle.numbers.proofs.RunLaws.{over-set, over-nil}
-use Rattle.numbers.proofs.put4.Reads as reads
-use Rattle.numbers.proofs.put4.Lts as lts
 use Rattle.numbers.proofs.put4.Goals as goal
 
 -- src/lib.rt:75:1

@@ -3,9 +3,6 @@ use mathlib.Core.Path.{refl}
 use Prim.Native.Nat.{◌/◌}
 use Rattle.numbers.specs.Turned.{little4, little8}
 use Rattle.numbers.proofs.RunLaws.{over-lend}
-use Rattle.numbers.proofs.put8.Reads as reads
-use Rattle.numbers.proofs.put8.Lts as lts
-use Rattle.numbers.proofs.put4.Reads as put4-reads
 use Rattle.numbers.proofs.put8.Goals as goal
 
 -- src/lib.rt:86:1

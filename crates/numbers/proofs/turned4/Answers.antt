@@ -2,8 +2,6 @@
 use mathlib.Core.Path.{refl}
 use Rattle.numbers.specs.Turned.{turned4}
 use Rattle.numbers.proofs.TurnLaws.{turned4-lt}
-use Rattle.numbers.proofs.turned4.Reads as reads
-use Rattle.numbers.proofs.turned4.Lts as lts
 use Rattle.numbers.proofs.turned4.Goals as goal
 
 -- src/lib.rt:61:1

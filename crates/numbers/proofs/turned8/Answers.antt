@@ -1,8 +1,5 @@
 -- `numbers::turned8` meets its contract: eight digits, as two times four. Assumes nothing.
 use Rattle.numbers.specs.Turned.{turned8}
-use Rattle.numbers.proofs.turned8.Reads as reads
-use Rattle.numbers.proofs.turned8.Lts as lts
-use Rattle.numbers.proofs.turned4.Reads as turned4-reads
 use Rattle.numbers.proofs.turned8.Goals as goal
 
 -- src/lib.rt:68:1

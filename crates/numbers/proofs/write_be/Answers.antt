@@ -6,7 +6,7 @@ use Prim.Native.Nat.{ℕ, suc, ◌+◌, ◌-◌, ◌/◌, ◌%◌, ◌^◌, ◌�
 use native.Mathlib.Omega.{arith}
 use native.Mathlib.Nat.{pow-suc, div-div-eq-div-mul, div-one, sub_self}
 use lib.ListN.{length, take, drop, set, length-set, take-append-drop}
-use Rattle.numbers.specs.Numbers.{big, over}
+use Rattle.numbers.specs.Numbers.{big}
 use Rattle.numbers.proofs.RunLaws.{over-big, big-down}
 use Rattle.numbers.proofs.write_be.Goals as goal
 

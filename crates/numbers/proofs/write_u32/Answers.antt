@@ -1,9 +1,5 @@
 -- `numbers::write_u32` meets its contract: a turned number written the lowest byte first is big-endian. Assumes nothing.
 use Rattle.numbers.proofs.TurnLaws.{big-turned4}
-use Rattle.numbers.proofs.write_u32.Reads as reads
-use Rattle.numbers.proofs.write_u32.Lts as lts
-use Rattle.numbers.proofs.put4.Reads as put4-reads
-use Rattle.numbers.proofs.turned4.Reads as turned4-reads
 use Rattle.numbers.proofs.write_u32.Goals as goal
 
 -- src/lib.rt:164:1

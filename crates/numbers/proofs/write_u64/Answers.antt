@@ -1,9 +1,5 @@
 -- `numbers::write_u64` meets its contract: a turned number written the lowest byte first is big-endian. Assumes nothing.
 use Rattle.numbers.proofs.TurnLaws.{big-turned8}
-use Rattle.numbers.proofs.write_u64.Reads as reads
-use Rattle.numbers.proofs.write_u64.Lts as lts
-use Rattle.numbers.proofs.put8.Reads as put8-reads
-use Rattle.numbers.proofs.turned8.Reads as turned8-reads
 use Rattle.numbers.proofs.write_u64.Goals as goal
 
 -- src/lib.rt:171:1

@@ -1,6 +1,6 @@
 -- `frames::offset::some_fits` meets its contract. The invariant: no kind above k fits. Assumes nothing.
 use mathlib.Core.Path.{◌≡◌}
-use Prim.Native.Nat.{◌-◌, ◌≤◌}
+use Prim.Native.Nat.{◌≤◌}
 use Rattle.frames.specs.FrameRules.{some_fits}
 use Rattle.frames.proofs.offset.some_fits.Given as goal
 

@@ -1,0 +1,11 @@
+-- `comparing::fields::mark` meets its contract. Assumes nothing.
+use Rattle.comparing.specs.Fields.{one_if}
+use Rattle.comparing.proofs.fields.mark.Goals as goal
+
+pub returns-then-b : goal.returns-then-b
+unfolding one_if
+returns-then-b c = rw c.if-b.true
+
+pub returns : goal.returns
+unfolding one_if
+returns c = rw c.if-b.false
