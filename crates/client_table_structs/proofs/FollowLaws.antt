@@ -1,17 +1,17 @@
--- What the walks that follow a log show of the rows, on plain variables.
---     clear-set, clear-end             row by row the rows become unused
+-- What the functions that follow a log show of the rows, on plain variables.
+--     clear-set                        row by row the rows become unused
 --     rebuild-done                     the table of a log: its committed entries with what they gave, then the others
 --     new_in, done-in                  what a call appended and committed starts within the log, or where it ends
 --     follow-done                      the whole change of a call that appended and committed
 -- Assumes nothing.
 use mathlib.Core.Path.{◌≡◌, sym, ap, ◌∙◌}
 use mathlib.Core.Bool.{false}
-use mathlib.Core.List.{List, [], ◌∷◌, ◌++◌, append-nil}
+use mathlib.Core.List.{List, [], ◌∷◌, ◌++◌}
 use Prim.Native.Nat.{ℕ, suc, ◌+◌, ◌-◌, ◌*◌, ◌≤◌, ◌<◌}
 use native.Mathlib.Omega.{arith}
 use native.Mathlib.Numerals.{add-one}
 use lib.Dec.{ltb}
-use lib.ListN.{length, get_or, set, take, drop, replicate, length-replicate, replicate-append-replicate, drop_of_length-le, take-append-drop}
+use lib.ListN.{length, get_or, set, take, drop, replicate, length-replicate, replicate-append-replicate, take-append-drop}
 use lib.Seq.{append_snoc, drop-cons, set_at}
 use borrow.Author.Tests.{ltb-true, ltb-false}
 use Rattle.numbers.specs.Words.{if◌then◌else◌}
@@ -35,16 +35,10 @@ set-seam p xs k w l y =
     (set_at p (get_or xs k unused_row) (drop (suc k) xs) y k w ∙ sym (append_snoc p y (drop (suc k) xs)))
 
 module _ (ys : List Row) (k : ℕ) (zs : List Row) (is : zs ≡ replicate k unused_row ++ drop k ys) where
-  pub clear-set : k < length ys → (zs' : List Row) → zs' ≡ set zs k unused_row → zs' ≡ replicate (k + 1) unused_row ++ drop (k + 1) ys
-  clear-set l zs' e =
-      e ∙ ap (λ (ws : List Row). set ws k unused_row) is ∙ set-seam (replicate k unused_row) ys k (length-replicate k unused_row) l unused_row
+  pub clear-set : k < length ys → set zs k unused_row ≡ replicate (k + 1) unused_row ++ drop (k + 1) ys
+  clear-set l =
+      ap (λ (ws : List Row). set ws k unused_row) is ∙ set-seam (replicate k unused_row) ys k (length-replicate k unused_row) l unused_row
       ∙ ap (λ (ws : List Row). ws ++ drop (k + 1) ys) (replicate-append-replicate k 1 unused_row)
-
-  pub clear-end : length ys ≤ k → k ≤ length ys → zs ≡ replicate (length ys) unused_row
-  clear-end l l' =
-      let e : k ≡ length ys = omega arith in
-      is ∙ ap (λ (ws : List Row). replicate k unused_row ++ ws) (drop_of_length-le ys l) ∙ append-nil (replicate k unused_row)
-      ∙ ap (λ (j : ℕ). replicate j unused_row) e
 
 -- ---- the table of a log of n entries, d of them committed
 

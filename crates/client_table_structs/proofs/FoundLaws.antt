@@ -5,13 +5,12 @@
 --     reply-inside, reply-out, reply-in            a reply that is kept, or isn't
 -- Assumes nothing.
 use mathlib.Core.Path.{◌≡◌, refl, sym, ap, ◌∙◌}
-use mathlib.Core.Bool.{Bool, true, false, not}
+use mathlib.Core.Bool.{Bool, true, false}
 use mathlib.Core.List.{List}
 use Prim.Native.Nat.{ℕ, ◌≤◌, ◌<◌}
 use native.Mathlib.Omega.{arith}
 use lib.Dec.{eqb}
 use lib.ListN.{length}
-use borrow.Author.Tests.{not-true, not-false}
 use Rattle.numbers.specs.Words.{◌and◌}
 use Rattle.numbers.proofs.WordLaws.{if-true, if-false, split, and_left}
 use Rattle.entries.specs.declared.Entry.{Entry}
@@ -88,14 +87,14 @@ module _ (xs : List Row) (e : Entry) (o : Outcome) (f : FoundRow) (b : Bool) (p 
   unfolding latest_at is_latest found_among
   latest = q ∙ ap (λ (g : FoundRow). g.there and eqb g.row.request e.request) p
 
-  pub reply-inside : not b ≡ false → f.at < length xs
+  pub reply-inside : b ≡ true → f.at < length xs
   unfolding latest_at
-  reply-inside t = found_inside xs e.client f p (and_left f.there (eqb f.row.request e.request) (sym q ∙ not-false b t))
+  reply-inside t = found_inside xs e.client f p (and_left f.there (eqb f.row.request e.request) (sym q ∙ t))
 
-  pub reply-out : not b ≡ true → xs ≡ replied struct_row xs e o
+  pub reply-out : b ≡ false → xs ≡ replied struct_row xs e o
   unfolding replied
-  reply-out t = sym (if-false _ _ _ (sym latest ∙ not-true b t))
+  reply-out t = sym (if-false _ _ _ (sym latest ∙ t))
 
-  pub reply-in : (r : Row) → r ≡ struct_row.answered e o → not b ≡ false → stored struct_row f.at f.at r xs ≡ replied struct_row xs e o
+  pub reply-in : (r : Row) → r ≡ struct_row.answered e o → b ≡ true → stored struct_row f.at f.at r xs ≡ replied struct_row xs e o
   unfolding replied
-  reply-in r s t = rw (s, found-at xs e.client f p) (sym (if-true _ _ _ (sym latest ∙ not-false b t)))
+  reply-in r s t = rw (s, found-at xs e.client f p) (sym (if-true _ _ _ (sym latest ∙ t)))

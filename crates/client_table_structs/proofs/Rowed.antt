@@ -1,4 +1,4 @@
--- The declared types that walks read, write and pass: a row, as an element of a slice, and what goes to calls by value. Assumes nothing.
+-- The declared types of the table as elements that a proof by hand (`walks`) reads, writes and passes. Assumes nothing.
 use Rattle.walks.proofs.Open.{Elem}
 use Rattle.walks.proofs.Handing.{elem_of, enum-of}
 use Rattle.entries.specs.contracts.Entry as E

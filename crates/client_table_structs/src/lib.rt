@@ -1,5 +1,7 @@
 // The client table as a slice of row structs, for callers in Rattle: rows in rising order of client id, unused rows last. The functions are thin:
 // they find, store and rebuild rows, and hand whole rows to `cell`, where what a row says is decided.
+#![tactic(auto)]
+
 ghost use Rattle.std.specs.Prelude.{◌≡◌, ◌-◌, ◌*◌, ◌≤◌, ◌<◌, length, drop, replicate};
 ghost use Rattle.entries.specs.Entries.{entries};
 ghost use Rattle.entries.specs.Places.{entry_place, result_place};

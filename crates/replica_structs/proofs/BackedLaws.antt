@@ -2,7 +2,7 @@
 --     rows-own-out                          our own id isn't in the set of state and rows that calls produced
 --     rows-backed, rows-backed-recovered    from a creation, and from a recovery, that wasn't refused
 -- Assumes nothing.
-use Rattle.core.specs.Prelude.{◌≡◌, ℕ, List, []}
+use Rattle.std.specs.Prelude.{◌≡◌, ℕ, List, []}
 use mathlib.Core.Path.{subst}
 use Rattle.numbers.specs.declared.View.{View}
 use Rattle.entries.specs.declared.Entry.{Entry}

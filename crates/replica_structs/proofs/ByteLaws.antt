@@ -4,7 +4,7 @@
 --     told-alike                         what is told of a client is the same from both
 --     bytes-long, rows-read, blank-bytes    rows written as bytes, and read again; unused ones
 -- Assumes nothing.
-use Rattle.core.specs.Prelude.{◌≡◌, ℕ, zero, suc, ◌*◌, true, not, eqb, List, [], ◌∷◌, ◌++◌, map, length, replicate}
+use Rattle.std.specs.Prelude.{◌≡◌, ℕ, zero, suc, ◌*◌, true, not, eqb, List, [], ◌∷◌, ◌++◌, map, length, replicate}
 use mathlib.Core.Path.{refl, sym, ap, ◌∙◌, subst}
 use mathlib.Core.Bool.{false≢true}
 use mathlib.Core.List.{append-nil}

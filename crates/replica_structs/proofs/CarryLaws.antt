@@ -2,7 +2,7 @@
 -- memory are such as calls produce.
 --     message-carried, idle-carried, create-carried, recover-carried
 -- Assumes nothing.
-use Rattle.core.specs.Prelude.{◌≡◌, ℕ, List, []}
+use Rattle.std.specs.Prelude.{◌≡◌, ℕ, List, []}
 use Rattle.numbers.specs.Numbers.{Bytes}
 use Rattle.numbers.specs.declared.View.{View}
 use Rattle.entries.specs.declared.Entry.{Entry}

@@ -1,6 +1,6 @@
 -- Results stay outcomes of the fee rules, 1 to 6: `grew-coded`, by how a call changed the model's book. Assumes nothing.
 use mathlib.Core.Path.{sym, subst}
-use Rattle.core.specs.Prelude.{ℕ, Bool, List, [], ◌∷◌, ◌++◌}
+use Rattle.std.specs.Prelude.{ℕ, Bool, List, [], ◌∷◌, ◌++◌}
 use Rattle.fees.specs.declared.Outcome.{Outcome}
 use Rattle.client_table.proofs.AlikeLaws.{Coded}
 use Rattle.model.specs.State.{Book}

@@ -6,7 +6,7 @@
 --     malformed, taken                                     a frame
 --     idle-unsound, idle-done                              a tick
 -- Assumes nothing.
-use Rattle.core.specs.Prelude.{◌≡◌, ℕ, ◌*◌, ◌<◌, ◌≤◌, Bool, true, false, not, eqb, List, length}
+use Rattle.std.specs.Prelude.{◌≡◌, ℕ, ◌*◌, ◌<◌, ◌≤◌, Bool, true, false, not, eqb, List, length}
 use mathlib.Core.Path.{refl, sym, ap, ◌∙◌, subst}
 use native.Mathlib.Omega.{arith}
 use borrow.Author.Tests.{ltb-true, ne_eqb, not-false}
@@ -180,10 +180,10 @@ module _ (c : Checked) (s : Replica) (l : Latest) (frame : List ℕ) (m : Memory
 -- ---- a tick
 
 module _ (s : Replica) (table : ℕ) (m : Memory) (b : Bool) (e : b ≡ sound s (lengths_in m table)) where
-  pub idle-unsound : not b ≡ true → {a : Returned} → a ≡ refusal 1 s → recorded a m ≡ idle_core s table m
+  pub idle-unsound : b ≡ false → {a : Returned} → a ≡ refusal 1 s → recorded a m ≡ idle_core s table m
   unfolding idle_core if◌then◌else◌
   idle-unsound h p = rw (← e, h, p)
 
-  pub idle-done : not b ≡ false → {d : Recorded} → d ≡ idle_step s m → d ≡ idle_core s table m
+  pub idle-done : b ≡ true → {d : Recorded} → d ≡ idle_step s m → d ≡ idle_core s table m
   unfolding idle_core if◌then◌else◌
   idle-done h p = rw (← e, h) p

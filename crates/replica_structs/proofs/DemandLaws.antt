@@ -3,7 +3,7 @@
 --     linked, chained    a call, and a chain of them, are calls over the byte table
 --     rows-chain-goes, rows-demand-3, rows-demand-3-recovered    demand 3, from any state that calls produced, and from a creation
 -- Assumes nothing.
-use Rattle.core.specs.Prelude.{◌≡◌, ℕ, List, [], ◌∷◌, length}
+use Rattle.std.specs.Prelude.{◌≡◌, ℕ, List, [], ◌∷◌, length}
 use mathlib.Core.Path.{refl, sym, ap, ◌∙◌, subst}
 use native.Mathlib.Omega.{arith}
 use borrow.Author.Tests.{ne_eqb}

@@ -6,8 +6,6 @@ pub mod StepLaws
 pub mod SameLaws
 pub mod PromiseLaws
 pub mod CarryLaws
-pub mod Carried
-pub mod Tabling
 pub mod DemandLaws
 pub mod BackedLaws
 pub mod OneAnswer

@@ -1,6 +1,6 @@
 -- Equality of any two permitted answers of the outside calls over row structs, refused ones included: two answers, with every byte and every row as they leave
 -- them, that both meet a call's contract are equal. Assumes nothing.
-use Rattle.core.specs.Prelude.{◌≡◌, ℕ, List}
+use Rattle.std.specs.Prelude.{◌≡◌, ℕ, List}
 use mathlib.Core.Path.{sym, ◌∙◌}
 use Rattle.numbers.specs.declared.View.{View}
 use Rattle.config.specs.declared.Setup.{Setup}

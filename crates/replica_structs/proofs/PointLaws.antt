@@ -1,5 +1,5 @@
 -- Refusal 2 of a frame comes with the offset of its first wrong byte, every other answer with 0: what the core says of what it was handed. Assumes nothing.
-use Rattle.core.specs.Prelude.{◌≡◌, ℕ, List}
+use Rattle.std.specs.Prelude.{◌≡◌, ℕ, List}
 use mathlib.Core.Path.{sym, ap, subst}
 use Rattle.offsets.specs.Offsets.{Points}
 use Rattle.frames.specs.Kinds.{well_formed}

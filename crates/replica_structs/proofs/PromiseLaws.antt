@@ -3,7 +3,7 @@
 --     message-rows, idle-rows                               a frame, and a tick
 --     create-refused, create-rows, recover-refused, recover-rows    creation, where the core refused it and where it did it
 -- Assumes nothing.
-use Rattle.core.specs.Prelude.{◌≡◌, ℕ, ◌*◌, ◌≤◌, List, length, replicate}
+use Rattle.std.specs.Prelude.{◌≡◌, ℕ, ◌*◌, ◌≤◌, List, length, replicate}
 use mathlib.Core.Path.{refl, sym, ap, ◌∙◌, subst}
 use borrow.Author.Tests.{eq-eqb, ne_eqb}
 use Rattle.numbers.specs.declared.View.{View}

@@ -2,7 +2,7 @@
 --     message-same, idle-same                             a frame, and a tick
 --     create-same, create-ok, recover-same, recover-ok    creation
 -- Assumes nothing.
-use Rattle.core.specs.Prelude.{◌≡◌, ℕ, true, not, List, length, replicate}
+use Rattle.std.specs.Prelude.{◌≡◌, ℕ, true, not, List, length, replicate}
 use mathlib.Core.Path.{refl, sym, ap, ◌∙◌, subst}
 use borrow.Author.Tests.{eqb-true, eq-eqb}
 use Rattle.numbers.specs.Numbers.{Bytes, over}

@@ -4,7 +4,7 @@
 --     table-read                  the rows, read from their bytes
 --     refused-keeps, step_same    a refusal; a step that shows the model's answer, with the rows that follow it
 -- Assumes nothing.
-use Rattle.core.specs.Prelude.{◌≡◌, ℕ, ◌*◌, false, eqb, List, [], ◌++◌, map, length, drop}
+use Rattle.std.specs.Prelude.{◌≡◌, ℕ, ◌*◌, false, eqb, List, [], ◌++◌, map, length, drop}
 use mathlib.Core.Path.{refl, sym, ap, ◌∙◌, subst}
 use mathlib.Core.List.{append-nil}
 use native.Mathlib.Omega.{arith}

@@ -1,5 +1,5 @@
 -- What stands behind a DoViewChange of the calls over row structs: any chain of them is one of the calls over the byte table. Assumes nothing.
-use Rattle.core.specs.Prelude.{List, [], ◌∷◌}
+use Rattle.std.specs.Prelude.{List, [], ◌∷◌}
 use Rattle.state.specs.declared.Replica.{Replica}
 use Rattle.safety.specs.Demand.{Call}
 use Rattle.replica.specs.Backed.{framed_in, ticked_in}

@@ -1,5 +1,5 @@
 -- The outside calls with the client table as a slice of row structs. Assumes nothing.
-use Rattle.core.specs.Prelude.{ℕ, List, length, replicate, ◌==◌}
+use Rattle.std.specs.Prelude.{ℕ, List, length, replicate, ◌==◌}
 use Rattle.numbers.specs.Words.{if◌then◌else◌}
 use Rattle.numbers.specs.declared.View.{View}
 use Rattle.entries.specs.Entries.{entries}

@@ -1,6 +1,6 @@
 -- The outside calls but for the client table, of which they are told its length and a client's latest request: so the table may have any form. In refusal 1 a
 -- row counts as its 25 bytes. Assumes nothing.
-use Rattle.core.specs.Prelude.{◌≡◌, ℕ, ◌*◌, false, not, List, ◌==◌, nat_lt}
+use Rattle.std.specs.Prelude.{◌≡◌, ℕ, ◌*◌, false, not, List, ◌==◌, nat_lt}
 use Rattle.numbers.specs.Words.{if◌then◌else◌}
 use Rattle.numbers.specs.declared.View.{View}
 use Rattle.config.specs.declared.Setup.{Setup}

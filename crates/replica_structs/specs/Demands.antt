@@ -1,5 +1,5 @@
 -- Demands 1 and 3 of the outside calls over row structs, over any chain of them that are linked by their promises alone. Assumes nothing.
-use Rattle.core.specs.Prelude.{◌≡◌, ℕ, List, ◌≢◌}
+use Rattle.std.specs.Prelude.{◌≡◌, ℕ, List, ◌≢◌}
 use Rattle.numbers.specs.Numbers.{Bytes}
 use Rattle.entries.specs.declared.Entry.{Entry}
 use Rattle.state.specs.Answers.{refusal}

@@ -1,6 +1,6 @@
 -- What the outside calls over row structs promise: `exact`, for any state and any memory; `same`, for memory that calls produced: they are the calls over the byte
 -- table, number for number and byte for byte, if each row is written as its 25 bytes. So all that those promise is promised of these. Assumes nothing.
-use Rattle.core.specs.Prelude.{◌≡◌, ℕ, ◌≤◌, List, map}
+use Rattle.std.specs.Prelude.{◌≡◌, ℕ, ◌≤◌, List, map}
 use Rattle.numbers.specs.Words.{All}
 use Rattle.numbers.specs.Numbers.{Bytes}
 use Rattle.numbers.specs.Cells.{packed}

@@ -1,6 +1,8 @@
 // The replica for callers in Rattle, with the client table as a slice of row structs: creation, recovery, a frame, a tick, the takings. None asks anything of its caller. Each is thin:
 // refusals 1 to 6, the row that the core asks for, the core, and the table brought up to what it did.
-ghost use Rattle.core.specs.Prelude.{◌≡◌, []};
+#![tactic(auto)]
+
+ghost use Rattle.std.specs.Prelude.{◌≡◌, []};
 ghost use Rattle.offsets.specs.Offsets.{Points};
 ghost use Rattle.frames.specs.Kinds.{well_formed};
 ghost use Rattle.replica_structs.specs.Calls.{KeepsRows, lent_rows};
@@ -14,7 +16,7 @@ use outside::call::WithOffset;
 use outside::takings::Taken;
 use state::{Replica, Returned};
 
-pub mod core; // the calls but for the table
+pub mod kernel; // the calls but for the table
 
 // new
 pub fn create(
@@ -28,7 +30,7 @@ pub fn create(
 ) -> Returned
     ensures { KeepsRows (CreateRowsPromise u) result (lent_rows log.now results.now totals.old acks.old stored.now table.old [] []) (lent_rows log.now results.now totals.new acks.new stored.now table.new [] []) }
 {
-    let a = core::create(u, table.len(), log, results, totals, acks, stored);
+    let a = kernel::create(u, table.len(), log, results, totals, acks, stored);
     if a.code != 0 {
         return a;
     }
@@ -51,7 +53,7 @@ pub fn recover(
 ) -> Returned
     ensures { KeepsRows (RecoverRowsPromise u v nonce) result (lent_rows log.now results.now totals.old acks.old stored.now table.old out.old []) (lent_rows log.now results.now totals.new acks.new stored.now table.new out.new []) }
 {
-    let a = core::recover(
+    let a = kernel::recover(
         u,
         v,
         nonce,
@@ -87,7 +89,7 @@ pub fn on_message(
         (lent_rows log.old results.old totals.old acks.old stored.old table.old out.old reps.old)
         (lent_rows log.new results.new totals.new acks.new stored.new table.new out.new reps.new) × Points well_formed frame.now result.returned.code result.offset }
 {
-    let c = core::checked(
+    let c = kernel::checked(
         s,
         log.len(),
         results.len(),
@@ -97,11 +99,11 @@ pub fn on_message(
         table.len(),
         frame,
     );
-    let latest = client_table_structs::latest(table, core::client_in(c));
-    let a = core::on_message(
+    let latest = client_table_structs::latest(table, kernel::client_in(c));
+    let a = kernel::on_message(
         s, c, latest, frame, log, results, totals, acks, stored, out, reps,
     );
-    client_table_structs::follow(table, log, results, core::change_answered(s, a));
+    client_table_structs::follow(table, log, results, kernel::change_answered(s, a));
     a
 }
 
@@ -119,7 +121,7 @@ pub fn on_idle(
 ) -> Returned
     ensures { KeepsRows (IdleRowsPromise s) result (lent_rows log.old results.old totals.old acks.old stored.old table.old out.old reps.old) (lent_rows log.new results.new totals.new acks.new stored.new table.new out.new reps.new) }
 {
-    let a = core::on_idle(
+    let a = kernel::on_idle(
         s,
         table.len(),
         log,
@@ -130,7 +132,7 @@ pub fn on_idle(
         out,
         reps,
     );
-    client_table_structs::follow(table, log, results, core::change_after(s, a));
+    client_table_structs::follow(table, log, results, kernel::change_after(s, a));
     a
 }
 

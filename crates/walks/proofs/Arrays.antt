@@ -7,7 +7,7 @@ use Prim.Native.Nat.{ℕ}
 use mathlib.Core.List.{List, [], ◌∷◌, ◌++◌, map}
 use lib.ListN.{length, take, drop as drop-list, take-append-drop}
 use seplogic.Ra.Ura.{Ura}
-use seplogic.Ra.TreeShare.{full_share}
+use base.Fraction.{full_share}
 use mir.Syntax.{Ty, ty_array, Lifetime}
 use mir.Val.{Val}
 use base.Logic.{ent, sep, emp, id⊢, via, emp∗, mono∗, ex_i}
@@ -21,6 +21,7 @@ use denote.RattleType.{RattleType}
 use denote.Shadow.{shadow, makes_shadow}
 use denote.Laws.{Is, Makes, Typed, shows}
 use denote.Memory.{mem, lone, cell_at, part_at, part_of, shares}
+use denote.Copied.{Array-Copied}
 use denote.Array.{Array, each, shape, array_val, Array-Tells, array_copy, Array-Typed}
 use denote.ArrayMemory.{Single, Array-apart, Array-whole}
 use denote.Index.{row, whole_out, whole_in}
@@ -35,7 +36,7 @@ pub elem-typed : (E : Elem) {M : Type 1} {𝓤 : Ura M} (𝓛 : Logic 𝓤) (d :
 elem-typed E 𝓛 d vs g = subst (Typed E.R.mir) (sym (E.tells d vs g)) (subst (λ (τs : List Ty). Typed τs (E.val d ∷ [])) (sym E.mir_is) (E.lawful 𝓛 d (subst (Is E.R d) (E.tells d vs g) g), tt))
 
 module _ (E : Elem) (n : ℕ) {M : Type 1} {𝓤 : Ura M} (𝓛 : Logic 𝓤) where
-  each-make : (xs : List E.R.Denot) (us : List Val) → shadow (each E.R.Denot E.R.own xs us) → ent 𝓤 (emp 𝓤) (sem 𝓛 (each E.R.Denot E.R.own xs us))
+  each-make : (xs : List E.R.Denot) (us : List Val) → shadow (each E.R.Denot E.R.own_val xs us) → ent 𝓤 (emp 𝓤) (sem 𝓛 (each E.R.Denot E.R.own_val xs us))
   each-make [] [] s = id⊢ 𝓤 (emp 𝓤)
   each-make [] (u ∷ us) s = absurd s
   each-make (x ∷ xs) [] s = absurd s
@@ -43,9 +44,9 @@ module _ (E : Elem) (n : ℕ) {M : Type 1} {𝓤 : Ura M} (𝓛 : Logic 𝓤) wh
 
   pub all-make : Makes 𝓛 (Array E.R n) (Is (Array E.R n))
   all-make xs vs p =
-      via 𝓤 (sem 𝓛 (fsep (shape n xs vs p.0) (each E.R.Denot E.R.own xs p.0)))
+      via 𝓤 (sem 𝓛 (fsep (shape n xs vs p.0) (each E.R.Denot E.R.own_val xs p.0)))
       (via 𝓤 (sep 𝓤 (emp 𝓤) (emp 𝓤)) (emp∗ 𝓤 (emp 𝓤)) (mono∗ 𝓤 (makes_shadow 𝓛 (shape n xs vs p.0) (tt, tt) p.1.0) (each-make xs p.0 p.1.1)))
-      (ex_i 𝓤 (λ (ws : List Val). sem 𝓛 (fsep (shape n xs vs ws) (each E.R.Denot E.R.own xs ws))) p.0)
+      (ex_i 𝓤 (λ (ws : List Val). sem 𝓛 (fsep (shape n xs vs ws) (each E.R.Denot E.R.own_val xs ws))) p.0)
 
 abbrev pub array_e : Elem → ℕ → Elem
 array_e E n = record {
@@ -56,6 +57,7 @@ array_e E n = record {
   tells = Array-Tells E.R (λ d. E.val d ∷ []) E.tells n;
   makes = λ 𝓛. all-make E n 𝓛;
   copy = λ 𝓛. array_copy 𝓛 E.R (E.copy 𝓛) n;
+  copied = λ 𝓛. Array-Copied 𝓛 E.R (E.copied 𝓛) (subst Single (sym E.mir_is) tt) n;
   lawful = λ 𝓛 xs g. (subst (λ (τs : List Ty). Typed τs (array_val (map E.val xs) ∷ [])) (ap (λ (τs : List Ty). ty_array (lone τs) n ∷ []) E.mir_is) (Array-Typed E.R (elem-typed E 𝓛) n xs _ g)).0;
 }
 

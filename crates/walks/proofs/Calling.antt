@@ -12,33 +12,34 @@ use Prim.Native.Nat.{ℕ}
 use mathlib.Core.List.{List, [], ◌∷◌}
 use lib.ListN.{length}
 use seplogic.Ra.Ura.{Ura}
-use seplogic.Ra.TreeShare.{full_share}
-use mir.Syntax.{Name, Opd as Operand, Place, Body, seq, call, Lifetime}
+use base.Fraction.{full_share}
+use mir.Syntax.{Callee, Opd as Operand, Place, Body, seq, call, Lifetime}
 use mir.Val.{Val}
 use base.Logic.{ent, id⊢}
 use base.Fml.{Lft, GName, Share, Fml, fsep, flft, fdead, flent, fobor, fobs, fauth}
 use prog.Wp.{Env, Calls, Loops}
 use types.Logic.{Logic}
 use sound.WpLaws.{FmC}
-use types.Kit.{Item, ‵, raw, ◌⊛◌, some, later, Post, Goal, Soaks, runs, lands, settles, Seq, Step, step, ◌$◌, move, drop, use1, use3, split, pick, fsplit, fjoin, feq_i, await}
+use types.Kit.{Item, ‵, raw, ◌⊛◌, some, later, Post, Goal, Soaks, runs, lands, settles, Seq, Step, step, ◌$◌, move, drop, use1, use3, split, pick, fsplit, fjoin, await}
 use types.Run.{Opds}
 use types.Tokens.{lent_back, name_done}
-use types.Share.{arr_parts}
 use types.SemTy.{cells, Arr}
 use denote.RattleType.{RattleType}
 use denote.Shadow.{pure_l, pure_i}
-use denote.Memory.{mem, shares}
+use denote.Memory.{mem}
 use denote.Ref.{MutBor}
+use denote.Copied.{each_lends}
+use denote.Opens.{hide}
 use denote.Index.{row, whole_out, whole_in, opens_slice, closes_slice}
 use denote.Signature.{type_at}
-use denote.Slice.{slice_val, MutSlice, ShrSlice, Room, heres, coded_holeys, mut_slice_at, finally, res-finally}
-use denote.Lend.{Held, lends_slice, slice_back, lends_shr_slice}
+use denote.Slice.{slice_val, MutSlice, ShrSlice, Room, heres, coded_holeys, mut_slice_at, shr_slice_at, elements_shared, finally, res-finally}
+use denote.Lend.{Held, lends_slice, slice_back}
 use denote.Triple.Entry.{Res, alive}
 use denote.Triple.Spec.{triple_of}
 use denote.Triple.Statement.{Triple}
 use denote.Triple.Call.{calls_from, calls_from_last}
 use denote.Triple.Clauses.{Ended, Clauses, closing, Lasts, lasts, at_exit}
-use Rattle.walks.proofs.Open.{Elem, Open, slice, opened, closed}
+use Rattle.walks.proofs.Open.{Elem, Open, slice, shared, opened, closed}
 
 module _ {M : Type 1} {𝓤 : Ura M} {𝓛 : Logic 𝓤} {K : Type 0} {Γ : List (Item 𝓤)} where
   -- a callee's `post`, taken apart
@@ -56,7 +57,7 @@ module _ {M : Type 1} {𝓤 : Ura M} {𝓛 : Logic 𝓤} {K : Type 0} {Γ : List
   -- from one instance of the contract: what a method of a recursion has of its callee
   open 𝓛 use {H}
 
-  pub calls-one : K → FmC 𝓤 H 𝓛.laws C → {f : Name} {xs : List Operand} {d : Place} {rest : Body} (T : Ended) (c : Clauses 𝓤 T) (y : (triple_of 𝓛 T.signature (closing 𝓛 T c)).Ghost)
+  pub calls-one : K → FmC 𝓤 H 𝓛.laws C → {f : Callee} {xs : List Operand} {d : Place} {rest : Body} (T : Ended) (c : Clauses 𝓤 T) (y : (triple_of 𝓛 T.signature (closing 𝓛 T c)).Ghost)
       → ent 𝓤 ((triple_of 𝓛 T.signature (closing 𝓛 T c)).pre y) (C f ((triple_of 𝓛 T.signature (closing 𝓛 T c)).args y) ((triple_of 𝓛 T.signature (closing 𝓛 T c)).post y))
       → Opds K 𝓛 (raw ((triple_of 𝓛 T.signature (closing 𝓛 T c)).pre y) ∷ Γ) E xs ((triple_of 𝓛 T.signature (closing 𝓛 T c)).args y)
       → ((v : Val) (r : Res T.signature y.0.0) (ws : Lasts T y.0.0 y.0.3)
@@ -64,14 +65,14 @@ module _ {M : Type 1} {𝓤 : Ura M} {𝓛 : Logic 𝓤} {K : Type 0} {Γ : List
       → Seq K 𝓛 (raw ((triple_of 𝓛 T.signature (closing 𝓛 T c)).pre y) ∷ Γ) (runs C Λ E (seq (call f xs d) rest) q)
   calls-one t fm T c y met os k = calls_from t fm (raw ((triple_of 𝓛 T.signature (closing 𝓛 T c)).pre y)) ((triple_of 𝓛 T.signature (closing 𝓛 T c)).args y) ((triple_of 𝓛 T.signature (closing 𝓛 T c)).post y) met os (λ v. parted t tt T c y v (k v))
 
-  pub calls-fn : K → FmC 𝓤 H 𝓛.laws C → {f : Name} {xs : List Operand} {d : Place} {rest : Body} (T : Ended) (c : Clauses 𝓤 T) → Triple 𝓤 (C f) (triple_of 𝓛 T.signature (closing 𝓛 T c))
+  pub calls-fn : K → FmC 𝓤 H 𝓛.laws C → {f : Callee} {xs : List Operand} {d : Place} {rest : Body} (T : Ended) (c : Clauses 𝓤 T) → Triple 𝓤 (C f) (triple_of 𝓛 T.signature (closing 𝓛 T c))
       → (y : (triple_of 𝓛 T.signature (closing 𝓛 T c)).Ghost) → Opds K 𝓛 (raw ((triple_of 𝓛 T.signature (closing 𝓛 T c)).pre y) ∷ Γ) E xs ((triple_of 𝓛 T.signature (closing 𝓛 T c)).args y)
       → ((v : Val) (r : Res T.signature y.0.0) (ws : Lasts T y.0.0 y.0.3)
       → Seq K 𝓛 (raw ((c y.0.0 y.0.3).ensures y.1 r (at_exit T y.0.0 y.0.3 ws)) ∷ ‵ (lasts T y.0.0 y.0.3 ws) ∷ ‵ ((type_at T.signature.result y.0.0).own_val r (v ∷ [])) ∷ raw (alive 𝓛 T.signature y.0.0 y.0.1) ∷ Γ) (lands C Λ E d v rest q))
       → Seq K 𝓛 (raw ((triple_of 𝓛 T.signature (closing 𝓛 T c)).pre y) ∷ Γ) (runs C Λ E (seq (call f xs d) rest) q)
   calls-fn t fm T c known y = calls-one t fm T c y (known y)
 
-  pub calls-fn-last : K → FmC 𝓤 H 𝓛.laws C → {f : Name} {xs : List Operand} {d : Place} (T : Ended) (c : Clauses 𝓤 T) → Triple 𝓤 (C f) (triple_of 𝓛 T.signature (closing 𝓛 T c))
+  pub calls-fn-last : K → FmC 𝓤 H 𝓛.laws C → {f : Callee} {xs : List Operand} {d : Place} (T : Ended) (c : Clauses 𝓤 T) → Triple 𝓤 (C f) (triple_of 𝓛 T.signature (closing 𝓛 T c))
       → (y : (triple_of 𝓛 T.signature (closing 𝓛 T c)).Ghost) → Opds K 𝓛 (raw ((triple_of 𝓛 T.signature (closing 𝓛 T c)).pre y) ∷ Γ) E xs ((triple_of 𝓛 T.signature (closing 𝓛 T c)).args y)
       → ((v : Val) (r : Res T.signature y.0.0) (ws : Lasts T y.0.0 y.0.3)
       → Seq K 𝓛 (raw ((c y.0.0 y.0.3).ensures y.1 r (at_exit T y.0.0 y.0.3 ws)) ∷ ‵ (lasts T y.0.0 y.0.3 ws) ∷ ‵ ((type_at T.signature.result y.0.0).own_val r (v ∷ [])) ∷ raw (alive 𝓛 T.signature y.0.0 y.0.1) ∷ Γ) (settles E d v q))
@@ -80,19 +81,19 @@ module _ {M : Type 1} {𝓤 : Ura M} {𝓛 : Logic 𝓤} {K : Type 0} {Γ : List
 
 -- what the holder keeps while the slice is lent as `&`, for κ'
 abbrev pub LentShared : (E : Elem) → Lft → Share → GName → ℕ → ℕ → List E.R.Denot → Lft → Fml
-LentShared E κ q γ b o ys κ' = fsep (flent κ' ((arr_parts (shares E.R) (length ys)).part full_share ys b o)) (Open E κ q γ b o ys)
+LentShared E κ q γ b o ys κ' = fsep (flent κ' (row E.R full_share ys b o)) (Open E κ q γ b o ys)
 
 module _ (E : Elem) {M : Type 1} {𝓤 : Ura M} {𝓛 : Logic 𝓤} {K : Type 0} {Γ : List (Item 𝓤)} {G : Goal 𝓤 𝓛.H} where
   pub lend-shared : K → Soaks G → (ℓ ℓ' : Lifetime) {κ : Lft} (κ' : Lft) {q : Share} (γ : GName) (b o : ℕ) (ys : List E.R.Denot) → Room E.R (length ys)
-      → ((γ' : GName) → Seq K 𝓛 (‵ ((ShrSlice ℓ' κ' E.R).own_val (slice E γ' b o ys) (slice_val (b, o) (length ys) ∷ [])) ∷ ‵ (LentShared E κ q γ b o ys κ') ∷ Γ) G)
+      → Seq K 𝓛 (‵ ((ShrSlice ℓ' κ' E.R).own_val (shared E b o ys) (slice_val (b, o) (length ys) ∷ [])) ∷ ‵ (LentShared E κ q γ b o ys κ') ∷ Γ) G
       → Seq K 𝓛 (‵ ((MutSlice ℓ κ E.R).own_val (slice E γ b o ys) (slice_val (b, o) (length ys) ∷ [])) ∷ ‵ (flft κ q) ∷ Γ) G
-  lend-shared t z ℓ ℓ' κ' γ b o ys room k = opened E t z ℓ γ b o ys (λ _. feq_i t ℕ (length ys) (length ys) refl $ fjoin t $
-      use1 𝓛 (later (some (λ (γ' : GName). ‵ ((ShrSlice ℓ' κ' E.R).own_val (slice E γ' b o ys) (slice_val (b, o) (length ys) ∷ [])) ⊛ ‵ (flent κ' ((arr_parts (shares E.R) (length ys)).part full_share ys b o)))))
-      (lends_shr_slice 𝓛 E.R ℓ' κ' full_share ys b o room) $ await t z $ pick t (λ γ'. split t $ move t (1 ∷ 2 ∷ []) $ fjoin t $ move t (1 ∷ 0 ∷ []) $ k γ'))
+  lend-shared t z ℓ ℓ' κ' γ b o ys room k = opened E t z ℓ γ b o ys (λ _.
+      use1 𝓛 (later (‵ (elements_shared E.R ys b o κ') ⊛ ‵ (flent κ' (row E.R full_share ys b o)))) (each_lends 𝓛 E.R (E.copied 𝓛) full_share ys b o κ') $ await t z $ split t $ hide t $
+      pure_i t (shr_slice_at E.R (shared E b o ys) (slice_val (b, o) (length ys) ∷ [])) (tt, (tt, tt)) (refl, room) $ fjoin t $ move t (1 ∷ 2 ∷ []) $ fjoin t $ move t (1 ∷ 0 ∷ []) $ k)
 
   pub back-shared : K → Soaks G → (ℓ : Lifetime) {κ : Lft} (κ' : Lft) {q : Share} (γ : GName) (b o : ℕ) (ys : List E.R.Denot) → Room E.R (length ys)
       → Step K 𝓛 (‵ ((MutSlice ℓ κ E.R).own_val (slice E γ b o ys) (slice_val (b, o) (length ys) ∷ [])) ∷ ‵ (flft κ q) ∷ Γ) G (‵ (fdead κ') ∷ ‵ (LentShared E κ q γ b o ys κ') ∷ Γ) G
-  back-shared t z ℓ κ' γ b o ys room = step (λ s. move t (1 ∷ []) $ fsplit t $ move t (2 ∷ 0 ∷ []) $ lent_back t z $ fsplit t $ drop t $ closed E t z ℓ γ b o ys ys refl room $ s)
+  back-shared t z ℓ κ' γ b o ys room = step (λ s. move t (1 ∷ []) $ fsplit t $ move t (2 ∷ 0 ∷ []) $ lent_back t z $ closed E t z ℓ γ b o ys ys refl room $ s)
 
 -- what the holder keeps while the slice is lent again, for κ' under the name γ'
 abbrev pub LentAgain : (R : RattleType) → Lft → Share → GName → ℕ → ℕ → List R.Denot → Lft → GName → Fml

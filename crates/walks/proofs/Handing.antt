@@ -16,7 +16,7 @@ use Prim.Native.Nat.{ℕ, zero, suc}
 use mathlib.Core.List.{List, [], ◌∷◌, ◌++◌}
 use lib.ListN.{length}
 use seplogic.Ra.Ura.{Ura}
-use seplogic.Ra.TreeShare.{full_share}
+use base.Fraction.{full_share}
 use mir.Syntax.{Ty, Width, ty_int, ty_bool, ty_unit, Lifetime, Body, place}
 use mir.Val.{Val, vint, vbool, vunit}
 use base.Logic.{SProp, ent, sep, emp, via, id⊢, emp∗, comm∗, fst∗, mono∗, mono_r}
@@ -26,7 +26,8 @@ use types.Logic.{Logic, sem}
 use types.Kit.{Item, ‵, raw, ◌⊛◌, ⋆, nth, put, push, pop, Post, post, Goal, Soaks, prop, runs, lands, settles, Seq, Step, step, Sq, ◌$◌, ◌∵◌, !, qed, by, cut, move, group, drop, use0, use1, split, join, fsplit, fjoin, feq_l, frame, done}
 use types.Run.{Finds, init, store, stop, from, land, land_last}
 use types.Tokens.{lft_new, lft_end}
-use denote.RattleType.{RattleType}
+use denote.RattleType.{RattleType, RowLaws}
+use denote.Copied.{uint_Copied, bool_Copied, Nothing-Copied}
 use denote.Laws.{Is, Typed, shows}
 use denote.Shadow.{makes_shadow}
 use denote.Plain.{UInt, uint_Tells, uint_copy, uint_Lawful, Boolean, bool_Tells, bool-copy, bool_Lawful, Nothing, Nothing-Tells, Nothing-copy, Nothing-Lawful}
@@ -39,7 +40,7 @@ use denote.Lowered.{Lowered}
 use denote.Enum.Enum.{Few, Plainss}
 use denote.Enum.Declared as EnumT
 use denote.Enum.Laws as EL
-use Rattle.walks.proofs.Open.{Elem, slice}
+use Rattle.walks.proofs.Open.{Elem, slice, shared}
 use Rattle.walks.proofs.Calling.{ref, LentAgain, LentShared, lend-again, back-again, lend-shared, back-shared}
 
 -- ---- types of one machine value
@@ -52,6 +53,7 @@ elem_of T L low cs pl = record {
   tells = low.val_is;
   makes = λ 𝓛. LL.makes T pl 𝓛;
   copy = λ 𝓛. LL.copy T cs 𝓛;
+  copied = λ 𝓛. LL.copied T cs 𝓛;
   lawful = λ 𝓛 d g. (subst (λ (τs : List Ty). Typed τs (low.lowered d ∷ [])) low.layout_is ((LL.lawful T L 𝓛).typed d _ g)).0;
 }
 
@@ -64,6 +66,7 @@ enum-of T L few low cs pl = record {
   tells = low.val_is;
   makes = λ 𝓛. EL.makes T pl 𝓛;
   copy = λ 𝓛. EL.copy T cs 𝓛;
+  copied = λ 𝓛. EL.copied T cs 𝓛;
   lawful = λ 𝓛 d g. (subst (λ (τs : List Ty). Typed τs (low.lowered d ∷ [])) low.layout_is ((EL.lawful T L 𝓛 few).typed d _ g)).0;
 }
 
@@ -76,6 +79,7 @@ uint_e w = record {
   tells = uint_Tells w;
   makes = λ 𝓛 n vs g. makes_shadow 𝓛 ((UInt w).own_val n vs) (tt, tt) g;
   copy = λ 𝓛. uint_copy 𝓛 w;
+  copied = λ 𝓛. uint_Copied 𝓛 w;
   lawful = λ 𝓛 d g. ((uint_Lawful 𝓛 w).typed d _ g).0;
 }
 
@@ -86,8 +90,9 @@ bool_e = record {
   val = vbool;
   mir_is = refl;
   tells = bool_Tells;
-  makes = λ 𝓛 t vs g. makes_shadow 𝓛 (Boolean.own t vs) tt g;
+  makes = λ 𝓛 t vs g. makes_shadow 𝓛 (Boolean.own_val t vs) tt g;
   copy = λ 𝓛. bool-copy 𝓛;
+  copied = λ 𝓛. bool_Copied 𝓛;
   lawful = λ 𝓛 d g. ((bool_Lawful 𝓛).typed d _ g).0;
 }
 
@@ -98,8 +103,9 @@ unit_e = record {
   val = λ _. vunit;
   mir_is = refl;
   tells = Nothing-Tells;
-  makes = λ 𝓛 u vs g. makes_shadow 𝓛 (Nothing.own u vs) tt g;
+  makes = λ 𝓛 u vs g. makes_shadow 𝓛 (Nothing.own_val u vs) tt g;
   copy = λ 𝓛. Nothing-copy 𝓛;
+  copied = λ 𝓛. Nothing-Copied 𝓛;
   lawful = λ 𝓛 d g. ((Nothing-Lawful 𝓛).typed d _ g).0;
 }
 
@@ -114,7 +120,7 @@ arg E d g = record { E = E; d = d; is = g }
 
 abbrev pub plainly : List Arg → Fml
 plainly [] = ftrue
-plainly (x ∷ xs) = fsep (x.E.R.own x.d (x.E.val x.d ∷ [])) (plainly xs)
+plainly (x ∷ xs) = fsep (x.E.R.own_val x.d (x.E.val x.d ∷ [])) (plainly xs)
 
 pub record Lent : Type 1 where
   pub κ : Lft
@@ -185,10 +191,10 @@ module _ {M : Type 1} {𝓤 : Ura M} {𝓛 : Logic 𝓤} {K : Type 0} where
   pub hands : K → (xs : List Lent) (ps : List Arg) → Seq K 𝓛 (items xs) (prop (sep 𝓤 (alive 𝓛 xs) (sem 𝓛 (owned xs (plainly ps)))))
   hands t xs ps = record { prf = gathers 𝓛 xs (plainly ps) (had 𝓛 ps) }
 
-  pub leaves : K → (xs : List Lent) (ps : List Arg) (r : Arg) → Seq K 𝓛 (items xs) (prop (sep 𝓤 (alive 𝓛 xs) (sep 𝓤 (sem 𝓛 (owned xs (plainly ps))) (sem 𝓛 (r.E.R.own r.d (r.E.val r.d ∷ []))))))
+  pub leaves : K → (xs : List Lent) (ps : List Arg) (r : Arg) → Seq K 𝓛 (items xs) (prop (sep 𝓤 (alive 𝓛 xs) (sep 𝓤 (sem 𝓛 (owned xs (plainly ps))) (sem 𝓛 (r.E.R.own_val r.d (r.E.val r.d ∷ []))))))
   leaves t xs ps r = record {
     prf = via 𝓤 _ (gathers 𝓛 xs (plainly ps) (had 𝓛 ps)) (mono_r 𝓤 (alive 𝓛 xs)
-        (qed 𝓛 (‵ (owned xs (plainly ps)) ∷ []) ∵ frame ! $ use0 𝓛 (‵ (r.E.R.own r.d (r.E.val r.d ∷ []))) (r.E.makes 𝓛 r.d (r.E.val r.d ∷ []) r.is) $ done !));
+        (qed 𝓛 (‵ (owned xs (plainly ps)) ∷ []) ∵ frame ! $ use0 𝓛 (‵ (r.E.R.own_val r.d (r.E.val r.d ∷ []))) (r.E.makes 𝓛 r.d (r.E.val r.d ∷ []) r.is) $ done !));
   }
 
   module _ {Γ : List (Item 𝓤)} where
@@ -203,7 +209,7 @@ module _ {M : Type 1} {𝓤 : Ura M} {𝓛 : Logic 𝓤} {K : Type 0} where
       -- the local stands at entry p of what is left
       pub told : K → (xs : List Lent) (p : ℕ) (r : E.R.Denot) (v : Val) {L : Fml} {b i : ℕ} {rest : Body} → nth 𝓛 p Γ ≡ ‵ (froom E.τ b zero) → spot_of 𝓤 H En i ≡ (E.τ, b, zero)
           → (Is E.R r (E.val r ∷ []) → Seq K 𝓛 (tokens xs ++ put 𝓛 p (‵ (fat full_share E.τ b zero (E.val r))) Γ) (runs C Λ En rest q))
-          → Seq K 𝓛 (‵ L ∷ ‵ (E.R.own r (v ∷ [])) ∷ raw (alive 𝓛 xs) ∷ Γ) (lands C Λ En (place i []) v rest q)
+          → Seq K 𝓛 (‵ L ∷ ‵ (E.R.own_val r (v ∷ [])) ∷ raw (alive 𝓛 xs) ∷ Γ) (lands C Λ En (place i []) v rest q)
       told t xs p r v {b = b} {i = i} {rest = rest} e e' k = drop t $ facts t E.R (Is E.R) (shows 𝓛 E.R) r (v ∷ []) (λ is.
           subst (λ (u : Val). Seq K 𝓛 (raw (alive 𝓛 xs) ∷ Γ) (lands C Λ En (place i []) u rest q)) (sym (ap only (E.tells r _ is)))
           (land t (subst (Finds K 𝓛 (raw (alive 𝓛 xs) ∷ Γ) En (place i [])) e' (from t (stop t))) (init t (suc p) e (E.lawful 𝓛 r (subst (Is E.R r) (E.tells r _ is) is))) $
@@ -212,7 +218,7 @@ module _ {M : Type 1} {𝓤 : Ura M} {𝓛 : Logic 𝓤} {K : Type 0} where
     module _ (E : Elem) {En : Env 𝓤 H} {q : Post 𝓤 H} where
       pub told-last : K → (xs : List Lent) (p : ℕ) (r : E.R.Denot) (v : Val) {u : Val} {L : Fml} {b i : ℕ} → nth 𝓛 p Γ ≡ ‵ (fat full_share E.τ b zero u) → spot_of 𝓤 H En i ≡ (E.τ, b, zero)
           → (Is E.R r (E.val r ∷ []) → Seq K 𝓛 (tokens xs ++ put 𝓛 p (‵ (fat full_share E.τ b zero (E.val r))) Γ) (prop (post 𝓤 H q next)))
-          → Seq K 𝓛 (‵ L ∷ ‵ (E.R.own r (v ∷ [])) ∷ raw (alive 𝓛 xs) ∷ Γ) (settles En (place i []) v q)
+          → Seq K 𝓛 (‵ L ∷ ‵ (E.R.own_val r (v ∷ [])) ∷ raw (alive 𝓛 xs) ∷ Γ) (settles En (place i []) v q)
       told-last t xs p r v {b = b} {i = i} e e' k = drop t $ facts t E.R (Is E.R) (shows 𝓛 E.R) r (v ∷ []) (λ is.
           subst (λ (u : Val). Seq K 𝓛 (raw (alive 𝓛 xs) ∷ Γ) (settles En (place i []) u q)) (sym (ap only (E.tells r _ is)))
           (land_last t (subst (Finds K 𝓛 (raw (alive 𝓛 xs) ∷ Γ) En (place i [])) e' (from t (stop t))) (store t (suc p) e (E.lawful 𝓛 r (subst (Is E.R r) (E.tells r _ is) is))) $
@@ -228,16 +234,16 @@ module _ {M : Type 1} {𝓤 : Ura M} {𝓛 : Logic 𝓤} {K : Type 0} where
           → Step K 𝓛 (‵ ((MutSlice ℓ κ R).own_val (ref γ b o zs) vs) ∷ ‵ (flft κ q) ∷ Γ) G (‵ (flft (ν ∷ []) full_share) ∷ ‵ (finally R δ zs) ∷ ‵ (LentAgain R κ q γ b o ys (ν ∷ []) δ) ∷ Γ) G
       back-new t z ℓ {ν = ν} γ δ b o ys zs vs e is room = step (λ s. lft_end t z $ move t (0 ∷ 2 ∷ []) $ back-again R t z ℓ (ν ∷ []) γ δ b o ys zs vs e is room $ s)
 
-      pub shared-too : K → (ℓ : Lifetime) {κ : Lft} (x : (ShrSlice ℓ κ R).Denot) (vs : List Val) → Step K 𝓛 (‵ ((ShrSlice ℓ κ R).own_val x vs) ∷ ‵ ((ShrSlice ℓ κ R).own_val x vs) ∷ Γ) G (‵ ((ShrSlice ℓ κ R).own_val x vs) ∷ Γ) G
-      shared-too t ℓ {κ} x vs = step (λ s. use1 𝓛 (‵ ((ShrSlice ℓ κ R).own_val x vs) ⊛ ‵ ((ShrSlice ℓ κ R).own_val x vs)) ((shr_slice_copy 𝓛 ℓ κ R).twice x vs) $ split t $ s)
+      pub shared-too : K → RowLaws R → (ℓ : Lifetime) (κ : Lft) (x : (ShrSlice ℓ κ R).Denot) (vs : List Val) → Step K 𝓛 (‵ ((ShrSlice ℓ κ R).own_val x vs) ∷ ‵ ((ShrSlice ℓ κ R).own_val x vs) ∷ Γ) G (‵ ((ShrSlice ℓ κ R).own_val x vs) ∷ Γ) G
+      shared-too t L ℓ κ x vs = step (λ s. use1 𝓛 (‵ ((ShrSlice ℓ κ R).own_val x vs) ⊛ ‵ ((ShrSlice ℓ κ R).own_val x vs)) ((shr_slice_copy 𝓛 ℓ κ R L).twice x vs) $ split t $ s)
 
     module _ {G : Goal 𝓤 H} (E : Elem) where
       pub share-new : K → Soaks G → (ℓ ℓ' : Lifetime) {κ : Lft} {q : Share} (γ : GName) (b o : ℕ) (ys : List E.R.Denot) (vs : List Val) → vs ≡ slice_val (b, o) (length ys) ∷ [] → Room E.R (length ys)
-          → ((ν : ℕ) (δ : GName) → Seq K 𝓛 (‵ ((ShrSlice ℓ' (ν ∷ []) E.R).own_val (slice E δ b o ys) vs) ∷ ‵ (flft (ν ∷ []) full_share) ∷ ‵ (LentShared E κ q γ b o ys (ν ∷ [])) ∷ Γ) G)
+          → ((ν : ℕ) → Seq K 𝓛 (‵ ((ShrSlice ℓ' (ν ∷ []) E.R).own_val (shared E b o ys) vs) ∷ ‵ (flft (ν ∷ []) full_share) ∷ ‵ (LentShared E κ q γ b o ys (ν ∷ [])) ∷ Γ) G)
           → Seq K 𝓛 (‵ ((MutSlice ℓ κ E.R).own_val (slice E γ b o ys) vs) ∷ ‵ (flft κ q) ∷ Γ) G
       share-new t z ℓ ℓ' {κ} {q} γ b o ys vs is room k =
-          subst (λ (us : List Val). Seq K 𝓛 (‵ ((MutSlice ℓ κ E.R).own_val (slice E γ b o ys) us) ∷ ‵ (flft κ q) ∷ Γ) G) (sym is) (lft_new t z (λ ν. move t (1 ∷ 2 ∷ []) $ lend-shared E t z ℓ ℓ' (ν ∷ []) γ b o ys room (λ δ. move t (0 ∷ 2 ∷ []) $
-          subst (λ (us : List Val). Seq K 𝓛 (‵ ((ShrSlice ℓ' (ν ∷ []) E.R).own_val (slice E δ b o ys) us) ∷ ‵ (flft (ν ∷ []) full_share) ∷ ‵ (LentShared E κ q γ b o ys (ν ∷ [])) ∷ Γ) G) is (k ν δ))))
+          subst (λ (us : List Val). Seq K 𝓛 (‵ ((MutSlice ℓ κ E.R).own_val (slice E γ b o ys) us) ∷ ‵ (flft κ q) ∷ Γ) G) (sym is) (lft_new t z (λ ν. move t (1 ∷ 2 ∷ []) $ lend-shared E t z ℓ ℓ' (ν ∷ []) γ b o ys room (move t (0 ∷ 2 ∷ []) $
+          subst (λ (us : List Val). Seq K 𝓛 (‵ ((ShrSlice ℓ' (ν ∷ []) E.R).own_val (shared E b o ys) us) ∷ ‵ (flft (ν ∷ []) full_share) ∷ ‵ (LentShared E κ q γ b o ys (ν ∷ [])) ∷ Γ) G) is (k ν))))
 
       pub back-share : K → Soaks G → (ℓ : Lifetime) {κ : Lft} {q : Share} {ν : ℕ} (γ : GName) (b o : ℕ) (ys : List E.R.Denot) (vs : List Val) → vs ≡ slice_val (b, o) (length ys) ∷ [] → Room E.R (length ys)
           → Step K 𝓛 (‵ ((MutSlice ℓ κ E.R).own_val (slice E γ b o ys) vs) ∷ ‵ (flft κ q) ∷ Γ) G (‵ (flft (ν ∷ []) full_share) ∷ ‵ (LentShared E κ q γ b o ys (ν ∷ [])) ∷ Γ) G

@@ -1,5 +1,5 @@
 -- Slices and plain parameters in any order, for a walk by hand. It says nothing of any crate.
---     Part, at, as-ref         a slice as a walk was lent it: where it is, whose, and its list; its machine value; and what its parameter is, at any list
+--     Part, at, as-ref, as-shared      a slice as a walk was lent it: where it is, whose, and its list; its machine value; and what its parameter is: a `&mut [T]`, at any list, and a `&[T]`
 --     part_of                  the same of a parameter
 --     mut, shr, ended          it as a `&mut [T]`, as a `&[T]`, and given up at its last list, each with its token
 --     same_at, same-room       what is said of the machine value holds of any list that is as long
@@ -42,14 +42,17 @@ module _ {R : RattleType} where
     abbrev pub at : Val
     at = slice_val (p.b, p.o) (length p.xs)
 
-    abbrev pub as-ref : List R.Denot → Bor (List R.Denot)
+    abbrev pub as-ref : List R.Denot → MutBor (List R.Denot)
     as-ref zs = ref p.γ p.b p.o zs
+
+    abbrev pub as-shared : Bor (List R.Denot)
+    as-shared = record { ref_ptr = (p.b, p.o); now = p.xs }
 
     abbrev pub mut : Lifetime → List R.Denot → Lent
     mut ℓ zs = lent p.κ p.q ((MutSlice ℓ p.κ R).own_val (as-ref zs) (at ∷ []))
 
     abbrev pub shr : Lifetime → Lent
-    shr ℓ = lent p.κ p.q ((ShrSlice ℓ p.κ R).own_val (as-ref p.xs) (at ∷ []))
+    shr ℓ = lent p.κ p.q ((ShrSlice ℓ p.κ R).own_val as-shared (at ∷ []))
 
     abbrev pub ended : List R.Denot → Lent
     ended zs = lent p.κ p.q (finally R p.γ zs)
@@ -74,7 +77,7 @@ slices (passes x ∷ ps) = slices ps
 abbrev pub owned-all : List Param → Fml
 owned-all [] = ftrue
 owned-all (lends x ∷ ps) = fsep x.own (owned-all ps)
-owned-all (passes x ∷ ps) = fsep (x.E.R.own x.d (x.E.val x.d ∷ [])) (owned-all ps)
+owned-all (passes x ∷ ps) = fsep (x.E.R.own_val x.d (x.E.val x.d ∷ [])) (owned-all ps)
 
 module _ {M : Type 1} {𝓤 : Ura M} (𝓛 : Logic 𝓤) where
   open 𝓛 use {H, A}
@@ -88,7 +91,7 @@ module _ {M : Type 1} {𝓤 : Ura M} (𝓛 : Logic 𝓤) where
       split ! $ move ! (3 ∷ 0 ∷ []) $ join ! $ frame ! $ move ! (1 ∷ 0 ∷ []) $ fjoin ! $ done !))
   gathers-all (passes x ∷ ps) =
       qed 𝓛 (raw (⋆ 𝓛 (items (slices ps))) ∷ []) ∵ use1 𝓛 (raw (alive 𝓛 (slices ps)) ⊛ ‵ (owned-all ps)) (gathers-all ps) $ split ! $ frame ! $
-      use0 𝓛 (‵ (x.E.R.own x.d (x.E.val x.d ∷ []))) (x.E.makes 𝓛 x.d (x.E.val x.d ∷ []) x.is) $ fjoin ! $ done !
+      use0 𝓛 (‵ (x.E.R.own_val x.d (x.E.val x.d ∷ []))) (x.E.makes 𝓛 x.d (x.E.val x.d ∷ []) x.is) $ fjoin ! $ done !
 
   scatters-all : (ps : List Param) → ent 𝓤 (sep 𝓤 (alive 𝓛 (slices ps)) (sem 𝓛 (owned-all ps))) (⋆ 𝓛 (items (slices ps)))
   scatters-all [] = fst∗ 𝓤 (emp 𝓤) (emp 𝓤)
@@ -99,7 +102,7 @@ module _ {M : Type 1} {𝓤 : Ura M} (𝓛 : Logic 𝓤) where
       (via 𝓤 (sep 𝓤 (sem 𝓛 x.own) (⋆ 𝓛 (‵ (flft x.κ x.q) ∷ items (slices ps)))) (mono_r 𝓤 (sem 𝓛 x.own) (push 𝓛 (‵ (flft x.κ x.q)) (items (slices ps))))
       (push 𝓛 (‵ x.own) (‵ (flft x.κ x.q) ∷ items (slices ps)))))
   scatters-all (passes x ∷ ps) =
-      qed 𝓛 (raw (alive 𝓛 (slices ps)) ∷ ‵ (fsep (x.E.R.own x.d (x.E.val x.d ∷ [])) (owned-all ps)) ∷ []) ∵ move ! (1 ∷ []) $ fsplit ! $ drop ! $ move ! (1 ∷ 0 ∷ []) $
+      qed 𝓛 (raw (alive 𝓛 (slices ps)) ∷ ‵ (fsep (x.E.R.own_val x.d (x.E.val x.d ∷ [])) (owned-all ps)) ∷ []) ∵ move ! (1 ∷ []) $ fsplit ! $ drop ! $ move ! (1 ∷ 0 ∷ []) $
       group ! 2 $ by ! (scatters-all ps)
 
   pub takes_all : {K : Type 0} {Γ : List (Item 𝓤)} {G : Goal 𝓤 H} (ps : List Param) → Step K 𝓛 (items (slices ps) ++ Γ) G (raw (alive 𝓛 (slices ps)) ∷ ‵ (owned-all ps) ∷ Γ) G
@@ -111,10 +114,10 @@ module _ {M : Type 1} {𝓤 : Ura M} {𝓛 : Logic 𝓤} {K : Type 0} where
   pub hands-all : K → (ps : List Param) → Seq K 𝓛 (items (slices ps)) (prop (sep 𝓤 (alive 𝓛 (slices ps)) (sem 𝓛 (owned-all ps))))
   hands-all t ps = record { prf = gathers-all 𝓛 ps }
 
-  pub leaves_all : K → (ps : List Param) (r : Arg) → Seq K 𝓛 (items (slices ps)) (prop (sep 𝓤 (alive 𝓛 (slices ps)) (sep 𝓤 (sem 𝓛 (owned-all ps)) (sem 𝓛 (r.E.R.own r.d (r.E.val r.d ∷ []))))))
+  pub leaves_all : K → (ps : List Param) (r : Arg) → Seq K 𝓛 (items (slices ps)) (prop (sep 𝓤 (alive 𝓛 (slices ps)) (sep 𝓤 (sem 𝓛 (owned-all ps)) (sem 𝓛 (r.E.R.own_val r.d (r.E.val r.d ∷ []))))))
   leaves_all t ps r = record {
     prf = via 𝓤 _ (gathers-all 𝓛 ps) (mono_r 𝓤 (alive 𝓛 (slices ps))
-        (qed 𝓛 (‵ (owned-all ps) ∷ []) ∵ frame ! $ use0 𝓛 (‵ (r.E.R.own r.d (r.E.val r.d ∷ []))) (r.E.makes 𝓛 r.d (r.E.val r.d ∷ []) r.is) $ done !));
+        (qed 𝓛 (‵ (owned-all ps) ∷ []) ∵ frame ! $ use0 𝓛 (‵ (r.E.R.own_val r.d (r.E.val r.d ∷ []))) (r.E.makes 𝓛 r.d (r.E.val r.d ∷ []) r.is) $ done !));
   }
 
   pub none_of : K → {Γ : List (Item 𝓤)} {G : Goal 𝓤 H} {F P : Fml} → Step K 𝓛 (‵ P ∷ Γ) G (‵ (fsep F P) ∷ Γ) G

@@ -2,7 +2,7 @@
 --     Elem             what a walk wants of an element type: one machine value, which the relation tells, what it owns is plain facts. `Handing.antt` makes it of a declared type
 --     AllIs ys         each element is what its type says. all-at, all_set      of one element, and after a store
 --     opened, closed   a `&κ mut [T]` and κ's token are opened: [the row of elements; `Open`]. It is closed at any list that is as long
---     looked, shut     the same for a `&κ [T]`: [a share of the row; `Look`]
+--     looked, shut     the same for a `&κ [T]`, `shared`, of a T that can be copied: [a share of the row; `Look`]
 --     Sees, seen       a cell is in the context, and can be put back. elem: element i of a row. part: a field of what is seen.      seen makes it `Types/Run.antt`'s `Reads`
 --     to-elem          a value is stored at element i of a row, whole (`Types/Run.antt`'s `Writes`): the row is then `set ys i y`
 -- The lemmas assume `Logic`.
@@ -14,7 +14,7 @@ use mathlib.Core.Option.{some}
 use lib.Dec.{T}
 use lib.ListN.{length, get_or, set}
 use seplogic.Ra.Ura.{Ura}
-use seplogic.Ra.TreeShare.{full_share}
+use base.Fraction.{full_share}
 use mir.Syntax.{Sym, Ty, Tys, ty_struct, Lifetime}
 use mir.Val.{Val, Vals, vstruct, WT, has_ty}
 use mir.Fields.{get_v, set_v, set_v-get_v}
@@ -23,15 +23,16 @@ use base.Fml.{Lft, GName, Share, Fml, fsep, fat, flft, fobs, fauth, fobor, froom
 use prog.Memory.{field_at}
 use types.Logic.{Logic, sem}
 use contract.Monad.{fact, fact_i, fact_use, sep→conj}
-use types.Kit.{Item, ‵, raw, ◌⊛◌, given, mean, ⋆, nth, del, put, pull, unpull, fill, Goal, Soaks, Seq, Step, step, ◌$◌, ◌∵◌, !, qed, by, move, drop, use1, use2, split, learn, rewrite, fsplit, fjoin, assume, frame}
+use types.Kit.{Item, ‵, raw, ◌⊛◌, given, mean, ⋆, nth, del, put, pull, unpull, fill, Goal, Soaks, Seq, Step, step, ◌$◌, ◌∵◌, !, qed, by, move, drop, use1, use2, split, join, learn, rewrite, fsplit, fjoin, assume, frame}
 use types.Run.{Reads, Writes}
-use types.Share.{arr_parts}
 use denote.RattleType.{RattleType}
-use denote.Shadow.{pure_i}
+use denote.Shadow.{pure_l, pure_i}
 use denote.Laws.{Is, Tells, Makes, Copy, shows, both_say}
-use denote.Memory.{mem, cell_at, part_at, part_of, shares}
-use denote.Ref.{MutBor}
-use denote.Slice.{slice_val, MutSlice, ShrSlice, Room, heres, coded_holeys, mut_slice_at, shr_slice_copy}
+use denote.Memory.{mem, cell_at, part_at, part_of}
+use denote.Ref.{Bor, MutBor}
+use denote.Copied.{Copied}
+use denote.Opens.{Shut}
+use denote.Slice.{slice_val, MutSlice, ShrSlice, Room, heres, coded_holeys, mut_slice_at, shr_slice_at}
 use denote.Lend.{Held}
 use denote.Index.{place, place_is, row, elem_out, elem_back, elem_put, opens_slice, closes_slice, looks_slice, shuts_slice}
 use denote.Steps.{owned}
@@ -44,6 +45,7 @@ pub record Elem : Type 2 where
   pub tells : Tells R (Is R) (λ d. val d ∷ [])
   pub makes : {M : Type 1} {𝓤 : Ura M} (𝓛 : Logic 𝓤) → Makes 𝓛 R (Is R)
   pub copy : {M : Type 1} {𝓤 : Ura M} (𝓛 : Logic 𝓤) → Copy 𝓛 R
+  pub copied : {M : Type 1} {𝓤 : Ura M} (𝓛 : Logic 𝓤) → Copied 𝓛 R
   pub lawful : {M : Type 1} {𝓤 : Ura M} (𝓛 : Logic 𝓤) → (d : R.Denot) → Is R d (val d ∷ []) → T (has_ty τ (val d)) × WT (val d)
 
 module _ (E : Elem) where
@@ -78,9 +80,12 @@ module _ (E : Elem) where
   abbrev pub slice : GName → ℕ → ℕ → List D → MutBor (List D)
   slice γ b o ys = record { ref_ptr = (b, o); ghost_name = γ; now = ys }
 
+  abbrev pub shared : ℕ → ℕ → List D → Bor (List D)
+  shared b o ys = record { ref_ptr = (b, o); now = ys }
+
   -- what the holder of a `&κ [T]` that is looked into has beside the share q' of the row
-  abbrev pub Look : Lifetime → Lft → Share → GName → ℕ → ℕ → List D → Share → Fml
-  Look ℓ κ q γ b o ys q' = fsep (fobor κ q ((arr_parts (shares E.R) (length ys)).part q' ys b o)) ((ShrSlice ℓ κ E.R).own_val (slice γ b o ys) (slice_val (b, o) (length ys) ∷ []))
+  abbrev pub Look : {M : Type 1} {𝓤 : Ura M} → Logic 𝓤 → Lifetime → Lft → Share → ℕ → ℕ → List D → Share → Item 𝓤
+  Look 𝓛 ℓ κ q b o ys q' = Shut 𝓛 κ q (row E.R q' ys b o) ⊛ ‵ ((ShrSlice ℓ κ E.R).own_val (shared b o ys) (slice_val (b, o) (length ys) ∷ []))
 
 module _ {M : Type 1} {𝓤 : Ura M} (𝓛 : Logic 𝓤) (E : Elem) where
   open 𝓛 use {H}
@@ -93,7 +98,7 @@ module _ {M : Type 1} {𝓤 : Ura M} (𝓛 : Logic 𝓤) (E : Elem) where
 
   one-is : (q : Share) (y : E.R.Denot) (b o : ℕ) → ent 𝓤 (sem 𝓛 (part_at E.R q y b o)) (fact 𝓤 (Is E.R y (E.val y ∷ [])))
   unfolding part_of
-  one-is q y b o = ex_e 𝓤 _ (λ vs. fact_use 𝓤 (Is E.R y vs) (via 𝓤 (sem 𝓛 (E.R.own y vs)) (snd∗ 𝓤 (sem 𝓛 (cell_at q E.R.mir vs b o)) (sem 𝓛 (E.R.own y vs))) (shows 𝓛 E.R y vs)) (λ p. fact_i 𝓤 (Is E.R y (E.val y ∷ [])) _ (subst (Is E.R y) (E.tells y vs p) p)))
+  one-is q y b o = ex_e 𝓤 _ (λ vs. fact_use 𝓤 (Is E.R y vs) (via 𝓤 (sem 𝓛 (E.R.own_val y vs)) (snd∗ 𝓤 (sem 𝓛 (cell_at q E.R.mir vs b o)) (sem 𝓛 (E.R.own_val y vs))) (shows 𝓛 E.R y vs)) (λ p. fact_i 𝓤 (Is E.R y (E.val y ∷ [])) _ (subst (Is E.R y) (E.tells y vs p) p)))
 
   -- each element is what its type says
   pub rows_are : (q : Share) (ys : List E.R.Denot) (b o : ℕ) → ent 𝓤 (sem 𝓛 (row E.R q ys b o)) (fact 𝓤 (AllIs E ys))
@@ -194,18 +199,16 @@ module _ {M : Type 1} {𝓤 : Ura M} {𝓛 : Logic 𝓤} {K : Type 0} {Γ : List
       closed t z ℓ γ b o ys zs e room = step (λ s. move t (1 ∷ []) $ fsplit t $ move t (1 ∷ []) $ fsplit t $ move t (3 ∷ 2 ∷ 0 ∷ 1 ∷ []) $ closes_slice t z E.R ys zs e b o $
           fjoin t $ pure_i t (mut_slice_at E.R (slice E γ b o zs) (slice_val (b, o) (length ys) ∷ [])) (tt, (tt, tt)) (ap (λ (m : ℕ). slice_val (b, o) m ∷ []) (sym e), subst (Room E.R) (sym e) room) $ fjoin t $ s)
 
-      pub looked : K → Soaks G → (ℓ : Lifetime) {κ : Lft} {q : Share} (γ : GName) (b o : ℕ) (ys : List E.R.Denot)
-          → ((q' : Share) → AllIs E ys → Seq K 𝓛 (‵ (row E.R q' ys b o) ∷ ‵ (Look E ℓ κ q γ b o ys q') ∷ Γ) G)
-          → Seq K 𝓛 (‵ ((ShrSlice ℓ κ E.R).own_val (slice E γ b o ys) (slice_val (b, o) (length ys) ∷ [])) ∷ ‵ (flft κ q) ∷ Γ) G
-      looked t z ℓ {κ} {q} γ b o ys k = use1 𝓛 (‵ Own ⊛ ‵ Own) ((shr_slice_copy 𝓛 ℓ κ E.R).twice (slice E γ b o ys) (slice_val (b, o) (length ys) ∷ [])) $ split t $
-          fsplit t $ drop t $ fsplit t $ drop t $ move t (0 ∷ 2 ∷ []) $
-          looks_slice t z E.R (Is E.R) (shows 𝓛 E.R) (λ y. E.val y ∷ []) E.tells (E.copy 𝓛) ys b o (λ q'.
+      pub looked : K → Soaks G → (ℓ : Lifetime) {κ : Lft} {q : Share} (b o : ℕ) (ys : List E.R.Denot)
+          → ((q' : Share) → AllIs E ys → Seq K 𝓛 (‵ (row E.R q' ys b o) ∷ Look E 𝓛 ℓ κ q b o ys q' ∷ Γ) G)
+          → Seq K 𝓛 (‵ ((ShrSlice ℓ κ E.R).own_val (shared E b o ys) (slice_val (b, o) (length ys) ∷ [])) ∷ ‵ (flft κ q) ∷ Γ) G
+      looked t z ℓ b o ys k = fsplit t $ pure_l t Says (λ p. looks_slice t z E.R (E.copied 𝓛) ys b o (λ q'.
           use1 𝓛 (given (AllIs E ys) (‵ (row E.R q' ys b o))) (fact_use 𝓤 (AllIs E ys) (rows_are 𝓛 E q' ys b o) (λ g. guard_i 𝓤 (AllIs E ys) _ g)) $ learn t (λ g.
-          move t (2 ∷ []) $ drop t $ move t (1 ∷ 2 ∷ []) $ fjoin t $ move t (1 ∷ 0 ∷ []) $ k q' g))
+          move t (2 ∷ []) $ pure_i t Says (tt, (tt, tt)) p $ fjoin t $ move t (2 ∷ 0 ∷ []) $ join t $ move t (1 ∷ 0 ∷ []) $ k q' g)))
         where
-          Own : Fml
-          Own = (ShrSlice ℓ κ E.R).own_val (slice E γ b o ys) (slice_val (b, o) (length ys) ∷ [])
+          Says : Fml
+          Says = shr_slice_at E.R (shared E b o ys) (slice_val (b, o) (length ys) ∷ [])
 
-      pub shut : K → Soaks G → (ℓ : Lifetime) {κ : Lft} {q : Share} (γ : GName) (b o : ℕ) (ys : List E.R.Denot) (q' : Share)
-          → Step K 𝓛 (‵ ((ShrSlice ℓ κ E.R).own_val (slice E γ b o ys) (slice_val (b, o) (length ys) ∷ [])) ∷ ‵ (flft κ q) ∷ Γ) G (‵ (row E.R q' ys b o) ∷ ‵ (Look E ℓ κ q γ b o ys q') ∷ Γ) G
-      shut t z ℓ γ b o ys q' = step (λ s. move t (1 ∷ []) $ fsplit t $ move t (2 ∷ 0 ∷ []) $ shuts_slice t z E.R q' ys b o $ move t (1 ∷ 0 ∷ []) $ s)
+      pub shut : K → Soaks G → (ℓ : Lifetime) {κ : Lft} {q : Share} (b o : ℕ) (ys : List E.R.Denot) (q' : Share)
+          → Step K 𝓛 (‵ ((ShrSlice ℓ κ E.R).own_val (shared E b o ys) (slice_val (b, o) (length ys) ∷ [])) ∷ ‵ (flft κ q) ∷ Γ) G (‵ (row E.R q' ys b o) ∷ Look E 𝓛 ℓ κ q b o ys q' ∷ Γ) G
+      shut t z ℓ b o ys q' = step (λ s. move t (1 ∷ []) $ split t $ move t (2 ∷ 0 ∷ []) $ shuts_slice t z E.R q' ys b o $ move t (1 ∷ 0 ∷ []) $ s)

@@ -15,7 +15,7 @@ use mathlib.Core.WellFounded.InvImage
 use lib.Dec.{T}
 use lib.WfN.{lt-wf_rel}
 use seplogic.Ra.Ura.{Ura}
-use seplogic.Ra.TreeShare.{full_share}
+use base.Fraction.{full_share}
 use mir.Syntax.{Ty, Local, local, Fn, Opd as Operand, Body, skip, seq, cond, exit, loop}
 use mir.Val.{Val, vbool}
 use base.Logic.{ent, sep, via, assoc', mono_l, mono_r}

@@ -1,0 +1,27 @@
+-- `client_table_structs::commit` meets its contract. Assumes nothing.
+use mathlib.Core.Path.{sym, ◌∙◌}
+use Prim.Native.Nat.{◌*◌}
+use native.Mathlib.Omega.{arith}
+use lib.ListN.{drop}
+use Rattle.numbers.proofs.CellLaws.{cells-next, cells-none}
+use Rattle.entries.specs.Entries.{entry_of}
+use Rattle.fees.specs.Results.{result_of}
+use Rattle.client_table.proofs.Turns.{commit-turn, commit-nothing}
+use Rattle.client_table_structs.specs.Shape.{struct_row}
+use Rattle.client_table_structs.proofs.commit.Goals as goal
+
+pub loop-k-preserved : goal.loop-k-preserved
+loop-k-preserved c =
+    let a = c.args in
+    let l = c.loop-k in (
+      omega arith,
+      l.invariant.1 ∙ commit-turn struct_row l.table _ _ _ _ _ _ _
+          (cells-next 32 entry_of a.to a.log.now l.k _ c.loop-k-test.true c.entry_in.ensures)
+          (cells-next 9 result_of a.to a.results.now l.k _ c.loop-k-test.true c.result_in.ensures) c.keep_reply.ensures,
+    )
+
+pub returns : goal.returns
+returns c =
+    let a = c.args in
+    let l = c.loop-k in
+    sym (l.invariant.1 ∙ commit-nothing struct_row l.table _ _ (cells-none 9 result_of a.to (drop (9 * l.k) a.results.now) l.k c.loop-k-test.false))
