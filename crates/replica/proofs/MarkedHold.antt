@@ -76,6 +76,8 @@ played-so : (u : Setup) (m : State) (s : Replica) (x : Lent) (applied : List Ent
     → meaning_of s x applied ≡ m → Kept s x applied → Played s x es ds → each heard ds ≡ each heard_in (seen u m es)
 unfolding each seen
 played-so u m s x applied [] [] p q k (none _ _) = refl
+played-so u m s x applied [] (d ∷ ds) p q k y = elim y [ ]
+played-so u m s x applied (e ∷ es) [] p q k y = elim y [ ]
 played-so u m s x applied (e ∷ es) (d ∷ ds) p q k (more _ _ _ _ _ _ y o c h l) =
     let a = answer s.setup (meaning_of s x applied) e in
     let w = answered e s x applied d o k c in
@@ -97,6 +99,8 @@ Ends e = (k : ℕ) → create e.setup ≡ refused k → e.calls ≡ []
 none_then : (s : Replica) (x : Lent) (es : List Event) (ds : List Called) → es ≡ [] → Played s x es ds → each heard ds ≡ []
 unfolding each
 none_then s x [] [] p (none _ _) = refl
+none_then s x [] (d ∷ ds) p l = elim l [ ]
+none_then s x (e ∷ es) [] p l = elim l [ ]
 none_then s x (e ∷ es) (d ∷ ds) p l = cc
 
 applied_in : Answer → List Entry

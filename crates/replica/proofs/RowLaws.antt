@@ -86,7 +86,7 @@ put-fits xs r g f =
 appended-fits : (xs : List MarkedRow) (es : List Entry) → All EntryFits es → Fit xs → Fit (appended byte_row xs es)
 unfolding appended
 appended-fits xs [] g f = f
-appended-fits xs (e ∷ es) g f = appended-fits _ es g.1 (put-fits xs (fresh_of e) (fresh-fits e g.0) f)
+appended-fits xs (e ∷ es) g f = appended-fits (put_row byte_row xs (byte_row.fresh e)) es g.1 (put-fits xs (fresh_of e) (fresh-fits e g.0) f)
 
 replied-fits : (xs : List MarkedRow) (e : Entry) (o : Outcome) → EntryFits e → ResultFits o → Fit xs → Fit (replied byte_row xs e o)
 unfolding replied
@@ -98,15 +98,15 @@ committed-fits : (xs : List MarkedRow) (es : List Entry) (os : List Outcome) →
 unfolding rows_committed
 committed-fits xs [] os g k f = f
 committed-fits xs (e ∷ es) [] g k f = f
-committed-fits xs (e ∷ es) (o ∷ os) g k f = committed-fits _ es os g.1 k.1 (replied-fits xs e o g.0 k.0 f)
+committed-fits xs (e ∷ es) (o ∷ os) g k f = committed-fits (replied byte_row xs e o) es os g.1 k.1 (replied-fits xs e o g.0 k.0 f)
 
 rebuilt-fits : (new : List MarkedRow) (es : List Entry) (os : List Outcome) → All EntryFits es → All ResultFits os → Fit new
     → Fit (rebuilt byte_row new es os)
 unfolding rebuilt
 rebuilt-fits new [] os g k f = f
-rebuilt-fits new (e ∷ es) [] g k f = rebuilt-fits _ es [] g.1 k (put-fits new _ (fresh-fits e g.0) f)
+rebuilt-fits new (e ∷ es) [] g k f = rebuilt-fits (put_row byte_row new (byte_row.fresh e)) es [] g.1 k (put-fits new _ (fresh-fits e g.0) f)
 rebuilt-fits new (e ∷ es) (o ∷ os) g k f =
-    rebuilt-fits _ es os g.1 k.1 (put-fits new _ (row-of e o.code o.total g.0 k.0.code k.0.total) f)
+    rebuilt-fits (put_row byte_row new (byte_row.answered e o)) es os g.1 k.1 (put-fits new _ (row-of e o.code o.total g.0 k.0.code k.0.total) f)
 
 blank-fits : (n : ℕ) → Fit (replicate n no_row)
 blank-fits zero = tt
