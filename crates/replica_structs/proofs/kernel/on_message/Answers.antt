@@ -17,8 +17,7 @@ returns-in-Refused c =
 pub returns-in-Passed : goal.returns-in-Passed
 returns-in-Passed c =
     let a = c.args in
-    let g = c.in-Passed.is in
-    (
+    let g = c.in-Passed.is in (
       taken a.c a.s a.latest a.frame.now (memory a.log.now a.results.now a.totals.now a.acks.now a.stored.now a.out.now a.reps.now) _ g c.told.result c.told.ensures c.on_message.ensures,
       sym (ap checked_offset g),
     )
