@@ -5,9 +5,6 @@ use Rattle.book.specs.Memory.{memory}
 use Rattle.replica_structs.proofs.CoreLaws.{malformed, taken}
 use Rattle.replica_structs.proofs.kernel.on_message.Goals as goal
 
-pub on_message-requires : goal.on_message-requires
-on_message-requires c = c.requires _ c.in-Passed.is
-
 pub returns-in-Refused : goal.returns-in-Refused
 returns-in-Refused c =
     let a = c.args in
