@@ -44,7 +44,7 @@ use Rattle.replica.specs.Lent.{Lent, Called, called}
 use Rattle.replica.specs.Meaning.{meaning_of, Owned}
 use Rattle.replica.proofs.RowLaws.{results_fit}
 use Rattle.replica.proofs.TableLaws.{refused-follows, done-follows}
-use Rattle.replica.proofs.KeptLaws.{given, rows, whole, reached-settled}
+use Rattle.replica.proofs.KeptLaws.{given, whole, reached-settled}
 use Rattle.replica_structs.specs.Core.{no_change, change_after}
 use Rattle.replica_structs.specs.Calls.{LentRows, CalledRows, called_rows, rows_after, following_rows}
 use Rattle.replica_structs.specs.Promise.{byte_of, table_bytes, in_bytes, called_bytes, RowsOk, KeptRows}

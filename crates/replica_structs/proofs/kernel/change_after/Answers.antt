@@ -5,9 +5,9 @@ use Rattle.numbers.specs.Words.{if◌then◌else◌}
 use Rattle.replica_structs.specs.Core.{change_after}
 use Rattle.replica_structs.proofs.kernel.change_after.Goals as goal
 
-pub returns-then-a : goal.returns-then-a
+pub returns-then-a-ne0 : goal.returns-then-a-ne0
 unfolding change_after if◌then◌else◌
-returns-then-a c = search (tests, rules)
+returns-then-a-ne0 c = search (tests, rules)
 
 pub returns : goal.returns
 unfolding change_after if◌then◌else◌

@@ -5,9 +5,9 @@ use Rattle.numbers.specs.Words.{if◌then◌else◌}
 use Rattle.replica_structs.specs.Core.{row_bytes}
 use Rattle.replica_structs.proofs.kernel.in_bytes.Goals as goal
 
-pub returns-then-rows : goal.returns-then-rows
+pub returns-then-rows-gt4096 : goal.returns-then-rows-gt4096
 unfolding row_bytes if◌then◌else◌
-returns-then-rows c = search (tests, rules)
+returns-then-rows-gt4096 c = search (tests, rules)
 
 pub returns : goal.returns
 unfolding row_bytes if◌then◌else◌
