@@ -1,7 +1,7 @@
 -- Document 01, the client. `on_request` replaces the pending request; `on_idle` sends it to every replica; `on_reply` raises the view even when the
 -- number doesn't match. A client call is refused by 1 (n is not 3 to 7), 2 (operation or cents outside the entry rules), 11 (the next request
 -- number is 2^64-1; for requests only), 9 (the frames don't fit the area), in this order; record and area then stay as they were. Assumes nothing.
-use Rattle.std.specs.Prelude.{◌≡◌, Bool, true, false, not, List, [], ◌++◌, ℕ, zero, suc, ◌+◌, eqb, ltb, length}
+use Rattle.std.specs.Prelude.{◌≡◌, Bool, false, not, List, [], ◌++◌, ℕ, zero, suc, ◌+◌, eqb, ltb, length}
 use Rattle.numbers.specs.Words.{if◌then◌else◌}
 use Rattle.numbers.specs.Numbers.{over}
 use Rattle.numbers.specs.declared.View.{View}
@@ -16,7 +16,6 @@ use Rattle.client.specs.declared.Client.{Client}
 use Rattle.client.specs.declared.AfterCreate.{AfterCreate}
 use Rattle.client.specs.declared.RequestSent.{RequestSent}
 use Rattle.client.specs.declared.AfterRequest.{AfterRequest}
-use Rattle.client.specs.declared.Heard.{Heard}
 use Rattle.client.specs.declared.AfterReply.{AfterReply}
 use Rattle.client.specs.declared.Resent.{Resent}
 

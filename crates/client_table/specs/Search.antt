@@ -1,6 +1,6 @@
 -- A search by halves, as it is done on any rows: where they rise and unused ones stand last, it finds the first row that isn't before the goal.
 -- Assumes nothing.
-use Rattle.std.specs.Prelude.{Bool, true, false, ℕ, ◌+◌, ◌-◌, ◌/◌, ltb}
+use Rattle.std.specs.Prelude.{Bool, ℕ, ◌+◌, ◌-◌, ◌/◌, ltb}
 use Rattle.numbers.specs.Words.{if◌then◌else◌, ◌and◌}
 use Rattle.client_table.specs.declared.Span.{Span}
 use Rattle.client_table.specs.declared.Goal.{Goal}

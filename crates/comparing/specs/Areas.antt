@@ -1,5 +1,5 @@
 -- The lent runs, kept one behind the other in one array with room for n = 7, L = 8 and M = 8, and what a call has to leave alone. Assumes nothing.
-use Rattle.std.specs.Prelude.{ℕ, ◌+◌, ◌-◌, Bool, true, false, leb, List, [], ◌∷◌, length, take, drop, replicate, nat_eq, nat_le}
+use Rattle.std.specs.Prelude.{ℕ, ◌+◌, ◌-◌, Bool, true, leb, List, [], ◌∷◌, length, take, drop, replicate, nat_eq, nat_le}
 use Rattle.numbers.specs.Words.{if◌then◌else◌, ◌and◌}
 use Rattle.numbers.specs.Numbers.{over, put_at}
 

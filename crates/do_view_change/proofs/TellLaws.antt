@@ -4,13 +4,13 @@
 --     moved-gathers, moved_told, report-told                           what record_frame asks
 --     too-old, not_ours, moves, tells-view, gathers                    each way out of on_do_view_change
 -- Assumes nothing.
-use mathlib.Core.Path.{◌≡◌, refl, sym, ap, ◌∙◌, subst}
+use mathlib.Core.Path.{◌≡◌, sym, ap, ◌∙◌, subst}
 use mathlib.Core.Bool.{Bool, true, false, not}
 use mathlib.Core.List.{List, ◌++◌}
-use Prim.Native.Nat.{ℕ, zero, suc, ◌+◌, ◌-◌, ◌*◌, ◌≤◌, ◌<◌}
+use Prim.Native.Nat.{ℕ, ◌+◌, ◌-◌, ◌*◌, ◌≤◌, ◌<◌}
 use native.Mathlib.Omega.{arith}
 use lib.Dec.{eqb}
-use lib.ListN.{length, take, drop, replicate, length-take, length-drop}
+use lib.ListN.{length, take, drop, length-take, length-drop}
 use lib.Seq.{length-take-le}
 use borrow.Author.Tests.{lt-ltb, le-ltb, eq-eqb, ne_eqb}
 use Rattle.numbers.specs.Words.{if◌then◌else◌}
@@ -25,14 +25,14 @@ use Rattle.frames.specs.declared.Message.TheVariants.{DoViewChange}
 use Rattle.writers.specs.Writers.{encode, size_of, length_of}
 use Rattle.writers.proofs.WriterLaws.{encode-length}
 use Rattle.state.specs.State.{leads, changing_to}
-use Rattle.state.specs.Statuses.{no_report, is_normal}
+use Rattle.state.specs.Statuses.{is_normal}
 use Rattle.state.specs.Answers.{refusal, completed, quiet}
 use Rattle.state.specs.declared.Returned.{Returned}
 use Rattle.state.specs.declared.Replica.{Replica}
 use Rattle.state.specs.declared.Report.{Report}
 use Rattle.state.proofs.SoundLaws.{none-gathered}
 use Rattle.steps.specs.Steps.{spoke}
-use Rattle.book.specs.Memory.{runs, Memory}
+use Rattle.book.specs.Memory.{Memory}
 use Rattle.view_change.specs.StartView.{LogHeld, sent_start_view}
 use Rattle.do_view_change.specs.Begin.{calls_first, first_length}
 use Rattle.steps.specs.Recorded.{Recorded, recorded, only_sent, Gathering}

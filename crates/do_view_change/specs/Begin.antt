@@ -1,11 +1,10 @@
 -- The end of record_do_view_change, after install_log, on the state by value and the bytes of the lent runs: commits up to the greatest commit
 -- number with a reply to each, enter_normal, acks anew, StartView to all others. Assumes nothing.
-use Rattle.std.specs.Prelude.{◌≡◌, Bool, true, List, [], ◌++◌, ℕ, ◌+◌, ◌-◌, ◌*◌, ◌≤◌, length, take, replicate}
+use Rattle.std.specs.Prelude.{Bool, true, List, [], ◌++◌, ℕ, ◌+◌, ◌-◌, ◌*◌, take, replicate}
 use Rattle.numbers.specs.Words.{if◌then◌else◌}
 use Rattle.numbers.specs.Numbers.{over}
 use Rattle.numbers.specs.declared.Op.{Op}
 use Rattle.entries.specs.Places.{ack_place}
-use Rattle.config.specs.Setup.{setup_ok}
 use Rattle.config.specs.Replicas.{with_member}
 use Rattle.frames.specs.declared.Message.TheVariants.{StartView}
 use Rattle.writers.specs.Writers.{to_others}

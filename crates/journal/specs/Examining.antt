@@ -1,6 +1,6 @@
 -- Document 02, which frame of a journal is bad: one that is cut short; one whose length, version or entry is wrong; op numbers that don't run 1, 2, 3
 -- to at most 4,096; an outcome or a total that the fee rules don't give. A file is examined frame by frame up to its first bad one. Assumes nothing.
-use Rattle.std.specs.Prelude.{Bool, not, List, ℕ, zero, suc, eqb, ltb, length, drop}
+use Rattle.std.specs.Prelude.{not, List, ℕ, zero, suc, eqb, ltb, length, drop}
 use Rattle.numbers.specs.Words.{if◌then◌else◌}
 use Rattle.numbers.specs.Numbers.{num}
 use Rattle.entries.specs.Entries.{entry_ok}

@@ -7,7 +7,6 @@ use Prim.Native.Nat.{ℕ, ◌+◌}
 use lib.Dec.{ltb, leb}
 use Rattle.numbers.specs.Words.{if◌then◌else◌, ◌and◌}
 use Rattle.entries.specs.declared.Entry.{Entry}
-use Rattle.fees.specs.declared.Outcome.{Outcome}
 use Rattle.frames.specs.Numbered.{Numbered, numbered}
 use Rattle.client_table.specs.Latest.{is_new}
 use Rattle.client_table.specs.declared.Latest.{Latest}

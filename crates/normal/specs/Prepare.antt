@@ -1,5 +1,5 @@
 -- on_prepare, on the state by value and the bytes of the lent runs; the client's row is handed in by value. Assumes nothing.
-use Rattle.std.specs.Prelude.{Bool, false, not, List, ℕ, ◌+◌, min, ltb, leb, length}
+use Rattle.std.specs.Prelude.{false, not, List, ℕ, ◌+◌, min, ltb, leb, length}
 use Rattle.numbers.specs.Words.{if◌then◌else◌}
 use Rattle.numbers.specs.declared.View.{View}
 use Rattle.numbers.specs.declared.Op.{Op}

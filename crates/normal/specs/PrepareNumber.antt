@@ -1,6 +1,6 @@
 -- What a Prepare calls for, as number and values: refusals 4 and 6 have none; else the number is 0, with 1 or 0 for whether it starts a state transfer, and for
 -- whether it is appended; a re-sent one is neither. Assumes nothing.
-use Rattle.std.specs.Prelude.{◌≡◌, not, [], ◌∷◌, ℕ, ◌+◌, ltb, leb}
+use Rattle.std.specs.Prelude.{◌≡◌, not, [], ◌∷◌, ◌+◌, ltb, leb}
 use Rattle.numbers.specs.Words.{if◌then◌else◌}
 use Rattle.frames.specs.Numbered.{Numbered, numbered}
 use Rattle.client_table.specs.Latest.{is_new}

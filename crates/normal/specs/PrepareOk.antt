@@ -1,7 +1,7 @@
 -- on_prepare_ok, on the state by value and the bytes of the lent runs: an ack fires only when the count reaches the quorum exactly. Refusal 5
 -- where the Rust panics: acks aren't cleared when a NewState is installed, so that a row may stand above the log. Assumes nothing.
 use Rattle.std.specs.Prelude.{Bool, false, not, List, ℕ, ◌-◌, ◌*◌, ltb, eqb, length, get_or, set, replicate}
-use Rattle.numbers.specs.Words.{if◌then◌else◌, ◌and◌}
+use Rattle.numbers.specs.Words.{if◌then◌else◌}
 use Rattle.numbers.specs.Numbers.{over}
 use Rattle.numbers.specs.declared.View.{View}
 use Rattle.numbers.specs.declared.Op.{Op}

@@ -1,6 +1,6 @@
 -- on_request, on the state by value and the bytes of the lent runs; what the table holds of the client is handed in by value. A new number
 -- rises by the table alone, so that refusal 6 has no test here. Assumes nothing.
-use Rattle.std.specs.Prelude.{◌≡◌, Bool, true, false, not, List, [], ℕ, ◌+◌, ◌-◌, ◌*◌, ◌≤◌, ltb, leb, length, set}
+use Rattle.std.specs.Prelude.{◌≡◌, true, false, not, List, [], ℕ, ◌+◌, ◌-◌, ◌*◌, ◌≤◌, ltb, leb, length, set}
 use Rattle.numbers.specs.Words.{if◌then◌else◌}
 use Rattle.numbers.specs.Numbers.{over}
 use Rattle.numbers.specs.declared.Op.{Op}

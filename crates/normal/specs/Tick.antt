@@ -8,7 +8,6 @@ use Rattle.config.specs.Setup.{setup_ok}
 use Rattle.clock.specs.Clock.{tick_of}
 use Rattle.clock.specs.declared.Clock.{Clock}
 use Rattle.clock.specs.declared.Duty.TheVariants.{Lead}
-use Rattle.frames.specs.declared.Message.{Message}
 use Rattle.frames.specs.declared.Message.TheVariants.{Prepare, Commit}
 use Rattle.writers.specs.Writers.{to_others}
 use Rattle.state.specs.State.{with_clock}

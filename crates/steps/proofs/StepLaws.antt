@@ -1,12 +1,11 @@
 -- The ways out of each step, on plain variables, as the code's tests and calls give them. Assumes nothing.
-use mathlib.Core.Path.{◌≡◌, refl, sym, ap, ◌∙◌}
+use mathlib.Core.Path.{◌≡◌, refl, sym, ◌∙◌}
 use mathlib.Core.Bool.{Bool, true, false, not}
 use mathlib.Core.List.{List, []}
 use Prim.Native.Nat.{ℕ, ◌+◌, ◌-◌, ◌*◌, max, ◌≤◌, ◌<◌}
 use native.Mathlib.Omega.{arith}
-use lib.Dec.{ltb}
 use lib.ListN.{length}
-use borrow.Author.Tests.{lt-ltb, le-ltb, not-true, not-false}
+use borrow.Author.Tests.{lt-ltb, le-ltb}
 use Rattle.numbers.specs.Words.{if◌then◌else◌}
 use Rattle.numbers.specs.Numbers.{big, over, Wrote}
 use Rattle.numbers.specs.declared.View.{View}
@@ -18,14 +17,14 @@ use Rattle.config.proofs.SetupLaws.{sized}
 use Rattle.frames.specs.declared.Message.TheVariants.{PrepareOk, GetState}
 use Rattle.writers.specs.Writers.{header, encode}
 use Rattle.book.specs.Runs.{money_committed, takings_committed}
-use Rattle.book.specs.Memory.{Money, money, Runs, runs}
+use Rattle.book.specs.Memory.{money, Runs, runs}
 use Rattle.state.specs.State.{leads, with_commit}
 use Rattle.state.specs.Statuses.{is_normal, is_changing}
 use Rattle.state.specs.Answers.{refusal, completed}
 use Rattle.state.specs.declared.Returned.{Returned}
 use Rattle.state.specs.declared.Replica.{Replica}
 use Rattle.steps.specs.declared.Accept.{Accept}
-use Rattle.steps.specs.declared.Accept.TheVariants.{Ignore, Hear, Join, Rejoin, Take}
+use Rattle.steps.specs.declared.Accept.TheVariants.{Ignore, Hear, Join, Take}
 use Rattle.steps.specs.Steps.{Sound, spoke, left, accept_changing, accept_of, committed_to, settled, asked_for_state, prepare_ok_of, committed_and_acked}
 
 -- accept_from_primary

@@ -6,12 +6,12 @@
 --     accept-shown      accept_from_primary, with what is done where the message is taken
 --     ack-shown         commit_up_to, and then send_prepare_ok
 -- Assumes nothing.
-use Prim.Native.Nat.{ℕ, zero, suc, ◌+◌, ◌-◌, max, ◌≤◌, ◌<◌}
+use Prim.Native.Nat.{ℕ, zero, suc, ◌≤◌, ◌<◌}
 use native.Mathlib.Nat.{zero-sub}
 use native.Mathlib.Omega.{arith}
 use mathlib.Core.Path.{◌≡◌, refl, sym, ap, ◌∙◌, subst}
 use mathlib.Core.Bool.{Bool, true, false, not, false≢true}
-use mathlib.Core.List.{List, [], ◌∷◌, ◌++◌, append-nil}
+use mathlib.Core.List.{List, [], ◌∷◌, append-nil}
 use mathlib.Core.Option.{Option, none}
 use lib.Dec.{ltb}
 use lib.ListN.{length, take, replicate}
@@ -43,7 +43,7 @@ use Rattle.book.specs.Memory.{runs}
 use Rattle.steps.proofs.StepLaws.{older, newer, changing, absent, leading, follows}
 use Rattle.steps.specs.declared.Accept.{Accept}
 use Rattle.steps.specs.declared.Accept.TheVariants.{Ignore, Hear, Join, Rejoin, Take}
-use Rattle.model.specs.State.{view_of, ClientEntry, Book, State, Sent, Reply, Answer, ignored, set_clock}
+use Rattle.model.specs.State.{view_of, ClientEntry, Book, State, Sent, Answer, ignored, set_clock}
 use Rattle.model.specs.State.Answer.{refused, done}
 use Rattle.model.specs.Sending.{sent_bytes, messages_out, replies_out, send, primary, is_primary, to_primary, send_get_state}
 use Rattle.model.specs.Book.{append_all, commit_all, due_entries, commit_up_to}

@@ -1,7 +1,7 @@
 -- What several handlers share, on the state by value and the bytes of the lent runs: accept_from_primary, commit_up_to, send_get_state,
 -- catch_up_with_view, state_transfer, send_prepare_ok. Refusal 9 leaves state, runs and area as they were. Assumes nothing.
 use Rattle.std.specs.Prelude.{◌≡◌, Bool, true, false, not, List, [], ℕ, ◌-◌, max, ◌≤◌, ltb, length}
-use Rattle.numbers.specs.Words.{if◌then◌else◌, ◌and◌}
+use Rattle.numbers.specs.Words.{if◌then◌else◌}
 use Rattle.numbers.specs.Numbers.{over}
 use Rattle.numbers.specs.declared.View.{View}
 use Rattle.numbers.specs.declared.Op.{Op}
@@ -10,7 +10,7 @@ use Rattle.frames.specs.declared.Message.TheVariants.{PrepareOk, GetState}
 use Rattle.frames.specs.declared.Status.TheVariants.{StateTransfer}
 use Rattle.writers.specs.Writers.{encode}
 use Rattle.book.specs.Runs.{money_committed, takings_committed}
-use Rattle.book.specs.Memory.{money, Runs, runs}
+use Rattle.book.specs.Memory.{Runs}
 use Rattle.state.specs.State.{leads, heard_by, with_status, with_commit, catching_up_in}
 use Rattle.state.specs.Statuses.{is_normal, is_changing}
 use Rattle.state.specs.Answers.{refusal, completed, quiet}

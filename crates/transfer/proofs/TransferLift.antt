@@ -52,7 +52,7 @@ use Rattle.model.specs.Book.{append_all, commit_up_to, install}
 use Rattle.model.specs.Sending.{messages_out, to_primary, send_prepare_ok, send_get_state, send_new_state}
 use Rattle.model.specs.Normal.{heard_from_primary, committed, filled_gap, committed_then, on_get_state, fill_gap, caught_up, catch_up, on_new_state}
 use Rattle.model.specs.ViewChange.{no_reports, cleared_store, enter_normal}
-use Rattle.layout.specs.Layout.{LentRuns, store_of, book_of, model_of}
+use Rattle.layout.specs.Layout.{store_of, book_of, model_of}
 use Rattle.model.specs.Steps.{fitted, follow_tick}
 use Rattle.layout.specs.Shown.{Given, Grew, Shown}
 use Rattle.layout.specs.Shown.Grew.{more, anew}

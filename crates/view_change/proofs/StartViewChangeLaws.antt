@@ -1,12 +1,12 @@
 -- The ways out of start_view_change, on plain variables. Assumes nothing.
 use mathlib.Core.Path.{◌≡◌, refl}
 use mathlib.Core.Bool.{true, false}
-use mathlib.Core.List.{List, []}
+use mathlib.Core.List.{List}
 use Prim.Native.Nat.{ℕ, ◌-◌, ◌*◌, ◌≤◌, ◌<◌}
 use lib.ListN.{length}
 use borrow.Author.Tests.{lt-ltb, le-ltb}
 use Rattle.numbers.specs.Words.{if◌then◌else◌}
-use Rattle.numbers.specs.Numbers.{over, Wrote}
+use Rattle.numbers.specs.Numbers.{Wrote}
 use Rattle.numbers.specs.declared.View.{View}
 use Rattle.config.specs.Setup.{setup_ok}
 use Rattle.frames.specs.declared.Message.TheVariants.{StartViewChange}

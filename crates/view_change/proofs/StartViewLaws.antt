@@ -1,5 +1,5 @@
 -- The ways out of send_start_view and on_start_view, on plain variables, as the code's tests and calls give them. Assumes nothing.
-use mathlib.Core.Path.{◌≡◌, refl, sym, ap, ◌∙◌, subst}
+use mathlib.Core.Path.{◌≡◌, sym, ap, ◌∙◌, subst}
 use mathlib.Core.Bool.{Bool, true, false, not}
 use mathlib.Core.List.{List}
 use Prim.Native.Nat.{ℕ, ◌+◌, ◌*◌, ◌≤◌, ◌<◌}
@@ -7,7 +7,7 @@ use native.Mathlib.Omega.{arith}
 use lib.Dec.{ltb}
 use lib.ListN.{length, take, replicate}
 use lib.Seq.{length-take-le}
-use borrow.Author.Tests.{lt-ltb, le-ltb, leb-true}
+use borrow.Author.Tests.{lt-ltb, le-ltb}
 use Rattle.numbers.specs.Words.{if◌then◌else◌}
 use Rattle.numbers.specs.Numbers.{over, Wrote}
 use Rattle.numbers.proofs.WordLaws.{split}
@@ -24,7 +24,6 @@ use Rattle.book.proofs.LogLaws.{with-length, keeps-prefix}
 use Rattle.state.specs.State.{with_log, normal_in}
 use Rattle.state.specs.Statuses.{is_changing}
 use Rattle.state.specs.Answers.{refusal, completed, quiet}
-use Rattle.state.specs.Lengths.{acks_length}
 use Rattle.state.specs.declared.Returned.{Returned}
 use Rattle.state.specs.declared.Replica.{Replica}
 use Rattle.steps.specs.Steps.{Sound, left, spoke, committed_and_acked}

@@ -1,6 +1,6 @@
 -- send_start_view and on_start_view, on the state by value and the bytes of the lent runs. A StartView of our own view is new only while we are
 -- changing to it. Refusal 7 where it would shorten or alter our committed entries. PrepareOk then goes out always. Assumes nothing.
-use Rattle.std.specs.Prelude.{◌≡◌, Bool, true, false, not, List, ℕ, ◌+◌, ◌*◌, ◌≤◌, ltb, length, take, replicate}
+use Rattle.std.specs.Prelude.{◌≡◌, true, false, not, List, ℕ, ◌+◌, ◌*◌, ◌≤◌, ltb, length, take, replicate}
 use Rattle.numbers.specs.Words.{if◌then◌else◌}
 use Rattle.numbers.specs.Numbers.{over}
 use Rattle.numbers.specs.declared.View.{View}
