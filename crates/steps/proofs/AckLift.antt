@@ -12,7 +12,7 @@ use mathlib.Core.List.{List, []}
 use lib.Dec.{ltb}
 use lib.ListN.{length}
 use borrow.Author.Tests.{le-ltb}
-use Rattle.numbers.specs.Words.{if◌then◌else◌}
+use Rattle.numbers.specs.Words.{when◌then◌else◌}
 use Rattle.numbers.specs.Numbers.{over, Bytes}
 use Rattle.numbers.specs.declared.Op.{Op}
 use Rattle.numbers.proofs.WordLaws.{if-false, split₂}
@@ -108,7 +108,7 @@ module _ (c : Given) (t : Replica) (x : Memory.Runs) (table : List ClientEntry) 
   -- The step, where nothing was stored before it but what refusal 9 leaves alone.
   abbrev pub acknowledged : Left
   acknowledged =
-      if ltb (length c.out) 16 then left (refusal 9 c.state) (book_runs c.runs) c.out else committed_and_acked c.state t k installed x c.out
+      when ltb (length c.out) 16 then left (refusal 9 c.state) (book_runs c.runs) c.out else committed_and_acked c.state t k installed x c.out
 
   pub ack-shown : Grew b installed (commit_up_to before.book k.0)
       → Shown c (of_left c acknowledged) b (fitted (length c.out) (length c.reps) (done next (send_prepare_ok c.state.setup next) []))
