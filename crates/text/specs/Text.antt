@@ -1,5 +1,5 @@
 -- What is said, byte for byte.
-use Rattle.std.specs.Prelude.{ℕ, ◌/◌, ◌%◌, true, List, [], ◌∷◌, ◌++◌, codes, ◌==◌, when◌then◌else◌}
+use Rattle.std.specs.Prelude.{ℕ, ◌/◌, ◌%◌, true, List, [], ◌∷◌, ◌++◌, codes, ◌==◌, if◌then◌else◌}
 use Rattle.std.specs.List.{flat_map}
 use Rattle.std.specs.Fmt.{decimal, digit_glyph}
 
@@ -14,18 +14,18 @@ spaced_pairs s = flat_map (λ b. 32 ∷ hex_pair b) s
 -- document 01's name of a kind
 abbrev pub name_of_kind : ℕ → List ℕ
 name_of_kind k =
-    when k == 1 then codes "Request" else (
-    when k == 2 then codes "Prepare" else (
-    when k == 3 then codes "PrepareOk" else (
-    when k == 4 then codes "Commit" else (
-    when k == 5 then codes "GetState" else (
-    when k == 6 then codes "NewState" else (
-    when k == 7 then codes "StartViewChange" else (
-    when k == 8 then codes "DoViewChange" else (
-    when k == 9 then codes "StartView" else (
-    when k == 10 then codes "Recovery" else (
-    when k == 11 then codes "RecoveryResponse" else (
-    when k == 12 then codes "Reply" else codes "no kind")))))))))))
+    if k == 1 then codes "Request" else (
+    if k == 2 then codes "Prepare" else (
+    if k == 3 then codes "PrepareOk" else (
+    if k == 4 then codes "Commit" else (
+    if k == 5 then codes "GetState" else (
+    if k == 6 then codes "NewState" else (
+    if k == 7 then codes "StartViewChange" else (
+    if k == 8 then codes "DoViewChange" else (
+    if k == 9 then codes "StartView" else (
+    if k == 10 then codes "Recovery" else (
+    if k == 11 then codes "RecoveryResponse" else (
+    if k == 12 then codes "Reply" else codes "no kind")))))))))))
 
 -- a kind's number and name
 abbrev pub kind_text : ℕ → List ℕ
