@@ -7,7 +7,7 @@ use Rattle.config.specs.declared.Setup.{Setup}
 use Rattle.state.specs.declared.Returned.{Returned}
 use Rattle.state.specs.declared.Replica.{Replica}
 use Rattle.replica.specs.Calls.{message_call, idle_call, create_call, recover_call}
-use Rattle.replica.specs.Lent.{Lent, Called, lent_before, lent_after}
+use Rattle.replica.specs.Lent.{Lent, Called}
 use Rattle.outside.specs.Takings.{taken, takings_call}
 use Rattle.outside.specs.declared.takings.Taken.{Taken}
 use Rattle.replica.specs.Promise.{MessagePromise, IdlePromise, CreatePromise, RecoverPromise, TakingsPromise}
