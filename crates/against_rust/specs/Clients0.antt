@@ -2,7 +2,7 @@
 use Rattle.std.specs.Prelude.{[], ◌∷◌, ◌++◌}
 use Rattle.against_rust.specs.Shape.{hex}
 use Rattle.against_rust.specs.ClientShape.{Run, saw, run}
-use Rattle.against_rust.specs.ClientShape.Start.{made, set}
+use Rattle.against_rust.specs.ClientShape.Start.{made}
 use Rattle.against_rust.specs.ClientShape.Line.{request, reply, idle}
 
 unfoldable pub client0 : Run

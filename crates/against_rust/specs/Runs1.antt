@@ -1,6 +1,6 @@
 -- Recorded runs: schedules.trace, client.trace, by tools/model-replay. Assumes nothing.
 use Rattle.std.specs.Prelude.{[], ◌∷◌, ◌++◌}
-use Rattle.against_rust.specs.Shape.{Run, hex, saw_all, saw_sum, saw, run}
+use Rattle.against_rust.specs.Shape.{Run, hex, saw_all, run}
 use Rattle.against_rust.specs.Shape.Start.{new, back}
 use Rattle.against_rust.specs.Shape.Line.{frame, tick}
 

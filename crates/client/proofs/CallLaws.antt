@@ -13,7 +13,7 @@ use native.Mathlib.Omega.{arith}
 use lib.Dec.{eqb, ltb}
 use lib.ListN.{length}
 use borrow.Author.Tests.{eqb-true, ltb-true, ltb-false, le-ltb}
-use Rattle.numbers.specs.Words.{if◌then◌else◌, ◌and◌}
+use Rattle.numbers.specs.Words.{when◌then◌else◌, ◌and◌}
 use Rattle.numbers.specs.Numbers.{within}
 use Rattle.numbers.specs.declared.View.{View}
 use Rattle.numbers.proofs.WordLaws.{split, if-true, if-false}
@@ -50,11 +50,11 @@ module _ (c : Client) (number : ℕ) (view : View) where
   unfolding replied_of
   replied-keeps h = if-false (replicas_ok c.n) (heard_reply c number view) _ h
 
-  pub replied-refusal : (replied_of c number view).answer.refusal ≡ (if replicas_ok c.n then 0 else 1)
-  unfolding replied_of if◌then◌else◌
+  pub replied-refusal : (replied_of c number view).answer.refusal ≡ (when replicas_ok c.n then 0 else 1)
+  unfolding replied_of when◌then◌else◌
   replied-refusal = go (replicas_ok c.n)
     where
-      go : (b : Bool) → (if b then heard_reply c number view else record { client = c; answer = record { refusal = 1; done = false } }).answer.refusal ≡ (if b then 0 else 1)
+      go : (b : Bool) → (when b then heard_reply c number view else record { client = c; answer = record { refusal = 1; done = false } }).answer.refusal ≡ (when b then 0 else 1)
       go true = refl
       go false = refl
 
@@ -82,7 +82,7 @@ module _ (c : Client) where
 
   -- nothing is pending, so any area does
   free : (room : ℕ) → replicas_ok c.n ≡ true → c.pending ≡ Nothing → idle_refusal c room ≡ 0
-  unfolding idle_refusal frames_again if◌then◌else◌
+  unfolding idle_refusal frames_again when◌then◌else◌
   free room h p = rw (h, p, le-ltb room 0 (omega arith))
 
   pub idle-free : (s : List ℕ) → replicas_ok c.n ≡ true → c.pending ≡ Nothing
@@ -92,5 +92,5 @@ module _ (c : Client) where
 -- ---- the record of a refused creation
 
 pub create-refused : (n id : ℕ) → replicas_ok n ≡ false → replicas_ok (create_of n id).client.n ≡ false
-unfolding create_of within ◌and◌ if◌then◌else◌
+unfolding create_of within ◌and◌ when◌then◌else◌
 create-refused n id h = rw h

@@ -9,7 +9,7 @@ use native.Mathlib.Omega.{arith}
 use lib.Dec.{ltb, eqb}
 use lib.ListN.{length, length-append}
 use borrow.Author.Tests.{ltb-false, eqb-false}
-use Rattle.numbers.specs.Words.{if◌then◌else◌}
+use Rattle.numbers.specs.Words.{when◌then◌else◌}
 use Rattle.numbers.specs.Numbers.{big}
 use Rattle.numbers.proofs.NumberLaws.{within_both}
 use Rattle.entries.specs.Entries.{operation_ok, encode_entry}
@@ -22,9 +22,9 @@ use Rattle.client.specs.Client.{request_refusal, request_to, frames_to, frames_a
 
 -- ---- what is not refused
 
-four : (a b c d : Bool) → ◌≡◌ {A = ℕ} (if not a then 1 else if not b then 2 else if c then 11 else if d then 9 else 0) 0
+four : (a b c d : Bool) → ◌≡◌ {A = ℕ} (when not a then 1 else when not b then 2 else when c then 11 else when d then 9 else 0) 0
     → (a ≡ true) × ((b ≡ true) × ((c ≡ false) × (d ≡ false)))
-unfolding if◌then◌else◌
+unfolding when◌then◌else◌
 four false b c d e = absurd (omega arith)
 four true false c d e = absurd (omega arith)
 four true true true d e = absurd (omega arith)
@@ -51,8 +51,8 @@ ready c operation cents room e =
       fits = ltb-false room 39 f.1.1.1;
     }
 
-two : (a b : Bool) → ◌≡◌ {A = ℕ} (if not a then 1 else if b then 9 else 0) 0 → (a ≡ true) × (b ≡ false)
-unfolding if◌then◌else◌
+two : (a b : Bool) → ◌≡◌ {A = ℕ} (when not a then 1 else when b then 9 else 0) 0 → (a ≡ true) × (b ≡ false)
+unfolding when◌then◌else◌
 two false b e = absurd (omega arith)
 two true true e = absurd (omega arith)
 two true false e = (refl, refl)

@@ -15,7 +15,7 @@ use native.Mathlib.Omega.{arith}
 use lib.Dec.{eqb, lit≤}
 use lib.ListN.{length}
 use borrow.Author.Tests.{eqb-true, ne_eqb}
-use Rattle.numbers.specs.Words.{if◌then◌else◌, ◌and◌}
+use Rattle.numbers.specs.Words.{when◌then◌else◌, ◌and◌}
 use Rattle.numbers.specs.Numbers.{num, big, within}
 use Rattle.numbers.specs.declared.View.{View}
 use Rattle.numbers.proofs.WordLaws.{and_both, if-true, if-false}
@@ -39,7 +39,7 @@ reply-long s h = eqb-true (length s) 36 (and_both (eqb (length s) 36) _ h).0
 -- ---- outcomes and their numbers
 
 pub outcome-back : (o : ReplyOutcome) → outcome_of (outcome_number o) ≡ o
-unfolding outcome_of if◌then◌else◌
+unfolding outcome_of when◌then◌else◌
 outcome-back Fee = refl
 outcome-back Refund = refl
 outcome-back Ask = refl
@@ -56,7 +56,7 @@ outcome-within PastLimit = (lit≤ tt, lit≤ tt)
 outcome-within PastTotal = (lit≤ tt, lit≤ tt)
 
 pub outcome-forth : (k : ℕ) → 1 ≤ k → k ≤ 6 → outcome_number (outcome_of k) ≡ k
-unfolding outcome_of if◌then◌else◌
+unfolding outcome_of when◌then◌else◌
 outcome-forth k l h =
     ⊎_elim (λ e. rw e) (λ a.
     ⊎_elim (λ e. rw e) (λ b.

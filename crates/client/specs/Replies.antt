@@ -1,7 +1,7 @@
 -- Document 01, "Frames", kind 12, read by the desk: a Reply is 36 bytes, its length field is 32, version 1, kind 12, addressee 0, then
 -- v client request outcome total(8), and the outcome is one of the six of "Fee rules". Anything else is malformed: 2. Assumes nothing.
 use Rattle.std.specs.Prelude.{◌≡◌, Bool, List, [], ◌∷◌, ℕ, eqb, length}
-use Rattle.numbers.specs.Words.{if◌then◌else◌, ◌and◌}
+use Rattle.numbers.specs.Words.{when◌then◌else◌, ◌and◌}
 use Rattle.numbers.specs.Numbers.{num, view_at, within}
 use Rattle.offsets.specs.Rules.{Rule, end, reach, free, between, just}
 use Rattle.offsets.specs.Offsets.{Points}
@@ -24,11 +24,11 @@ outcome_number PastTotal = 6
 -- The outcome of a number. Only 1 to 6 pass `reply_ok`; any other number is read as PastTotal.
 unfoldable pub outcome_of : ℕ → ReplyOutcome
 outcome_of k =
-    if eqb k 1 then Fee else
-    if eqb k 2 then Refund else
-    if eqb k 3 then Ask else
-    if eqb k 4 then NoMember else
-    if eqb k 5 then PastLimit else
+    when eqb k 1 then Fee else
+    when eqb k 2 then Refund else
+    when eqb k 3 then Ask else
+    when eqb k 4 then NoMember else
+    when eqb k 5 then PastLimit else
     PastTotal
 
 -- malformed exactly where this is false
@@ -54,7 +54,7 @@ abbrev pub reply_said : List ℕ → Read
 reply_said s = Reply (view_at 7 s) (num 8 11 s) (num 8 19 s) (outcome_of (num 1 27 s)) (num 8 28 s)
 
 unfoldable pub read_reply : List ℕ → Read
-read_reply s = if reply_ok s then reply_said s else Malformed (reply_offset s)
+read_reply s = when reply_ok s then reply_said s else Malformed (reply_offset s)
 
 -- ---- the number and the values
 
@@ -71,7 +71,7 @@ read_offset (Malformed p) = p
 
 -- the same by the frame's bytes: v has 4 bytes, client, request and total 8 each, the outcome one
 unfoldable pub read_numbers : List ℕ → Numbered
-read_numbers s = if reply_ok s then numbered 0 (in_turn (4 ∷ 8 ∷ 8 ∷ 1 ∷ 8 ∷ []) 7 s) else numbered 2 []
+read_numbers s = when reply_ok s then numbered 0 (in_turn (4 ∷ 8 ∷ 8 ∷ 1 ∷ 8 ∷ []) 7 s) else numbered 2 []
 
 -- what `read_reply` promises: the enum, its number and values, and where a malformed Reply is wrong
 pub record Reads (s : List ℕ) (r : Read) : Type 0 where

@@ -14,7 +14,7 @@ use borrow.Author.Tests.{ne_eqb, eq-eqb}
 use lib.Dec.{eqb, leb}
 use lib.ListN.{length, drop, replicate, drop_of_length-le}
 use lib.Seq.{drop-drop}
-use Rattle.numbers.specs.Words.{if◌then◌else◌}
+use Rattle.numbers.specs.Words.{when◌then◌else◌}
 use Rattle.numbers.specs.Numbers.{big, num, view_at, over}
 use Rattle.numbers.specs.declared.View.{View}
 use Rattle.numbers.proofs.WordLaws.{if-true, if-false}
@@ -59,11 +59,11 @@ record-long s h =
 -- ---- what is pending
 
 nothing-back : pending_of (encode_pending Nothing) ≡ Nothing
-unfolding pending_of encode_pending num if◌then◌else◌
+unfolding pending_of encode_pending num when◌then◌else◌
 nothing-back = refl
 
 waiting-back : (e : Entry) → EntryFits e → pending_of (encode_pending (Waiting e)) ≡ Waiting e
-unfolding pending_of encode_pending num big if◌then◌else◌
+unfolding pending_of encode_pending num big when◌then◌else◌
 waiting-back e f = ap Waiting (ap entry_of (sym (append-nil (encode_entry e))) ∙ entry_of-encode e _ f)
 
 -- the writer's promise in each case

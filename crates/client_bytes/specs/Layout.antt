@@ -1,7 +1,7 @@
 -- The client's record as a run of 54 bytes, for callers that aren't Rattle: n 1, id 8, view 4, next request number 8, pending 1, and the pending request's entry, 32.
 -- Pending is 0, and the entry isn't looked at, or 1. Any other number there is a byte without meaning, and refusal 1. Assumes nothing.
 use Rattle.std.specs.Prelude.{◌≡◌, Bool, true, false, not, List, ◌++◌, ℕ, eqb, leb, length, drop, replicate}
-use Rattle.numbers.specs.Words.{if◌then◌else◌}
+use Rattle.numbers.specs.Words.{when◌then◌else◌}
 use Rattle.numbers.specs.Numbers.{big, num, view_at}
 use Rattle.entries.specs.Entries.{entry_of, encode_entry}
 use Rattle.client.specs.declared.Client.{Client}
@@ -9,7 +9,7 @@ use Rattle.client.specs.declared.Pending.{Pending}
 use Rattle.client.specs.declared.Pending.TheVariants.{Nothing, Waiting}
 
 unfoldable pub pending_of : List ℕ → Pending
-pending_of s = if eqb (num 1 0 s) 0 then Nothing else Waiting (entry_of (drop 1 s))
+pending_of s = when eqb (num 1 0 s) 0 then Nothing else Waiting (entry_of (drop 1 s))
 
 unfoldable pub encode_pending : Pending → List ℕ
 encode_pending Nothing = replicate 33 0
@@ -24,7 +24,7 @@ encode_record c = big 1 c.n ++ big 8 c.id ++ big 4 c.view.0 ++ big 8 c.next ++ e
 
 -- a run holds a record
 unfoldable pub record_ok : List ℕ → Bool
-record_ok s = if not (eqb (length s) 54) then false else leb (num 1 21 s) 1
+record_ok s = when not (eqb (length s) 54) then false else leb (num 1 21 s) 1
 
 -- A writer's promise: the run is the record's bytes, it passes, and the record is read back from it.
 pub record HoldsClient (c : Client) (run : List ℕ) : Type 0 where

@@ -13,7 +13,7 @@ use native.Mathlib.Omega.{arith}
 use lib.Dec.{leb, eqb}
 use lib.ListN.{length, get_or-eq_default}
 use borrow.Author.Tests.{lt-leb, le-leb, leb-false}
-use Rattle.numbers.specs.Words.{if◌then◌else◌}
+use Rattle.numbers.specs.Words.{when◌then◌else◌}
 use Rattle.numbers.proofs.WordLaws.{split, and_left}
 use Rattle.numbers.proofs.NumberLaws.{le-or-lt}
 use Rattle.client_table.specs.declared.Span.{Span}
@@ -24,7 +24,7 @@ use Rattle.client_table.specs.Shape.{Shape, row_at}
 
 pub half-less : (s : Span) (up : Bool) → s.lo < s.hi
     → ((halved s up).hi - (halved s up).lo < s.hi - s.lo) × ((halved s up).hi ≤ s.hi) × (s.lo ≤ (halved s up).lo)
-unfolding halved if◌then◌else◌
+unfolding halved when◌then◌else◌
 half-less s true h = (omega arith, omega arith, omega arith)
 half-less s false h = (omega arith, omega arith, omega arith)
 
@@ -33,12 +33,12 @@ module _ {R : Type 0} (h : Shape R) where
   pub seek-turn : (f : ℕ) (s : Span) (g : Goal) (xs : List R) (x : R) (up : Bool) → s.lo < s.hi → s.hi - s.lo ≤ f
       → x ≡ row_at h xs (mid_of s) → up ≡ is_before (h.used x) (h.client x) g
       → (k : ℕ) × ((halved s up).hi - (halved s up).lo ≤ k) × (seek_from h f s g xs ≡ seek_from h k (halved s up) g xs)
-  unfolding seek_from if◌then◌else◌
+  unfolding seek_from when◌then◌else◌
   seek-turn zero s g xs x up l b p q = absurd (omega arith)
   seek-turn (suc f) s g xs x up l b p q = (f, omega (arith, (half-less s up l).0), rw (lt-leb s.hi s.lo l, q, p))
 
   pub seek-end : (f : ℕ) (s : Span) (g : Goal) (xs : List R) → s.hi ≤ s.lo → seek_from h f s g xs ≡ s.lo
-  unfolding seek_from if◌then◌else◌
+  unfolding seek_from when◌then◌else◌
   seek-end zero s g xs l = refl
   seek-end (suc f) s g xs l = rw (le-leb s.hi s.lo l)
 

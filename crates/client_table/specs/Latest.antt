@@ -1,7 +1,7 @@
 -- What the client table holds of a client's latest request, whichever way its rows are held. Assumes nothing.
 use Rattle.std.specs.Prelude.{Bool, true, false, ℕ, ltb}
 use Rattle.std.proofs.Math.Option.{Option, none, some}
-use Rattle.numbers.specs.Words.{if◌then◌else◌}
+use Rattle.numbers.specs.Words.{when◌then◌else◌}
 use Rattle.numbers.specs.Numbers.{within}
 use Rattle.fees.specs.Fees.{gives}
 use Rattle.fees.specs.declared.Outcome.{Outcome}
@@ -10,7 +10,7 @@ use Rattle.client_table.specs.declared.Latest.TheVariants.{Nothing, Waiting, Ans
 
 -- The reply that a row in use keeps: one of an outcome that the fee rules can give, 1 to 6. Any other code says that none is kept.
 unfoldable pub kept_of : (code total : ℕ) → Option Outcome
-kept_of code total = if within 1 6 code then some (gives code total) else none
+kept_of code total = when within 1 6 code then some (gives code total) else none
 
 -- whether a client has a row, the number there, and the reply that is kept
 abbrev pub latest_by : (there : Bool) (request : ℕ) (kept : Option Outcome) → Latest

@@ -1,7 +1,7 @@
 -- The client table as a list of rows: find, put, follow, rebuild. Rows stand in rising order of client id, unused rows last. The definitions are
 -- for any rows, those that no call produced too, and for any form of a row: bytes, or a struct. Assumes nothing.
 use Rattle.std.specs.Prelude.{Bool, List, [], ◌∷◌, ◌++◌, ℕ, zero, suc, ◌+◌, ◌-◌, leb, eqb, length, take, drop, replicate}
-use Rattle.numbers.specs.Words.{if◌then◌else◌, ◌and◌}
+use Rattle.numbers.specs.Words.{when◌then◌else◌, ◌and◌}
 use Rattle.entries.specs.declared.Entry.{Entry}
 use Rattle.fees.specs.declared.Outcome.{Outcome}
 use Rattle.client_table.specs.declared.Span.{Span}
@@ -16,7 +16,7 @@ module _ {R : Type 0} (h : Shape R) where
   unfoldable pub seek_from : (fuel : ℕ) → Span → Goal → List R → ℕ
   seek_from zero s g xs = s.lo
   seek_from (suc f) s g xs =
-      if leb s.hi s.lo then s.lo else
+      when leb s.hi s.lo then s.lo else
       seek_from f (halved s (is_before (h.used (row_at h xs (mid_of s))) (h.client (row_at h xs (mid_of s))) g)) g xs
 
   -- from place a on
@@ -42,13 +42,13 @@ module _ {R : Type 0} (h : Shape R) where
   -- `client_table.insert`: the row of a new client; a full table takes none
   unfoldable pub inserted : List R → R → List R
   inserted xs r =
-      if leb (length xs) (end_of xs (h.client r)) then xs else
+      when leb (length xs) (end_of xs (h.client r)) then xs else
       stored (spot_of xs (h.client r)) (end_of xs (h.client r)) r xs
 
   -- `client_table.insert`: in place of the client's row, or as a new one
   unfoldable pub put_row : List R → R → List R
   put_row xs r =
-      if is_there xs (h.client r) then stored (spot_of xs (h.client r)) (spot_of xs (h.client r)) r xs else
+      when is_there xs (h.client r) then stored (spot_of xs (h.client r)) (spot_of xs (h.client r)) r xs else
       inserted xs r
 
   -- append_to_log, for each entry: its client's latest request, not yet executed
@@ -63,7 +63,7 @@ module _ {R : Type 0} (h : Shape R) where
   -- commit_op: the reply is remembered only where the row's number is the entry's
   unfoldable pub replied : List R → Entry → Outcome → List R
   replied xs e o =
-      if is_latest xs e then stored (spot_of xs e.client) (spot_of xs e.client) (h.answered e o) xs else
+      when is_latest xs e then stored (spot_of xs e.client) (spot_of xs e.client) (h.answered e o) xs else
       xs
 
   -- commit_up_to: each entry with what it gave
@@ -83,5 +83,5 @@ module _ {R : Type 0} (h : Shape R) where
   -- the log after it, `os` what each committed entry gave, from the first on
   unfoldable pub followed : Change → List R → (log : List Entry) (os : List Outcome) → List R
   followed k xs log os =
-      if k.installed then rebuilt (replicate (length xs) h.blank) log os else
+      when k.installed then rebuilt (replicate (length xs) h.blank) log os else
       rows_committed (appended xs (drop k.op.0 log)) (drop k.commit.0 log) (drop k.commit.0 os)

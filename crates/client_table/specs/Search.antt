@@ -1,7 +1,7 @@
 -- A search by halves, as it is done on any rows: where they rise and unused ones stand last, it finds the first row that isn't before the goal.
 -- Assumes nothing.
-use Rattle.std.specs.Prelude.{Bool, true, false, ℕ, ◌+◌, ◌-◌, ◌/◌, ltb}
-use Rattle.numbers.specs.Words.{if◌then◌else◌, ◌and◌}
+use Rattle.std.specs.Prelude.{Bool, ℕ, ◌+◌, ◌-◌, ◌/◌, ltb}
+use Rattle.numbers.specs.Words.{when◌then◌else◌, ◌and◌}
 use Rattle.client_table.specs.declared.Span.{Span}
 use Rattle.client_table.specs.declared.Goal.{Goal}
 use Rattle.client_table.specs.declared.Goal.TheVariants.{Client, End}
@@ -14,7 +14,7 @@ mid_of s = s.lo + (s.hi - s.lo) / 2
 
 -- the half above the middle, or that below it
 unfoldable pub halved : Span → Bool → Span
-halved s up = if up then span (mid_of s + 1) s.hi else span s.lo (mid_of s)
+halved s up = when up then span (mid_of s + 1) s.hi else span s.lo (mid_of s)
 
 -- whether a row, in use or not, of a client stands before the goal
 unfoldable pub is_before : Bool → ℕ → Goal → Bool

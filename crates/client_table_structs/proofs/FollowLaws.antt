@@ -14,7 +14,7 @@ use lib.Dec.{ltb}
 use lib.ListN.{length, get_or, set, take, drop, replicate, length-replicate, replicate-append-replicate, take-append-drop}
 use lib.Seq.{append_snoc, drop-cons, set_at}
 use borrow.Author.Tests.{ltb-true, ltb-false}
-use Rattle.numbers.specs.Words.{if◌then◌else◌}
+use Rattle.numbers.specs.Words.{when◌then◌else◌}
 use Rattle.numbers.specs.Cells.{cells}
 use Rattle.numbers.proofs.WordLaws.{split}
 use Rattle.numbers.proofs.CellLaws.{cells-length, cells-drop, cells-take, cells-none}
@@ -61,7 +61,7 @@ module _ (ls rs : List ℕ) (n d : ℕ) (h : d ≤ n) where
 -- ---- what is left of n cells from place i on, and from the first of n and i on
 
 abbrev low : ℕ → ℕ → ℕ
-low n i = if ltb n i then n else i
+low n i = when ltb n i then n else i
 
 low-in : (n i : ℕ) → low n i ≤ n
 low-in n i = split (λ (f : ℕ). f ≤ n) (ltb n i) n i (λ e. omega arith) (λ e. ltb-false n i e)

@@ -2,7 +2,7 @@
 -- any form of row. Assumes nothing.
 use Rattle.std.specs.Prelude.{Bool, true, false, List, ℕ, eqb, ltb}
 use Rattle.std.proofs.Math.Option.{Option, none}
-use Rattle.numbers.specs.Words.{if◌then◌else◌, ◌and◌}
+use Rattle.numbers.specs.Words.{when◌then◌else◌, ◌and◌}
 use Rattle.entries.specs.declared.Entry.{Entry}
 use Rattle.fees.specs.declared.Outcome.{Outcome}
 use Rattle.client_table.specs.Rows.{spot_of, is_there}
@@ -58,7 +58,7 @@ found_at i x c = record { at = i; there = is_used x.reply and eqb x.client c; ro
 
 -- up to where rows go up for the client's row, the first unused place being `unused`
 unfoldable pub end_at : FoundRow → ℕ → ℕ
-end_at f unused = if f.there then f.at else unused
+end_at f unused = when f.there then f.at else unused
 
 -- the entry is its client's latest request
 unfoldable pub latest_at : FoundRow → Entry → Bool
@@ -66,10 +66,10 @@ latest_at f e = f.there and eqb f.row.request e.request
 
 -- the first entry that a call appended, and the first that it committed
 unfoldable pub first_new : Change → ℕ
-first_new k = if ltb k.to.0 k.op.0 then k.to.0 else k.op.0
+first_new k = when ltb k.to.0 k.op.0 then k.to.0 else k.op.0
 
 unfoldable pub first_done : Change → ℕ
-first_done k = if ltb k.done.0 k.commit.0 then k.done.0 else k.commit.0
+first_done k = when ltb k.done.0 k.commit.0 then k.done.0 else k.commit.0
 
 -- what was found, as the core is told it
 abbrev pub latest_of_row : FoundRow → Latest

@@ -12,7 +12,7 @@ use native.Mathlib.Omega.{arith}
 use lib.Dec.{leb}
 use lib.Pow.{pow_mono}
 use borrow.Author.Tests.{leb-true, leb-false, le-leb, lt-leb}
-use Rattle.numbers.specs.Words.{if◌then◌else◌}
+use Rattle.numbers.specs.Words.{when◌then◌else◌}
 use Rattle.numbers.proofs.WordLaws.{split, split₂}
 use Rattle.clock.specs.declared.Clock.{Clock}
 use Rattle.clock.specs.declared.Ticked.{Ticked}
@@ -35,8 +35,8 @@ cap-twice a = omega arith
 cap-more : (a b : ℕ) → min (min a b + 1) b ≡ min (a + 1) b
 cap-more a b = omega arith
 
-cap-if : (b : Bool) (a : ℕ) → (if b then 0 else min a 10) ≡ min (if b then 0 else a) 10
-unfolding if◌then◌else◌
+cap-if : (b : Bool) (a : ℕ) → (when b then 0 else min a 10) ≡ min (when b then 0 else a) 10
+unfolding when◌then◌else◌
 cap-if true a = refl
 cap-if false a = refl
 
@@ -102,7 +102,7 @@ module _ (T : ℕ) (r : Counters) where
       rw z
 
   pub same_start : (again : Bool) → (start_of again (capped T r)).clock ≡ capped T (rust_start again r)
-  unfolding start_of capped rust_start if◌then◌else◌
+  unfolding start_of capped rust_start when◌then◌else◌
   same_start true = rw (cap-more r.attempts 10)
   same_start false = refl
 

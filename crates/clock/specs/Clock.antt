@@ -2,7 +2,7 @@
 -- Attempts rise only when a view change starts from ViewChange and fall to 0 after T stable ticks. Attempts are counted to 10 and stable
 -- ticks to T. Assumes nothing.
 use Rattle.std.specs.Prelude.{Bool, true, false, ℕ, ◌+◌, ◌*◌, ◌^◌, min, leb}
-use Rattle.numbers.specs.Words.{if◌then◌else◌}
+use Rattle.numbers.specs.Words.{when◌then◌else◌}
 use Rattle.clock.specs.declared.Clock.{Clock}
 use Rattle.clock.specs.declared.Ticked.{Ticked}
 use Rattle.clock.specs.declared.Duty.{Duty}
@@ -29,7 +29,7 @@ waited_of waiting = min (waiting + 1) 4294967295
 -- The Rust's `note_stable`.
 unfoldable pub stable_tick : ℕ → Clock → Clock
 stable_tick T c =
-    clock c.heard c.waiting (min (c.stable + 1) T) (if leb T (min (c.stable + 1) T) then 0 else c.attempts)
+    clock c.heard c.waiting (min (c.stable + 1) T) (when leb T (min (c.stable + 1) T) then 0 else c.attempts)
 
 -- The Rust's `wait_timed_out`: whether the wait, a tick longer, is over.
 unfoldable pub wait_tick : ℕ → Clock → Ticked
@@ -40,7 +40,7 @@ wait_tick T c = ticked (clock c.heard (waited_of c.waiting) c.stable c.attempts)
 unfoldable pub tick_of : ℕ → Duty → Clock → Ticked
 tick_of T Lead c = ticked (stable_tick T c) false
 tick_of T Follow c =
-    if c.heard then ticked (stable_tick T (clock false 0 c.stable c.attempts)) false else
+    when c.heard then ticked (stable_tick T (clock false 0 c.stable c.attempts)) false else
     wait_tick T (clock false c.waiting 0 c.attempts)
 tick_of T Change c = wait_tick T c
 
@@ -54,7 +54,7 @@ reset_of c = ticked (clock true 0 0 c.attempts) false
 
 -- `start_view_change`; again: from ViewChange
 unfoldable pub start_of : Bool → Clock → Ticked
-start_of again c = ticked (clock c.heard 0 c.stable (if again then min (c.attempts + 1) 10 else c.attempts)) false
+start_of again c = ticked (clock c.heard 0 c.stable (when again then min (c.attempts + 1) 10 else c.attempts)) false
 
 -- `catch_up_with_view`
 abbrev pub restart_of : Clock → Ticked

@@ -2,7 +2,7 @@
 use Rattle.std.proofs.Common.{◌≡◌, ℕ, ◌+◌, ◌-◌, ◌<◌, ◌≤◌, true, false, List, length, get_or, take, drop, replicate, ap, ◌∙◌, add-one, arith, length-drop, length-take, take_all, drop-cons, eq-eqb, ne_eqb, le-leb}
 use borrow.Author.Tests.{lt-leb}
 use lib.Seq.{drop-length}
-use Rattle.numbers.specs.Words.{if◌then◌else◌, ◌and◌}
+use Rattle.numbers.specs.Words.{when◌then◌else◌, ◌and◌}
 use Rattle.numbers.specs.Numbers.{over, put_at}
 use Rattle.numbers.proofs.RunLaws.{part-rest, over-all}
 use Rattle.comparing.specs.Areas.{fetched_at, stored_at, spoilt_to, all_spoilt, left_alone}
@@ -34,31 +34,31 @@ module _ (from to : ℕ) (area : List ℕ) where
 
 module _ (a : ℕ) (memory area : List ℕ) where
   pub fetch-none : length memory < a + length area → area ≡ fetched_at a memory area
-  unfolding fetched_at if◌then◌else◌
+  unfolding fetched_at when◌then◌else◌
   fetch-none h = rw (lt-leb (a + length area) (length memory) h)
 
   pub fetch-some : a + length area ≤ length memory → over (take (length area) (take (length memory - a) (drop a memory))) area ≡ fetched_at a memory area
-  unfolding fetched_at if◌then◌else◌
+  unfolding fetched_at when◌then◌else◌
   fetch-some h =
       let l : length (take (length area) (drop a memory)) ≡ length area = simp (length-take, length-drop) (omega arith) in
       rw (part-rest a memory, le-leb (a + length area) (length memory) h) (over-all (take (length area) (drop a memory)) area l)
 
 module _ (a : ℕ) (run memory : List ℕ) where
   pub store-none : length memory < a + length run → memory ≡ stored_at a run memory
-  unfolding stored_at if◌then◌else◌
+  unfolding stored_at when◌then◌else◌
   store-none h = rw (lt-leb (a + length run) (length memory) h)
 
   pub store-some : a + length run ≤ length memory → put_at a run memory ≡ stored_at a run memory
-  unfolding stored_at if◌then◌else◌
+  unfolding stored_at when◌then◌else◌
   store-some h = rw (le-leb (a + length run) (length memory) h)
 
 module _ (n : ℕ) (area : List ℕ) where
   pub spoil-none : length area < n → area ≡ spoilt_to n area
-  unfolding spoilt_to if◌then◌else◌
+  unfolding spoilt_to when◌then◌else◌
   spoil-none h = rw (lt-leb n (length area) h)
 
   pub spoil-some : n ≤ length area → over (replicate n 165) area ≡ spoilt_to n area
-  unfolding spoilt_to if◌then◌else◌
+  unfolding spoilt_to when◌then◌else◌
   spoil-some h = rw (le-leb n (length area) h)
 
 -- a run copied whole

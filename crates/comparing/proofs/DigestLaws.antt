@@ -3,7 +3,7 @@ use Rattle.std.proofs.Common.{◌≡◌, ℕ, ◌+◌, ◌-◌, ◌%◌, ◌^◌
 use native.Mathlib.Nat.{add-mod, mod-add-mod}
 use lib.Seq.{drop-length}
 use borrow.Author.Tests.{lt-leb}
-use Rattle.numbers.specs.Words.{if◌then◌else◌}
+use Rattle.numbers.specs.Words.{when◌then◌else◌}
 use Rattle.comparing.specs.Digests.{hashed, digest_after, part_at}
 
 -- a sum of two that are kept to 64 bits
@@ -30,10 +30,10 @@ digest-append h (b ∷ bs) t = digest-append (hashed h b) bs t
 
 -- a part that isn't there
 pub part_none : (h : ℕ) (s : List ℕ) (a n : ℕ) → length s < a + n → h ≡ digest_after h (part_at a n s)
-unfolding digest_after part_at if◌then◌else◌
+unfolding digest_after part_at when◌then◌else◌
 part_none h s a n l = rw (lt-leb (a + n) (length s) l)
 
 -- one that is
 pub part-some : (h : ℕ) (s : List ℕ) (a n : ℕ) → a + n ≤ length s → digest_after h (take (a + n - a) (drop a s)) ≡ digest_after h (part_at a n s)
-unfolding part_at if◌then◌else◌
+unfolding part_at when◌then◌else◌
 part-some h s a n l = let e : a + n - a ≡ n = omega arith in rw (le-leb (a + n) (length s) l, e)

@@ -5,17 +5,17 @@ use lib.Seq.{drop-length}
 use Rattle.numbers.specs.Numbers.{over}
 use Rattle.numbers.proofs.RunLaws.{part-rest, over-set}
 use Rattle.numbers.proofs.WordLaws.{and-false, and_yes}
-use Rattle.numbers.specs.Words.{if◌then◌else◌, ◌and◌}
+use Rattle.numbers.specs.Words.{when◌then◌else◌, ◌and◌}
 use Rattle.comparing.specs.Text.{place_of, times_in, behind_word, word_start, first_word, word_at, with_digit, number_after, hex_digit, hex_text, run_text, same_bytes, byte_at, bytes_in}
 
 -- b is the byte at place i
 pub place_here : (b : ℕ) (s : List ℕ) (i : ℕ) → i < length s → get_or s i 0 ≡ b → place_of b (drop i s) ≡ 0
-unfolding place_of if◌then◌else◌
+unfolding place_of when◌then◌else◌
 place_here b s i h e = rw (drop-cons s i 0 h, eq-eqb (get_or s i 0) b e)
 
 -- it is another
 pub place-past : (b : ℕ) (s : List ℕ) (i : ℕ) → i < length s → (get_or s i 0 ≡ b → ⊥) → place_of b (drop i s) ≡ suc (place_of b (drop (i + 1) s))
-unfolding place_of if◌then◌else◌
+unfolding place_of when◌then◌else◌
 place-past b s i h e = rw (drop-cons s i 0 h, ne_eqb (get_or s i 0) b e, add-one)
 
 -- none is left
@@ -43,13 +43,13 @@ number-end hex w x i h l = let e : i ≡ length w = omega arith in rw (e, drop-l
 
 -- no space behind place a; n is what a search for one gives
 pub behind-none : (s : List ℕ) (a n : ℕ) → n ≡ place_of 32 (take (length s - a) (drop a s)) → length s - a ≤ n → length s ≡ behind_word s a
-unfolding behind_word if◌then◌else◌
+unfolding behind_word when◌then◌else◌
 behind-none s a n e h =
     let p : n ≡ place_of 32 (drop a s) = e ∙ ap (place_of 32) (part-rest a s) in
     rw (← p, length-drop a s, le-leb (length s - a) n h)
 
 pub behind-some : (s : List ℕ) (a n : ℕ) → n ≡ place_of 32 (take (length s - a) (drop a s)) → n < length s - a → a + n + 1 ≡ behind_word s a
-unfolding behind_word if◌then◌else◌
+unfolding behind_word when◌then◌else◌
 behind-some s a n e h =
     let p : n ≡ place_of 32 (drop a s) = e ∙ ap (place_of 32) (part-rest a s) in
     rw (← p, length-drop a s, lt-leb (length s - a) n h)

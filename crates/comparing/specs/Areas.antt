@@ -1,19 +1,19 @@
 -- The lent runs, kept one behind the other in one array with room for n = 7, L = 8 and M = 8, and what a call has to leave alone. Assumes nothing.
-use Rattle.std.specs.Prelude.{ℕ, ◌+◌, ◌-◌, Bool, true, false, leb, List, [], ◌∷◌, length, take, drop, replicate, nat_eq, nat_le}
-use Rattle.numbers.specs.Words.{if◌then◌else◌, ◌and◌}
+use Rattle.std.specs.Prelude.{ℕ, ◌+◌, ◌-◌, Bool, true, leb, List, [], ◌∷◌, length, take, drop, replicate, nat_eq, nat_le}
+use Rattle.numbers.specs.Words.{when◌then◌else◌, ◌and◌}
 use Rattle.numbers.specs.Numbers.{over, put_at}
 
 -- the run at a place, over an area of its length; the area as it was where there is none
 unfoldable pub fetched_at : (a : ℕ) (memory area : List ℕ) → List ℕ
-fetched_at a memory area = if nat_le (a + length area) (length memory) then take (length area) (drop a memory) else area
+fetched_at a memory area = when nat_le (a + length area) (length memory) then take (length area) (drop a memory) else area
 
 -- a run put at a place; the memory as it was where there is no room
 unfoldable pub stored_at : (a : ℕ) (run memory : List ℕ) → List ℕ
-stored_at a run memory = if nat_le (a + length run) (length memory) then put_at a run memory else memory
+stored_at a run memory = when nat_le (a + length run) (length memory) then put_at a run memory else memory
 
 -- n bytes of an area set to 165, which no call writes by chance
 unfoldable pub spoilt_to : (n : ℕ) → List ℕ → List ℕ
-spoilt_to n area = if nat_le n (length area) then over (replicate n 165) area else area
+spoilt_to n area = when nat_le n (length area) then over (replicate n 165) area else area
 
 -- whether all bytes are 165
 unfoldable pub all_spoilt : List ℕ → Bool

@@ -1,6 +1,6 @@
 -- FORMAT.md: FNV-1a digests of 64 bits, offset basis cbf29ce484222325, prime 100000001b3. Assumes nothing.
 use Rattle.std.specs.Prelude.{ℕ, ◌+◌, ◌*◌, ◌%◌, ◌^◌, List, [], ◌∷◌, length, take, drop, bit_xor, nat_le}
-use Rattle.numbers.specs.Words.{if◌then◌else◌}
+use Rattle.numbers.specs.Words.{when◌then◌else◌}
 
 -- the offset basis
 abbrev pub offset_basis : ℕ
@@ -21,4 +21,4 @@ digest_of s = digest_after offset_basis s
 
 -- n bytes from a place on, where there are so many
 unfoldable pub part_at : (a n : ℕ) → List ℕ → List ℕ
-part_at a n s = if nat_le (a + n) (length s) then take n (drop a s) else []
+part_at a n s = when nat_le (a + n) (length s) then take n (drop a s) else []

@@ -1,21 +1,21 @@
 -- FORMAT.md: a line's words are parted by one space. Numbers are decimal, a digest is hexadecimal, a byte run is lower-case hexadecimal, or `-` when empty. Numbers are kept to 64 bits.
 -- Assumes nothing.
 use Rattle.std.specs.Prelude.{ℕ, zero, suc, ◌+◌, ◌-◌, ◌*◌, ◌/◌, ◌%◌, ◌^◌, Bool, true, false, List, [], ◌∷◌, ◌++◌, length, take, drop, ◌==◌, nat_eq, nat_le, nat_lt, slice_index}
-use Rattle.numbers.specs.Words.{if◌then◌else◌, ◌and◌}
+use Rattle.numbers.specs.Words.{when◌then◌else◌, ◌and◌}
 
 -- the first place of the byte b, or the length
 unfoldable pub place_of : (b : ℕ) → List ℕ → ℕ
 place_of b [] = 0
-place_of b (x ∷ xs) = if x == b then 0 else suc (place_of b xs)
+place_of b (x ∷ xs) = when x == b then 0 else suc (place_of b xs)
 
 -- how often b is there
 unfoldable pub times_in : (b : ℕ) → List ℕ → ℕ
 times_in b [] = 0
-times_in b (x ∷ xs) = (if nat_eq x b then 1 else 0) + times_in b xs
+times_in b (x ∷ xs) = (when nat_eq x b then 1 else 0) + times_in b xs
 
 -- the place behind the space that ends the word at place a; the length where there is none
 unfoldable pub behind_word : List ℕ → (a : ℕ) → ℕ
-behind_word s a = if nat_le (length (drop a s)) (place_of 32 (drop a s)) then length s else a + place_of 32 (drop a s) + 1
+behind_word s a = when nat_le (length (drop a s)) (place_of 32 (drop a s)) then length s else a + place_of 32 (drop a s) + 1
 
 -- where word k begins, the first being word 0; the length where there are fewer
 unfoldable pub word_start : (k : ℕ) → List ℕ → ℕ
@@ -33,10 +33,10 @@ word_at k s = first_word (drop (word_start k s) s)
 -- the value of a digit: 0 to 9, a to f; 16: no digit
 unfoldable pub digit_of : (c : ℕ) → ℕ
 digit_of c =
-    if nat_lt c 48 then 16 else
-    if nat_le c 57 then c - 48 else
-    if nat_lt c 97 then 16 else
-    if nat_le c 102 then c - 87 else
+    when nat_lt c 48 then 16 else
+    when nat_le c 57 then c - 48 else
+    when nat_lt c 97 then 16 else
+    when nat_le c 102 then c - 87 else
     16
 
 -- the base of a number: hexadecimal or decimal
@@ -59,7 +59,7 @@ number_at hex k s = number_after hex 0 (word_at k s)
 
 -- the digit of a value below 16
 unfoldable pub hex_digit : ℕ → ℕ
-hex_digit d = if nat_lt d 10 then 48 + d else 87 + d
+hex_digit d = when nat_lt d 10 then 48 + d else 87 + d
 
 -- bytes in hexadecimal, two digits each
 unfoldable pub hex_text : List ℕ → List ℕ
@@ -89,4 +89,4 @@ bytes_in (suc n) w = bytes_in n w ++ byte_at w n ∷ []
 
 -- the lesser of two
 unfoldable pub lesser_of : ℕ → ℕ → ℕ
-lesser_of a b = if nat_le a b then a else b
+lesser_of a b = when nat_le a b then a else b

@@ -28,7 +28,7 @@ use lib.Dec.{eqb}
 use lib.ListN.{length, length-append}
 use mathlib.Core.Bool.{Bool, true, false}
 use borrow.Author.Tests.{eq-eqb, ne_eqb, eqb-true, eqb-false}
-use Rattle.numbers.specs.Words.{if◌then◌else◌}
+use Rattle.numbers.specs.Words.{when◌then◌else◌}
 use Rattle.numbers.proofs.WordLaws.{split}
 use Rattle.config.specs.Replicas.{bit, Member, members, count_below, with_member, with_another, quorum_of}
 
@@ -118,11 +118,11 @@ or-absent zero s h =
 or-absent (suc k) s h = or-suc s k ∙ ap (λ (x : ℕ). x * 2 + s % 2) (or-absent k (s / 2) (sym (bit-suc s k) ∙ h)) ∙ omega (arith, div-add-mod' s 2, pow-suc 2 k)
 
 pub with-old : (s k : ℕ) → Member k s → with_member s k ≡ s
-unfolding with_member if◌then◌else◌
+unfolding with_member when◌then◌else◌
 with-old s k h = simp (eq-eqb (bit s k) 1 h)
 
 pub with-absent : (s k : ℕ) → bit s k ≡ 0 → with_member s k ≡ s + 2 ^ k
-unfolding with_member if◌then◌else◌
+unfolding with_member when◌then◌else◌
 with-absent s k h = simp (ne_eqb (bit s k) 1 (λ e. omega (arith, h, e)))
 
 pub or-with : (s k : ℕ) → bit_or s (2 ^ k) ≡ with_member s k
@@ -209,14 +209,14 @@ below_all (suc n) s (suc k) h m = omega (arith, below_all n (s / 2) k (half_lt n
 -- ---- the count, as the length of the list of ids
 
 none : (s : ℕ) → length (members 0 s) ≡ 0
-unfolding members if◌then◌else◌
+unfolding members when◌then◌else◌
 none s = refl
 
 members_step : (n s : ℕ) → length (members (suc n) s) ≡ length (members n s) + bit s n
-unfolding members if◌then◌else◌
-members_step n s = length-append (members n s) (if eqb (bit s n) 1 then n ∷ [] else []) ∙ ap (λ (x : ℕ). length (members n s) + x) (go (bit-or s n))
+unfolding members when◌then◌else◌
+members_step n s = length-append (members n s) (when eqb (bit s n) 1 then n ∷ [] else []) ∙ ap (λ (x : ℕ). length (members n s) + x) (go (bit-or s n))
   where
-    go : (bit s n ≡ 0) ⊎ Member n s → length (if eqb (bit s n) 1 then n ∷ [] else []) ≡ bit s n
+    go : (bit s n ≡ 0) ⊎ Member n s → length (when eqb (bit s n) 1 then n ∷ [] else []) ≡ bit s n
     go (inl a) = simp (ne_eqb (bit s n) 1 (λ e. omega (arith, a, e))) (sym a)
     go (inr p) = simp (eq-eqb (bit s n) 1 p) (sym p)
 

@@ -18,7 +18,7 @@ use Rattle.csv_table.specs.Table.{header_words, entry_fields, entry_rows_after, 
 use Rattle.csv_table.specs.Reading.{row_in, scanned_after, scanned}
 use Rattle.csv_table.specs.Laws.{BeginsWith, FirstBad}
 use Rattle.csv_table.specs.declared.Scanned.{Scanned}
-use Rattle.csv_table.proofs.LookLaws.{before, begins-good, empty-not, less_none, scan-bad, scan-end, scan-on}
+use Rattle.csv_table.proofs.LookLaws.{begins-good, empty-not, less_none, scan-bad, scan-end, scan-on}
 use Rattle.csv_table.proofs.TableLaws.{ended, EntryAt, entry_at, less-left, pos, HeaderAt, header_at, u, header-less, header-on}
 
 -- the rows of entries before it, from row i + 1 on

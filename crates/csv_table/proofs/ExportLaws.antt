@@ -16,7 +16,7 @@ use borrow.Author.Tests.{le-leb, lt-leb, leb-false, lt-ltb, le-ltb}
 use lib.Dec.{leb}
 use lib.ListN.{length, drop, length-append}
 use lib.Seq.{drop-drop, drop_at}
-use Rattle.numbers.specs.Words.{if◌then◌else◌}
+use Rattle.numbers.specs.Words.{when◌then◌else◌}
 use Rattle.numbers.specs.Numbers.{Bytes, over, Wrote}
 use Rattle.numbers.specs.Cells.{cells, packed}
 use Rattle.numbers.proofs.NumberLaws.{drop-bytes}
@@ -133,12 +133,12 @@ room-enough n room s b l h q = sym (le-leb (length (table_of n s)) room (omega (
 
 module _ (run area : List ℕ) (r : Exported) where
   pub export-bad : r ≡ record { code = 2; bytes = 0 } → not (run_ok run) ≡ true → ◌≡◌ {A = LeftExported} (record { answer = r; area = area }) (export_call run area)
-  unfolding export_call if◌then◌else◌
+  unfolding export_call when◌then◌else◌
   export-bad p b = rw (p, b)
 
   pub export-long : r ≡ record { code = 9; bytes = 0 } → not (run_ok run) ≡ false → leb (length (table_of (run_count run) run)) (length area) ≡ false
       → ◌≡◌ {A = LeftExported} (record { answer = r; area = area }) (export_call run area)
-  unfolding export_call exporting if◌then◌else◌
+  unfolding export_call exporting when◌then◌else◌
   export-long p b l =
       let t = table_of (run_count run) run in
       rw (p, b, lt-ltb (length area) (length t) (leb-false (length t) (length area) l))
@@ -146,7 +146,7 @@ module _ (run area : List ℕ) (r : Exported) where
 pub export-done : (run area after : List ℕ) (n : ℕ) → not (run_ok run) ≡ false → length (table_of (run_count run) run) ≤ length area
     → Wrote (table_of (run_count run) run) area after n
     → ◌≡◌ {A = LeftExported} (record { answer = record { code = 0; bytes = n }; area = after }) (export_call run area)
-unfolding export_call exporting if◌then◌else◌
+unfolding export_call exporting when◌then◌else◌
 export-done run area after n b l w =
     let t = table_of (run_count run) run in
     rw (w.bytes, w.count, b, le-ltb (length area) (length t) l)

@@ -13,7 +13,7 @@ use native.Mathlib.Omega.{arith}
 use borrow.Author.Tests.{eq-eqb, ne_eqb}
 use lib.Dec.{eqb}
 use lib.ListN.{length, take, drop, length-append}
-use Rattle.numbers.specs.Words.{if◌then◌else◌}
+use Rattle.numbers.specs.Words.{when◌then◌else◌}
 use Rattle.numbers.specs.Numbers.{Wrote}
 use Rattle.numbers.proofs.RunLaws.{over-lend}
 use Rattle.numbers.proofs.NumberLaws.{eq-or-not}
@@ -38,24 +38,24 @@ wrote-lend w e a n m p q =
 -- ---- a row
 
 pub fee-word : (k : ℕ) → k ≡ 1 → kind_word k ≡ 102 ∷ 101 ∷ 101 ∷ []
-unfolding kind_word if◌then◌else◌
+unfolding kind_word when◌then◌else◌
 fee-word k p = rw (eq-eqb k 1 p)
 
 pub refund-word : (k : ℕ) → k ≡ 2 → kind_word k ≡ 114 ∷ 101 ∷ 102 ∷ 117 ∷ 110 ∷ 100 ∷ []
-unfolding kind_word if◌then◌else◌
+unfolding kind_word when◌then◌else◌
 refund-word k p = rw (ne_eqb k 1 (λ (e : k ≡ 1). omega arith), eq-eqb k 2 p)
 
 pub ask-word : (k : ℕ) → (k ≡ 1 → ⊥) → (k ≡ 2 → ⊥) → kind_word k ≡ 97 ∷ 115 ∷ 107 ∷ []
-unfolding kind_word if◌then◌else◌
+unfolding kind_word when◌then◌else◌
 ask-word k p q = rw (ne_eqb k 1 p, ne_eqb k 2 q)
 
 pub refund-long : (k : ℕ) → k ≡ 2 → length (kind_word k) ≡ 6
 refund-long k p = ap length (refund-word k p)
 
 pub other-long : (k : ℕ) → (k ≡ 2 → ⊥) → length (kind_word k) ≡ 3
-unfolding kind_word if◌then◌else◌
+unfolding kind_word when◌then◌else◌
 other-long k n =
-    split (λ (w : List ℕ). length w ≡ 3) (eqb k 1) (102 ∷ 101 ∷ 101 ∷ []) (if eqb k 2 then 114 ∷ 101 ∷ 102 ∷ 117 ∷ 110 ∷ 100 ∷ [] else 97 ∷ 115 ∷ 107 ∷ [])
+    split (λ (w : List ℕ). length w ≡ 3) (eqb k 1) (102 ∷ 101 ∷ 101 ∷ []) (when eqb k 2 then 114 ∷ 101 ∷ 102 ∷ 117 ∷ 110 ∷ 100 ∷ [] else 97 ∷ 115 ∷ 107 ∷ [])
     (λ e. refl)
     (λ e. rw (ne_eqb k 2 n))
 

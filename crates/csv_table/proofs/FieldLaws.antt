@@ -20,7 +20,7 @@ use lib.Dec.{eqb, ltb}
 use lib.ListN.{length, get_or, take, drop, length-drop, drop_of_length-le, get_or-eq_default}
 use lib.Seq.{drop-cons, get_or-drop}
 use borrow.Author.Tests.{ltb-true, ltb-false, eqb-true, eq-eqb, ne_eqb, not-false}
-use Rattle.numbers.specs.Words.{if◌then◌else◌, ◌and◌}
+use Rattle.numbers.specs.Words.{when◌then◌else◌, ◌and◌}
 use Rattle.numbers.proofs.WordLaws.{if-true, if-false, split, and_both, and-false}
 use Rattle.entries.specs.Entries.{operation_ok}
 use Rattle.decimal.specs.Decimal.{no_number, number_in}
@@ -42,11 +42,11 @@ there s i k e = go _ refl
 
 module _ (s : List ℕ) (i : ℕ) where
   pub stretch-stop : i < length s → stops (get_or s i 0) ≡ true → stretch (drop i s) ≡ 0
-  unfolding stretch if◌then◌else◌
+  unfolding stretch when◌then◌else◌
   stretch-stop h e = rw (drop-cons s i 0 h, e)
 
   pub stretch-next : i < length s → stops (get_or s i 0) ≡ false → stretch (drop i s) ≡ suc (stretch (drop (suc i) s))
-  unfolding stretch if◌then◌else◌
+  unfolding stretch when◌then◌else◌
   stretch-next h e = rw (drop-cons s i 0 h, e)
 
   pub stretch-end : length s ≤ i → stretch (drop i s) ≡ 0
@@ -62,25 +62,25 @@ stretch-le (b ∷ s) =
 -- ---- how a field ends
 
 pub ending_at : (at : ℕ) (s : List ℕ) → ending (drop at s)
-    ≡ (if eqb (length s - at) 0 then 3 else if eqb (get_or s at 0) 44 then 1 else if eqb (get_or s at 0) 13 and eqb (get_or s (at + 1) 0) 10 then 2
+    ≡ (when eqb (length s - at) 0 then 3 else when eqb (get_or s at 0) 44 then 1 else when eqb (get_or s at 0) 13 and eqb (get_or s (at + 1) 0) 10 then 2
     else 0)
 unfolding ending
 ending_at at s = rw (length-drop at s, get_or-drop at s 0 0, get_or-drop at s 1 0, add-zero at)
 
 size_none : ending_size 0 ≡ 0
-unfolding ending_size if◌then◌else◌
+unfolding ending_size when◌then◌else◌
 size_none = refl
 
 size-comma : ending_size 1 ≡ 1
-unfolding ending_size if◌then◌else◌
+unfolding ending_size when◌then◌else◌
 size-comma = refl
 
 size-crlf : ending_size 2 ≡ 2
-unfolding ending_size if◌then◌else◌
+unfolding ending_size when◌then◌else◌
 size-crlf = refl
 
 size-end : ending_size 3 ≡ 0
-unfolding ending_size if◌then◌else◌
+unfolding ending_size when◌then◌else◌
 size-end = refl
 
 ending-fits : (s : List ℕ) → ending_size (ending s) ≤ length s

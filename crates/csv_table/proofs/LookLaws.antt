@@ -13,7 +13,7 @@ use native.Mathlib.Nat.{zero-add}
 use native.Mathlib.Omega.{arith}
 use lib.ListN.{length, drop, length-append, length-drop}
 use lib.Seq.{drop_at, drop-length}
-use Rattle.numbers.specs.Words.{if◌then◌else◌}
+use Rattle.numbers.specs.Words.{when◌then◌else◌}
 use Rattle.entries.specs.declared.Entry.{Entry}
 use Rattle.csv_table.specs.Rows.{comma, crlf, RowText}
 use Rattle.csv_table.specs.Table.{header_words, entry_fields}
@@ -46,7 +46,7 @@ row-in i fs ws t z e s r x =
 -- contents that say something, with nothing behind their text, or with CRLF
 module _ (i : ℕ) (fs : List (List ℕ)) (ws a : List ℕ) (e : length fs ≡ 6) (s : SaysAll i 0 no_values fs ws) (r : RowText fs a) where
   pub alone : RowAt i a fs a [] (entry_of_values (put_all no_values 0 ws))
-  unfolding ending_size if◌then◌else◌
+  unfolding ending_size when◌then◌else◌
   alone =
       let q : row_in i a ≡ good_row (length a + ending_size (ending [])) (put_all no_values 0 ws) =
       ap (row_in i) (sym (append-nil a)) ∙ row-in i fs ws a [] e s r (inl refl) in
@@ -60,7 +60,7 @@ module _ (i : ℕ) (fs : List (List ℕ)) (ws a : List ℕ) (e : length fs ≡ 6
       }
 
   pub before : (b : List ℕ) → RowAt i (a ++ crlf ++ b) fs a b (entry_of_values (put_all no_values 0 ws))
-  unfolding ending_size if◌then◌else◌
+  unfolding ending_size when◌then◌else◌
   before b =
       let q : row_in i (a ++ crlf ++ b) ≡ good_row (length a + ending_size (ending (crlf ++ b))) (put_all no_values 0 ws) =
       ap (row_in i) (append_assoc a crlf b) ∙ row-in i fs ws a (crlf ++ b) e s r (inr (b, refl)) in

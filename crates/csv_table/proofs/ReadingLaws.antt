@@ -15,7 +15,7 @@ use lib.Dec.{eqb}
 use lib.ListN.{length, get_or, set, take, drop, length-drop, length-set}
 use lib.Seq.{get_or-set_same, get_or-set_other, drop-drop}
 use borrow.Author.Tests.{eqb-true, eqb-false, ne_eqb}
-use Rattle.numbers.specs.Words.{if◌then◌else◌}
+use Rattle.numbers.specs.Words.{when◌then◌else◌}
 use Rattle.numbers.proofs.WordLaws.{if-false, split}
 use Rattle.numbers.proofs.RunLaws.{part-rest}
 use Rattle.decimal.specs.Decimal.{number_in}
@@ -32,7 +32,7 @@ use Rattle.csv_table.proofs.FieldLaws.{told-used, told-some, kind-bound, judged-
 module _ (n k i : ℕ) (vs : List ℕ) (p : ℕ) (s : List ℕ) where
   pub row_step : (v u : ℕ) → field_told i k (get_or vs 3 0) s ≡ record { fault = 0; value = v; used = u }
       → row_from (suc n) k i vs p s ≡ row_from n (suc k) i (set vs k v) (p + u) (drop u s)
-  unfolding row_from if◌then◌else◌
+  unfolding row_from when◌then◌else◌
   row_step v u e = rw e
 
   module _ (t : FieldTold) (e : t ≡ field_told i k (get_or vs 3 0) s) where
@@ -100,11 +100,11 @@ row-some i s =
 -- ---- how large the values are
 
 sense-kind : (i o : ℕ) (t : List ℕ) → (sense i 3 o t).value ≤ 3
-unfolding sense header_in if◌then◌else◌
+unfolding sense header_in when◌then◌else◌
 sense-kind i o t = split (λ (n : Number). n.value ≤ 3) (eqb i 0) (header_in 3 t) (kind_in t) (λ _. omega arith) (λ _. kind-bound t)
 
 sense-member : (i o : ℕ) (t : List ℕ) → (sense i 4 o t).value ≤ 4294967295
-unfolding sense header_in if◌then◌else◌
+unfolding sense header_in when◌then◌else◌
 sense-member i o t =
     split (λ (n : Number). n.value ≤ 4294967295) (eqb i 0) (header_in 4 t) (number_in 4294967295 t) (λ _. omega arith) (λ _. number_bound 4294967295 t)
 

@@ -15,7 +15,7 @@ use lib.Dec.{eqb}
 use lib.ListN.{length, get_or, set, drop, length-append}
 use lib.Seq.{drop_at}
 use borrow.Author.Tests.{eqb-true, eqb-false, eq-eqb, ne_eqb, not-false}
-use Rattle.numbers.specs.Words.{if◌then◌else◌, ◌and◌, ◌or◌}
+use Rattle.numbers.specs.Words.{when◌then◌else◌, ◌and◌, ◌or◌}
 use Rattle.numbers.proofs.WordLaws.{split, if-false, and_left}
 use Rattle.numbers.proofs.NumberLaws.{eq-or-not}
 use Rattle.decimal.specs.Decimal.{said}
@@ -42,25 +42,25 @@ pub record Closes (last : Bool) (z : List ℕ) : Type 0 where
   pub fits : eqb (ending z) 1 ≡ not last
 
 comma-ends : (z : List ℕ) → ending (comma ∷ z) ≡ 1
-unfolding if◌then◌else◌
+unfolding when◌then◌else◌
 comma-ends z = ending-cons comma z
 
 pub row_ends : (z : List ℕ) → ending (crlf ++ z) ≡ 2
-unfolding if◌then◌else◌ ◌and◌
+unfolding when◌then◌else◌ ◌and◌
 row_ends z = ending-cons 13 (10 ∷ z)
 
 pub file-ends : ending [] ≡ 3
-unfolding ending if◌then◌else◌
+unfolding ending when◌then◌else◌
 file-ends = refl
 
 closes-comma : (z : List ℕ) → Closes false (comma ∷ z)
-unfolding stretch stops ◌or◌ if◌then◌else◌
+unfolding stretch stops ◌or◌ when◌then◌else◌
 closes-comma z =
     let e = comma-ends z in
     record { short = refl; some = λ h. other 0 1 (omega arith) (sym h ∙ e); fits = eq-eqb _ _ e }
 
 closes-row : (z : List ℕ) → EndsRow z → Closes true z
-unfolding stretch stops ◌or◌ if◌then◌else◌
+unfolding stretch stops ◌or◌ when◌then◌else◌
 closes-row z =
     ⊎_elim
     (λ e. subst (Closes true) (sym e)
@@ -139,10 +139,10 @@ stop-at : (b c : ℕ) (z : List ℕ) → b ≡ c → stretch (c ∷ z) ≡ 0 →
 stop-at b c z e h = ap (λ (x : ℕ). stretch (x ∷ z)) e ∙ h
 
 ending-short : (z : List ℕ) → (ending z ≡ 0 → ⊥) → stretch z ≡ 0
-unfolding stretch stops ◌or◌ if◌then◌else◌
+unfolding stretch stops ◌or◌ when◌then◌else◌
 ending-short [] h = refl
 ending-short (b ∷ z) h =
-    split P (eqb b comma) 1 (if eqb b 13 and eqb (get_or z 0 0) 10 then 2 else 0) (λ q _. stop-at b comma z (eqb-true b comma q) refl)
+    split P (eqb b comma) 1 (when eqb b 13 and eqb (get_or z 0 0) 10 then 2 else 0) (λ q _. stop-at b comma z (eqb-true b comma q) refl)
     (λ _. split P (eqb b 13 and eqb (get_or z 0 0) 10) 2 0 (λ q _. stop-at b 13 z (eqb-true b 13 (and_left _ _ q)) refl) (λ _ g. absurd (g refl)))
     (λ e. h (ending-cons b z ∙ e))
   where
@@ -195,7 +195,7 @@ drop-comma a y =
     ∙ drop_at (a ++ comma ∷ []) y (length a + 1) (omega (arith, length-append a (comma ∷ [])))
 
 comma-size : (y : List ℕ) → ending_size (ending (comma ∷ y)) ≡ 1
-unfolding ending_size if◌then◌else◌
+unfolding ending_size when◌then◌else◌
 comma-size y = ap ending_size (comma-ends y)
 
 -- the last field, and one before others

@@ -14,7 +14,7 @@ use native.Mathlib.Omega.{arith}
 use lib.Dec.{eqb, leb}
 use lib.ListN.{length, get_or}
 use borrow.Author.Tests.{eqb-true, eq-eqb, ne_eqb, leb-true, le-leb}
-use Rattle.numbers.specs.Words.{if◌then◌else◌, ◌and◌}
+use Rattle.numbers.specs.Words.{when◌then◌else◌, ◌and◌}
 use Rattle.numbers.specs.Numbers.{within}
 use Rattle.numbers.proofs.WordLaws.{split, if-true, if-false, and_both, and-true}
 use Rattle.numbers.proofs.NumberLaws.{eq-or-not}
@@ -76,7 +76,7 @@ kind-says f =
 
 -- an operation that the entry rules know
 known : (o c : ℕ) → operation_ok o c ≡ true → (P : ℕ → Type 0) → P 1 → P 2 → P 3 → P o
-unfolding operation_ok if◌then◌else◌
+unfolding operation_ok when◌then◌else◌
 known o c h P p q r =
     ⊎_elim (λ e. subst P (sym e) p) (λ a.
     ⊎_elim (λ e. subst P (sym e) q) (λ b.
@@ -84,11 +84,11 @@ known o c h P p q r =
     (eq-or-not o 3)) (eq-or-not o 2)) (eq-or-not o 1)
 
 pub kind-said : (o c : ℕ) → operation_ok o c ≡ true → kind_in (kind_word o) ≡ said o
-unfolding kind_in kind_word same if◌then◌else◌ ◌and◌
+unfolding kind_in kind_word same when◌then◌else◌ ◌and◌
 kind-said o c h = known o c h (λ (k : ℕ). kind_in (kind_word k) ≡ said k) refl refl refl
 
 pub cents-most : (o c : ℕ) → operation_ok o c ≡ true → c ≤ 1000000
-unfolding operation_ok if◌then◌else◌ within
+unfolding operation_ok when◌then◌else◌ within
 cents-most o c h =
     known o c h (λ (k : ℕ). operation_ok k c ≡ true → c ≤ 1000000) (λ g. leb-true c 1000000 (and_both _ _ g).1) (λ g. leb-true c 1000000 (and_both _ _ g).1)
     (λ g. omega (arith, eqb-true c 0 g)) h
@@ -158,31 +158,31 @@ module _ (i o : ℕ) (f : List ℕ) where
   no_header = ne_eqb (suc i) 0 (λ e. omega arith)
 
   pub sense-op : sense (suc i) 0 o f ≡ row_op_in (suc i) f
-  unfolding sense if◌then◌else◌
+  unfolding sense when◌then◌else◌
   sense-op = if-false _ _ _ no_header
 
   pub sense-client : sense (suc i) 1 o f ≡ number_in 18446744073709551615 f
-  unfolding sense if◌then◌else◌
+  unfolding sense when◌then◌else◌
   sense-client = if-false _ _ _ no_header
 
   pub sense-request : sense (suc i) 2 o f ≡ number_in 18446744073709551615 f
-  unfolding sense if◌then◌else◌
+  unfolding sense when◌then◌else◌
   sense-request = if-false _ _ _ no_header
 
   pub sense-kind : sense (suc i) 3 o f ≡ kind_in f
-  unfolding sense if◌then◌else◌
+  unfolding sense when◌then◌else◌
   sense-kind = if-false _ _ _ no_header
 
   pub sense-member : sense (suc i) 4 o f ≡ number_in 4294967295 f
-  unfolding sense if◌then◌else◌
+  unfolding sense when◌then◌else◌
   sense-member = if-false _ _ _ no_header
 
   pub sense-cents : sense (suc i) 5 o f ≡ cents_in o f
-  unfolding sense if◌then◌else◌
+  unfolding sense when◌then◌else◌
   sense-cents = if-false _ _ _ no_header
 
 pub sense-header : (k o : ℕ) (f : List ℕ) → sense 0 k o f ≡ header_in k f
-unfolding sense if◌then◌else◌
+unfolding sense when◌then◌else◌
 sense-header k o f = refl
 
 as-there : (n m : Number) → n ≡ m → n.there ≡ true → m.there ≡ true

@@ -15,7 +15,7 @@ use lib.Dec.{eqb, leb}
 use lib.ListN.{length, get_or, take, drop, length-append, take-append-drop, get_or-eq_default}
 use lib.Seq.{take_at, drop_at, drop-cons, get_or_at, length-take-le}
 use borrow.Author.Tests.{leb-true, eqb-true, eq-eqb, ne_eqb, not-true}
-use Rattle.numbers.specs.Words.{if◌then◌else◌, ◌and◌, ◌or◌}
+use Rattle.numbers.specs.Words.{when◌then◌else◌, ◌and◌, ◌or◌}
 use Rattle.numbers.specs.Numbers.{within}
 use Rattle.numbers.proofs.WordLaws.{split, if-true, if-false, and_both, and-true, or_left}
 use Rattle.numbers.proofs.NumberLaws.{eq-or-not, le-or-lt}
@@ -90,7 +90,7 @@ stretch-free (b ∷ s) =
 
 -- ---- endings
 
-pub ending-cons : (b : ℕ) (z : List ℕ) → ending (b ∷ z) ≡ (if eqb b comma then 1 else if eqb b 13 and eqb (get_or z 0 0) 10 then 2 else 0)
+pub ending-cons : (b : ℕ) (z : List ℕ) → ending (b ∷ z) ≡ (when eqb b comma then 1 else when eqb b 13 and eqb (get_or z 0 0) 10 then 2 else 0)
 unfolding ending
 ending-cons b z = if-false _ _ _ (ne_eqb (suc (length z)) 0 (λ e. omega arith))
 
@@ -102,11 +102,11 @@ past m n h e = omega arith
 
 -- what stands behind a field that isn't the last: a comma
 pub ends-comma : (z : List ℕ) → ending z ≡ 1 → z ≡ comma ∷ drop 1 z
-unfolding ending if◌then◌else◌
+unfolding ending when◌then◌else◌
 ends-comma [] e = absurd (past 3 1 (omega arith) e)
 ends-comma (b ∷ z) e =
     let P : ℕ → Type 0 = λ (k : ℕ). k ≡ 1 → b ∷ z ≡ comma ∷ z in
-    split P (eqb b comma) 1 (if eqb b 13 and eqb (get_or z 0 0) 10 then 2 else 0) (λ q _. ap (λ (x : ℕ). x ∷ z) (eqb-true b comma q))
+    split P (eqb b comma) 1 (when eqb b 13 and eqb (get_or z 0 0) 10 then 2 else 0) (λ q _. ap (λ (x : ℕ). x ∷ z) (eqb-true b comma q))
     (λ _. split P (eqb b 13 and eqb (get_or z 0 0) 10) 2 0 (λ _ d. absurd (past 2 1 (omega arith) d)) (λ _ d. absurd (other 0 1 (omega arith) d)))
     (sym (ending-cons b z) ∙ e)
 
@@ -116,11 +116,11 @@ second [] e = absurd (other 0 10 (omega arith) e)
 second (c ∷ z) e = ap (λ (x : ℕ). x ∷ z) e
 
 pub ends-row : (z : List ℕ) → ending z ≡ 2 → z ≡ crlf ++ drop 2 z
-unfolding ending if◌then◌else◌
+unfolding ending when◌then◌else◌
 ends-row [] e = absurd (past 3 2 (omega arith) e)
 ends-row (b ∷ z) e =
     let P : ℕ → Type 0 = λ (k : ℕ). k ≡ 2 → b ∷ z ≡ 13 ∷ 10 ∷ drop 1 z in
-    split P (eqb b comma) 1 (if eqb b 13 and eqb (get_or z 0 0) 10 then 2 else 0) (λ _ d. absurd (other 1 2 (omega arith) d))
+    split P (eqb b comma) 1 (when eqb b 13 and eqb (get_or z 0 0) 10 then 2 else 0) (λ _ d. absurd (other 1 2 (omega arith) d))
     (λ _. split P (eqb b 13 and eqb (get_or z 0 0) 10) 2 0
     (λ q _. let p = and_both (eqb b 13) (eqb (get_or z 0 0) 10) q in λ i. eqb-true b 13 p.0 i ∷ second z (eqb-true (get_or z 0 0) 10 p.1) i)
     (λ _ d. absurd (other 0 2 (omega arith) d)))
@@ -130,7 +130,7 @@ pub ends-file : (z : List ℕ) → ending z ≡ 3 → z ≡ []
 ends-file [] e = refl
 ends-file (b ∷ z) e =
     let P : ℕ → Type 0 = λ (k : ℕ). k ≡ 3 → b ∷ z ≡ [] in
-    split P (eqb b comma) 1 (if eqb b 13 and eqb (get_or z 0 0) 10 then 2 else 0) (λ _ d. absurd (other 1 3 (omega arith) d))
+    split P (eqb b comma) 1 (when eqb b 13 and eqb (get_or z 0 0) 10 then 2 else 0) (λ _ d. absurd (other 1 3 (omega arith) d))
     (λ _. split P (eqb b 13 and eqb (get_or z 0 0) 10) 2 0 (λ _ d. absurd (other 2 3 (omega arith) d)) (λ _ d. absurd (other 0 3 (omega arith) d)))
     (sym (ending-cons b z) ∙ e)
 
@@ -161,7 +161,7 @@ quotes-length : (f : List ℕ) → length (quote ∷ f ++ quote ∷ []) ≡ 2 + 
 quotes-length f = omega (arith, length-append (quote ∷ f) (quote ∷ []))
 
 quoted-is : (f z : List ℕ) → all_of free f ≡ true → field_at_front (quote ∷ f ++ quote ∷ z) ≡ field_as 1 (length f) 1 (ending z)
-unfolding field_at_front quoted_field stretch stops ◌or◌ if◌then◌else◌
+unfolding field_at_front quoted_field stretch stops ◌or◌ when◌then◌else◌
 quoted-is f z h =
     let n : stretch (f ++ quote ∷ z) ≡ length f = stretch-at f (quote ∷ z) h refl in
     let g : get_or (quote ∷ f ++ quote ∷ z) (1 + length f) 0 ≡ quote = get_or_at (quote ∷ f) quote z 0 (1 + length f) (omega arith) in
@@ -258,7 +258,7 @@ quoted-sound s q h =
     q
 
 pub field-sound : (s : List ℕ) → ((field_at_front s).ends ≡ 0 → ⊥) → Stands s
-unfolding field_at_front if◌then◌else◌
+unfolding field_at_front when◌then◌else◌
 field-sound [] h = plain-sound [] refl
 field-sound (b ∷ s) h =
     ⊎_elim

@@ -2,7 +2,7 @@
 -- first bad row, the header being 1, the column of its first bad field, what is wrong with that, and where in the file it begins. Refusals in their order: in export 2,
 -- an entry outside its rules; in import 13; 9, the result doesn't fit. Assumes nothing.
 use Rattle.std.specs.Prelude.{not, List, ℕ, ◌+◌, ◌-◌, ◌*◌, eqb, ltb, length}
-use Rattle.numbers.specs.Words.{if◌then◌else◌}
+use Rattle.numbers.specs.Words.{when◌then◌else◌}
 use Rattle.numbers.specs.Numbers.{over}
 use Rattle.numbers.specs.Cells.{packed}
 use Rattle.entries.specs.Entries.{encode_entry, entries, run_count, run_ok}
@@ -25,13 +25,13 @@ not_exported k area = record { answer = record { code = k; bytes = 0 }; area = a
 -- a text over the front of the area, where it fits
 unfoldable pub exporting : (text area : List ℕ) → LeftExported
 exporting t area =
-    if ltb (length area) (length t) then not_exported 9 area else
+    when ltb (length area) (length t) then not_exported 9 area else
     record { answer = record { code = 0; bytes = length t }; area = over t area }
 
 -- the table of a run of entries
 unfoldable pub export_call : (run area : List ℕ) → LeftExported
 export_call run area =
-    if not (run_ok run) then not_exported 2 area else
+    when not (run_ok run) then not_exported 2 area else
     exporting (exported (entries (run_count run) run)) area
 
 -- ---- import
@@ -46,12 +46,12 @@ not_imported c r k f p area = record { answer = record { code = c; entries = 0; 
 -- entries over the front of the area, 32 bytes each, where they fit
 unfoldable pub importing : List Entry → (area : List ℕ) → LeftImported
 importing es area =
-    if ltb (length area) (32 * length es) then not_imported 9 0 0 0 0 area else
+    when ltb (length area) (32 * length es) then not_imported 9 0 0 0 0 area else
     record { answer = record { code = 0; entries = length es; row = 0; column = 0; fault = 0; offset = 0 }; area = over (packed encode_entry es) area }
 
 unfoldable pub import_scanned : Scanned → (file area : List ℕ) → LeftImported
 import_scanned t file area =
-    if not (eqb t.fault 0) then not_imported 13 (t.rows + 1) t.column t.fault t.offset area else
+    when not (eqb t.fault 0) then not_imported 13 (t.rows + 1) t.column t.fault t.offset area else
     importing (table_entries (t.rows - 1) file) area
 
 unfoldable pub import_call : (file area : List ℕ) → LeftImported

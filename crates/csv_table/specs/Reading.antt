@@ -1,7 +1,7 @@
 -- How a file is read: six fields a row, row after row up to the first bad one, until nothing is left. Rows and fields count from 0 here, row 0 being the header
 -- and row i that of op i. Assumes nothing.
 use Rattle.std.specs.Prelude.{not, List, [], ◌∷◌, ℕ, zero, suc, ◌+◌, eqb, length, get_or, set, drop, replicate}
-use Rattle.numbers.specs.Words.{if◌then◌else◌}
+use Rattle.numbers.specs.Words.{when◌then◌else◌}
 use Rattle.entries.specs.declared.Entry.{Entry}
 use Rattle.csv_table.specs.Fields.{field_told}
 use Rattle.csv_table.specs.declared.RowRead.{RowRead}
@@ -27,7 +27,7 @@ unfoldable pub row_from : (n k i : ℕ) (vs : List ℕ) (p : ℕ) (s : List ℕ)
 row_from zero k i vs p s = good_row p vs
 row_from (suc n) k i vs p s =
     let t = field_told i k (get_or vs 3 0) s in
-    if eqb t.fault 0 then row_from n (suc k) i (set vs k t.value) (p + t.used) (drop t.used s) else
+    when eqb t.fault 0 then row_from n (suc k) i (set vs k t.value) (p + t.used) (drop t.used s) else
     bad_row t.fault (k + 1) p
 
 -- row i, at the front
@@ -44,8 +44,8 @@ scanned_after zero i p s = scanned_as i 0 0 0
 scanned_after (suc n) i p s =
     let r = row_in i s in
     let rest = drop r.used s in
-    if not (eqb r.fault 0) then scanned_as i r.fault r.column (p + r.place) else
-    if eqb (length rest) 0 then scanned_as (suc i) 0 0 0 else
+    when not (eqb r.fault 0) then scanned_as i r.fault r.column (p + r.place) else
+    when eqb (length rest) 0 then scanned_as (suc i) 0 0 0 else
     scanned_after n (suc i) (p + r.used) rest
 
 unfoldable pub scanned : (file : List ℕ) → Scanned

@@ -2,7 +2,7 @@
 -- bytes, which are 32 to 126 and no quote and no comma; or quoted: it stands between two quotes, may hold commas, CR and LF too, and each quote of it is
 -- written twice. Assumes nothing.
 use Rattle.std.specs.Prelude.{◌≡◌, Bool, true, not, List, [], ◌∷◌, ◌++◌, ◌⊎◌, ℕ, eqb}
-use Rattle.numbers.specs.Words.{if◌then◌else◌, ◌and◌, ◌or◌}
+use Rattle.numbers.specs.Words.{when◌then◌else◌, ◌and◌, ◌or◌}
 use Rattle.numbers.specs.Numbers.{within}
 
 abbrev pub quote : ℕ
@@ -28,7 +28,7 @@ all_of p (b ∷ s) = p b and all_of p s
 -- each quote twice
 unfoldable pub quotes_doubled : List ℕ → List ℕ
 quotes_doubled [] = []
-quotes_doubled (b ∷ s) = if eqb b quote then quote ∷ quote ∷ quotes_doubled s else b ∷ quotes_doubled s
+quotes_doubled (b ∷ s) = when eqb b quote then quote ∷ quote ∷ quotes_doubled s else b ∷ quotes_doubled s
 
 unfoldable pub quoted : List ℕ → List ℕ
 quoted f = quote ∷ quotes_doubled f ++ quote ∷ []

@@ -1,7 +1,7 @@
 -- Document 02, the treasurer's table of entries: a header row `op,client,request,kind,member,cents`, then a row for each entry: op running 1, 2, 3, and the
 -- entry's numbers in decimal without leading zeros, the kind as fee, refund or ask. Export writes it with no quotes and every CRLF. Assumes nothing.
 use Rattle.std.specs.Prelude.{List, [], ◌∷◌, ◌++◌, ℕ, suc, eqb}
-use Rattle.numbers.specs.Words.{if◌then◌else◌, All}
+use Rattle.numbers.specs.Words.{when◌then◌else◌, All}
 use Rattle.numbers.specs.Cells.{packed}
 use Rattle.entries.specs.Entries.{Sendable}
 use Rattle.entries.specs.declared.Entry.{Entry}
@@ -22,8 +22,8 @@ header_words =
 -- the word of an operation's number: fee, refund, ask
 unfoldable pub kind_word : ℕ → List ℕ
 kind_word k =
-    if eqb k 1 then 102 ∷ 101 ∷ 101 ∷ [] else
-    if eqb k 2 then 114 ∷ 101 ∷ 102 ∷ 117 ∷ 110 ∷ 100 ∷ [] else
+    when eqb k 1 then 102 ∷ 101 ∷ 101 ∷ [] else
+    when eqb k 2 then 114 ∷ 101 ∷ 102 ∷ 117 ∷ 110 ∷ 100 ∷ [] else
     97 ∷ 115 ∷ 107 ∷ []
 
 -- the fields of the entry with this op

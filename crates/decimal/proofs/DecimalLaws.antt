@@ -14,7 +14,7 @@ use native.Mathlib.Nat.{pow-succ'}
 use borrow.Author.Tests.{leb-true, le-leb, ne_eqb, eqb-false, not-true}
 use lib.Dec.{leb}
 use lib.ListN.{length, get_or, get_or-append}
-use Rattle.numbers.specs.Words.{if◌then◌else◌, ◌and◌}
+use Rattle.numbers.specs.Words.{when◌then◌else◌, ◌and◌}
 use Rattle.numbers.specs.Numbers.{within}
 use Rattle.numbers.proofs.WordLaws.{split, and_both}
 use Rattle.numbers.proofs.NumberLaws.{within_both, both-within}
@@ -155,7 +155,7 @@ value-decimal (b ∷ c ∷ s) e =
 -- ---- what a text says
 
 pub number-of-decimal : (most n : ℕ) → n ≤ most → number_in most (decimal n) ≡ said n
-unfolding number_in if◌then◌else◌ ◌and◌
+unfolding number_in when◌then◌else◌ ◌and◌
 number-of-decimal most n h = rw (decimal-is n, decimal-value n, le-leb n most h)
 
 pub number-there : (most : ℕ) (s : List ℕ) → (number_in most s).there ≡ true → (decimal (number_in most s).value ≡ s) × ((number_in most s).value ≤ most)

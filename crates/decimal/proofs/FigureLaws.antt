@@ -10,16 +10,16 @@ use Prim.Native.Nat.{ℕ, zero, suc, ◌+◌, ◌/◌, ◌%◌, ◌≤◌, ◌<�
 use native.Mathlib.Omega.{arith}
 use borrow.Author.Tests.{lt-ltb, le-ltb}
 use lib.ListN.{length, length-append}
-use Rattle.numbers.specs.Words.{if◌then◌else◌}
+use Rattle.numbers.specs.Words.{when◌then◌else◌}
 use Rattle.numbers.proofs.NumberLaws.{le-or-lt}
 use Rattle.decimal.specs.Decimal.{figure, figures, decimal}
 
 figures-one : (k n : ℕ) → n < 10 → figures (suc k) n ≡ figure n ∷ []
-unfolding figures if◌then◌else◌
+unfolding figures when◌then◌else◌
 figures-one k n h = rw (lt-ltb n 10 h)
 
 figures-more : (k n : ℕ) → 10 ≤ n → figures (suc k) n ≡ figures k (n / 10) ++ figure (n % 10) ∷ []
-unfolding figures if◌then◌else◌
+unfolding figures when◌then◌else◌
 figures-more k n h = rw (le-ltb n 10 h)
 
 -- a number of two figures or more, or of one

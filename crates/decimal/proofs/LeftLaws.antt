@@ -16,7 +16,7 @@ use borrow.Author.Tests.{le-leb, lt-leb}
 use lib.Dec.{leb}
 use lib.ListN.{length, get_or, drop}
 use lib.Seq.{drop-cons, drop-length}
-use Rattle.numbers.specs.Words.{if◌then◌else◌, ◌and◌}
+use Rattle.numbers.specs.Words.{when◌then◌else◌, ◌and◌}
 use Rattle.numbers.specs.Numbers.{within}
 use Rattle.numbers.proofs.WordLaws.{and-false}
 use Rattle.numbers.proofs.NumberLaws.{both-within}
@@ -25,19 +25,19 @@ use Rattle.decimal.specs.Decimal.{value_from, all_figures, leading_zero, is_deci
 -- ---- when a text says no number
 
 pub empty-none : (most : ℕ) (s : List ℕ) → length s ≡ 0 → number_in most s ≡ no_number
-unfolding number_in is_decimal if◌then◌else◌ ◌and◌
+unfolding number_in is_decimal when◌then◌else◌ ◌and◌
 empty-none most s h = rw (lt-leb 1 (length s) (omega arith))
 
 pub leading-none : (most : ℕ) (s : List ℕ) → leading_zero s ≡ true → number_in most s ≡ no_number
-unfolding number_in is_decimal if◌then◌else◌ ◌and◌
+unfolding number_in is_decimal when◌then◌else◌ ◌and◌
 leading-none most s h = rw (h, and-false (leb 1 (length s)) false refl)
 
 byte-none : (most : ℕ) (s : List ℕ) → all_figures s ≡ false → number_in most s ≡ no_number
-unfolding number_in is_decimal if◌then◌else◌ ◌and◌
+unfolding number_in is_decimal when◌then◌else◌ ◌and◌
 byte-none most s h = rw (h, and-false (not (leading_zero s)) false refl, and-false (leb 1 (length s)) false refl)
 
 above-none : (most : ℕ) (s : List ℕ) → most < value_from 0 s → number_in most s ≡ no_number
-unfolding number_in if◌then◌else◌
+unfolding number_in when◌then◌else◌
 above-none most s h = rw (lt-leb (value_from 0 s) most h, and-false (is_decimal s) false refl)
 
 -- ---- what is left
@@ -87,7 +87,7 @@ next-none most s i x h g l =
     above-none most s (omega (arith, value-next s i x h l, value_grows (10 * x + (get_or s i 0 - 48)) (drop (suc i) s)))
 
 pub left-all : (most : ℕ) (s : List ℕ) (i x : ℕ) → i ≡ length s → 1 ≤ length s → leading_zero s ≡ false → x ≤ most → Left s x i → said x ≡ number_in most s
-unfolding number_in is_decimal all_figures value_from if◌then◌else◌ ◌and◌
+unfolding number_in is_decimal all_figures value_from when◌then◌else◌ ◌and◌
 left-all most s i x e h z b l =
     let d : drop i s ≡ [] = rw e (drop-length s) in
     let f : all_figures s ≡ true = l.figures-left ∙ rw d in

@@ -1,7 +1,7 @@
 -- Document 02, "decimal without leading zeros": a number as the figures 0 to 9, the bytes 48 to 57, the highest first; no figure 0 in front of others.
 -- One definition serves numbers of any width: a bound, 2^64-1 or 2^32-1, is a number beside it. Assumes nothing.
 use Rattle.std.specs.Prelude.{Bool, true, false, not, List, [], ◌∷◌, ◌++◌, ℕ, zero, suc, ◌+◌, ◌-◌, ◌*◌, ◌/◌, ◌%◌, eqb, leb, ltb, length, get_or}
-use Rattle.numbers.specs.Words.{if◌then◌else◌, ◌and◌}
+use Rattle.numbers.specs.Words.{when◌then◌else◌, ◌and◌}
 use Rattle.numbers.specs.Numbers.{within}
 use Rattle.decimal.specs.declared.Number.{Number}
 
@@ -12,7 +12,7 @@ figure d = 48 + d
 -- the figures of n, where it has at most so many: those of n / 10, if there are any, and the last
 unfoldable pub figures : (most n : ℕ) → List ℕ
 figures zero n = []
-figures (suc k) n = if ltb n 10 then figure n ∷ [] else figures k (n / 10) ++ figure (n % 10) ∷ []
+figures (suc k) n = when ltb n 10 then figure n ∷ [] else figures k (n / 10) ++ figure (n % 10) ∷ []
 
 -- a number in decimal; n + 1 figures are always enough
 unfoldable pub decimal : ℕ → List ℕ
@@ -44,5 +44,5 @@ no_number = record { there = false; value = 0 }
 
 unfoldable pub number_in : (most : ℕ) → List ℕ → Number
 number_in most s =
-    if is_decimal s and leb (value_from 0 s) most then said (value_from 0 s) else
+    when is_decimal s and leb (value_from 0 s) most then said (value_from 0 s) else
     no_number

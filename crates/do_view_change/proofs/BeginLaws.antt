@@ -8,7 +8,7 @@ use native.Mathlib.Nat.{mul-le-mul}
 use native.Mathlib.Omega.{arith}
 use lib.ListN.{length, take, drop, replicate, length-take, length-drop, length-append, length-replicate, replicate-append-replicate}
 use lib.Seq.{take_at, drop_at, length-take-le}
-use Rattle.numbers.specs.Words.{if◌then◌else◌}
+use Rattle.numbers.specs.Words.{when◌then◌else◌}
 use Rattle.numbers.specs.Numbers.{over, put_at, Wrote}
 use Rattle.numbers.proofs.WordLaws.{split, split₂}
 use Rattle.numbers.proofs.RunLaws.{over-lend, over-nil, length_over, put-part}
@@ -39,19 +39,19 @@ use Rattle.do_view_change.specs.Begin.{calls_first, first_length, start_views_le
 
 module _ (first : Bool) (t : Replica) where
   pub calls-counted : first ≡ true → calls_length t ≡ first_length first t
-  unfolding first_length if◌then◌else◌
+  unfolding first_length when◌then◌else◌
   calls-counted h = rw h
 
   pub none-counted : first ≡ false → 0 ≡ first_length first t
-  unfolding first_length if◌then◌else◌
+  unfolding first_length when◌then◌else◌
   none-counted h = rw h
 
   pub calls-go : (out o : List ℕ) (k : ℕ) → first ≡ true → Wrote (calls_of t t.view) out o k → Wrote (calls_first first t) out o k
-  unfolding calls_first if◌then◌else◌
+  unfolding calls_first when◌then◌else◌
   calls-go out o k h q = rw h q
 
   pub none-go : (out : List ℕ) → first ≡ false → Wrote (calls_first first t) out out 0
-  unfolding calls_first if◌then◌else◌
+  unfolding calls_first when◌then◌else◌
   none-go out h = rw h (record { bytes = over-nil out; count = refl })
 
   module _ (ok : setup_ok t.setup ≡ true) where

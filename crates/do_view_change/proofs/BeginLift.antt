@@ -2,7 +2,7 @@
 --     begun-messages, begun-replies    how many bytes go out
 --     begun-did                        what it leaves
 -- Assumes nothing.
-use Prim.Native.Nat.{ℕ, ◌+◌, ◌-◌, ◌*◌, ◌≤◌}
+use Prim.Native.Nat.{ℕ, ◌+◌, ◌*◌, ◌≤◌}
 use native.Mathlib.Nat.{zero-add}
 use native.Mathlib.Omega.{arith}
 use mathlib.Core.Path.{◌≡◌, refl, sym, ap, ◌∙◌, subst}
@@ -10,7 +10,7 @@ use mathlib.Core.Bool.{Bool, true, false}
 use mathlib.Core.List.{List, ◌++◌}
 use lib.ListN.{length, take, length-append, length-replicate}
 use lib.Seq.{take_at, length-take-le}
-use Rattle.numbers.specs.Words.{if◌then◌else◌}
+use Rattle.numbers.specs.Words.{when◌then◌else◌}
 use Rattle.numbers.specs.Numbers.{over, put_at, Bytes}
 use Rattle.numbers.specs.Cells.{packed}
 use Rattle.numbers.specs.declared.Op.{Op}
@@ -156,7 +156,7 @@ module _ (c : Given) (t : Replica) (table : List ClientEntry) (applied : List En
     -- ---- the state
 
     store_is : store_of u c.runs.stored ≡ cleared_store t.setup m
-    unfolding model_of store_of cleared_store no_reports is_recovering if◌then◌else◌
+    unfolding model_of store_of cleared_store no_reports is_recovering when◌then◌else◌
     store_is = rw (reports-cleared t.setup c.runs.stored (sized t.setup h.gathering.sound.sized).seven, h.looks)
 
     own-acks-long : length (own_acks u) ≡ length c.runs.acks

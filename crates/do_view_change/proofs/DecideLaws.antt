@@ -11,7 +11,7 @@ use Prim.Native.Nat.{ℕ, ◌+◌, ◌*◌, ◌≤◌, ◌<◌}
 use native.Mathlib.Omega.{arith}
 use lib.Dec.{ltb}
 use borrow.Author.Tests.{lt-ltb, le-ltb, ltb-false}
-use Rattle.numbers.specs.Words.{if◌then◌else◌}
+use Rattle.numbers.specs.Words.{when◌then◌else◌}
 use Rattle.numbers.specs.declared.Op.{Op}
 use Rattle.numbers.proofs.WordLaws.{split}
 use Rattle.book.proofs.LogLaws.{keeps-prefix}
@@ -31,25 +31,25 @@ use Rattle.do_view_change.specs.declared.Decision.TheVariants.{Keep, No, Start}
 
 module _ (t : Replica) (first : Bool) (area replies k : ℕ) (ek : k ≡ first_length first t) where
   pub wait-short : area < k → No 9 ≡ decided_by Wait t first area replies
-  unfolding decided_by if◌then◌else◌
+  unfolding decided_by when◌then◌else◌
   wait-short h = rw (← ek, lt-ltb area k h)
 
   pub wait-keeps : k ≤ area → Keep ≡ decided_by Wait t first area replies
-  unfolding decided_by if◌then◌else◌
+  unfolding decided_by when◌then◌else◌
   wait-keeps h = rw (← ek, le-ltb area k h)
 
   module _ (best : Best) (g : Op) (m : ℕ) (em : m ≡ start_views_length (entered t best.report.op)) where
     pub begin-short : area < k + m → No 9 ≡ decided_by (Begin best g) t first area replies
-    unfolding decided_by if◌then◌else◌
+    unfolding decided_by when◌then◌else◌
     begin-short h = rw (← ek, ← em, lt-ltb area (k + m) h)
 
     module _ (h : k + m ≤ area) (w : ℕ) (ew : w ≡ 36 * owed t g) where
       pub begin-owes : replies < w → No 10 ≡ decided_by (Begin best g) t first area replies
-      unfolding decided_by if◌then◌else◌
+      unfolding decided_by when◌then◌else◌
       begin-owes l = rw (← ek, ← em, le-ltb area (k + m) h, ← ew, lt-ltb replies w l)
 
       pub begin-starts : w ≤ replies → Start best g ≡ decided_by (Begin best g) t first area replies
-      unfolding decided_by if◌then◌else◌
+      unfolding decided_by when◌then◌else◌
       begin-starts l = rw (← ek, ← em, le-ltb area (k + m) h, ← ew, le-ltb replies w l)
 
 -- what a decision says

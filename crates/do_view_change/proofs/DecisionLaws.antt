@@ -6,7 +6,7 @@ use mathlib.Core.List.{List, []}
 use Prim.Native.Nat.{ℕ, ◌+◌, ◌*◌}
 use lib.Dec.{ltb}
 use lib.ListN.{take}
-use Rattle.numbers.specs.Words.{if◌then◌else◌, ◌or◌}
+use Rattle.numbers.specs.Words.{when◌then◌else◌, ◌or◌}
 use Rattle.numbers.specs.declared.Op.{Op}
 use Rattle.config.specs.Replicas.{quorum_of}
 use Rattle.frames.specs.Numbered.{numbered}
@@ -25,29 +25,29 @@ use Rattle.do_view_change.specs.declared.Decision.{Decision}
 use Rattle.do_view_change.specs.declared.Decision.TheVariants.{Keep, No, Start}
 
 -- below a quorum
-waits : (short : Bool) → decision_number (if short then No 9 else Keep) ≡ (if short then numbered 9 [] else numbered 0 [])
-unfolding if◌then◌else◌
+waits : (short : Bool) → decision_number (when short then No 9 else Keep) ≡ (when short then numbered 9 [] else numbered 0 [])
+unfolding when◌then◌else◌
 waits true = refl
 waits false = refl
 
 -- with a log to begin with
 begins : (best : Best) (g : Op) (short owes : Bool)
-    → decision_number (if short then No 9 else if owes then No 10 else Start best g)
-    ≡ (if short then numbered 9 [] else if owes then numbered 10 [] else numbered 0 (best_values best g.0))
-unfolding if◌then◌else◌
+    → decision_number (when short then No 9 else when owes then No 10 else Start best g)
+    ≡ (when short then numbered 9 [] else when owes then numbered 10 [] else numbered 0 (best_values best g.0))
+unfolding when◌then◌else◌
 begins best g true o = refl
 begins best g false true = refl
 begins best g false false = refl
 
 module _ (t : Replica) (first : Bool) (a b : ℕ) where
   by_tests : (best : Best) (g : Op) (few past keeps : Bool)
-      → decision_number (decided_by (if few then Wait else if past then Refuse else if keeps then Begin best g else Refuse) t first a b)
-      ≡ (if few then (if ltb a (first_length first t) then numbered 9 [] else numbered 0 []) else
-      if past or not keeps then numbered 7 [] else
-      if ltb a (first_length first t + start_views_length (entered t best.report.op)) then numbered 9 [] else
-      if ltb b (36 * owed t g) then numbered 10 [] else
+      → decision_number (decided_by (when few then Wait else when past then Refuse else when keeps then Begin best g else Refuse) t first a b)
+      ≡ (when few then (when ltb a (first_length first t) then numbered 9 [] else numbered 0 []) else
+      when past or not keeps then numbered 7 [] else
+      when ltb a (first_length first t + start_views_length (entered t best.report.op)) then numbered 9 [] else
+      when ltb b (36 * owed t g) then numbered 10 [] else
       numbered 0 (best_values best g.0))
-  unfolding decided_by if◌then◌else◌ ◌or◌
+  unfolding decided_by when◌then◌else◌ ◌or◌
   by_tests best g true past keeps = waits (ltb a (first_length first t))
   by_tests best g false true keeps = refl
   by_tests best g false false false = refl

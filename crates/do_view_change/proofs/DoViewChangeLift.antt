@@ -14,7 +14,7 @@ use mathlib.Core.List.{List, [], ◌++◌}
 use lib.Dec.{ltb, eqb}
 use lib.ListN.{length, get_or, take, replicate, length-append}
 use lib.Seq.{length-take-le}
-use Rattle.numbers.specs.Words.{if◌then◌else◌}
+use Rattle.numbers.specs.Words.{when◌then◌else◌}
 use Rattle.numbers.specs.Numbers.{over, Bytes}
 use Rattle.numbers.specs.Cells.{packed}
 use Rattle.numbers.specs.declared.View.{View}
@@ -58,11 +58,11 @@ use Rattle.reports.proofs.StoredLift.{StoredOk}
 
 -- nothing goes out first, and StartViewChange of the view that is changed to
 pub first-none : (t : Replica) → First t false []
-unfolding calls_first first_length if◌then◌else◌ messages_out packed
+unfolding calls_first first_length when◌then◌else◌ messages_out packed
 first-none t = record { bytes = refl; long = refl }
 
 pub first-calls : (c : Given) (t : Replica) → Changing c t → First t true (send_start_view_change t.setup t.view.0)
-unfolding calls_first first_length if◌then◌else◌ send_start_view_change
+unfolding calls_first first_length when◌then◌else◌ send_start_view_change
 first-calls c t h =
     record {
       bytes = bare-bytes t.setup (StartViewChange t.view t.setup.id);
@@ -129,7 +129,7 @@ module _ (c : Given) (t : Replica) (table : List ClientEntry) (applied : List En
 
   pub said-shown : (ms : List Sent) (w : List ℕ) (k : ℕ) → messages_out ms ≡ w → length w ≡ k
       → Shown c
-      (of_spoke c (if ltb (length c.out) k then spoke (refusal 9 c.state) c.out else spoke (completed t k 0 false) (over w c.out)))
+      (of_spoke c (when ltb (length c.out) k then spoke (refusal 9 c.state) c.out else spoke (completed t k 0 false) (over w c.out)))
       (model_of c.state c.runs table applied).book
       (fitted (length c.out) (length c.reps) (done (model_of t c.runs table applied) ms []))
   said-shown =

@@ -17,7 +17,7 @@ use Rattle.numbers.specs.declared.Op.{Op}
 use Rattle.numbers.proofs.NumberLaws.{eq-or-not}
 use Rattle.config.specs.Setup.{setup_ok}
 use Rattle.config.proofs.SetupLaws.{sized}
-use Rattle.book.specs.Memory.{money, runs, Memory, memory}
+use Rattle.book.specs.Memory.{money, Memory, memory}
 use Rattle.book.proofs.LogLaws.{with-length}
 use Rattle.state.specs.State.{with_reports}
 use Rattle.state.specs.Statuses.{no_report}

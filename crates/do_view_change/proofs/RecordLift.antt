@@ -10,7 +10,7 @@ use mathlib.Core.Option.{Option}
 use lib.Dec.{ltb}
 use lib.ListN.{length, get_or, set, take}
 use borrow.Author.Tests.{ltb-false}
-use Rattle.numbers.specs.Words.{if◌then◌else◌}
+use Rattle.numbers.specs.Words.{when◌then◌else◌}
 use Rattle.numbers.specs.Numbers.{over, Bytes}
 use Rattle.numbers.specs.Cells.{packed}
 use Rattle.numbers.specs.declared.View.{View}
@@ -59,8 +59,8 @@ use Rattle.reports.proofs.ChosenLift.{run-bytes, keeps-chosen}
 use Rattle.do_view_change.proofs.BeginLift.{memory_of, of_recorded, Changing, First, begun-messages, begun-replies, begun-did}
 
 -- the two causes of refusal 7, in either order
-swapped : {A : Type 0} (a b : Bool) (x y : A) → (if not a then x else if b then x else y) ≡ (if b then x else if a then y else x)
-unfolding if◌then◌else◌
+swapped : {A : Type 0} (a b : Bool) (x y : A) → (when not a then x else when b then x else y) ≡ (when b then x else when a then y else x)
+unfolding when◌then◌else◌
 swapped true true x y = refl
 swapped true false x y = refl
 swapped false true x y = refl
@@ -158,7 +158,7 @@ module _ (c : Given) (t : Replica) (table : List ClientEntry) (applied : List En
     wait-shown : Agree Wait (done next ms [])
     unfolding decided_by by_decision
     wait-shown =
-        subst (Shown c (by (if ltb (length c.out) (first_length first t) then No 9 else Keep)) book)
+        subst (Shown c (by (when ltb (length c.out) (first_length first t) then No 9 else Keep)) book)
         (sym (sends-only (length c.out) (length c.reps) next ms))
         (split₂ (λ (z : Decision) (a : Answer). Shown c (by z) book a) _ _ _ _ _ _ (ap (ltb (length c.out)) (sym first-long))
         (λ _. no-shown 9) (λ _. wait-did))
@@ -207,12 +207,12 @@ module _ (c : Given) (t : Replica) (table : List ClientEntry) (applied : List En
     begins = done begun (ms ++ start_view_to_others u begun) (commit_replies m.place.view anew g.0)
 
     start_is : start_view u next (entries bo.0 part) g.0 ms
-        ≡ (if ltb bo.0 g.0 then refused 7 else if keep then begins else refused 7)
+        ≡ (when ltb bo.0 g.0 then refused 7 else when keep then begins else refused 7)
     unfolding start_view report_noted set_store started_with enter_normal cleared_store
     start_is =
         (λ i.
-        if not (keep-is i) then refused 7 else
-        if ltb (cells-length 32 entry_of bo.0 part i) g.0 then refused 7 else
+        when not (keep-is i) then refused 7 else
+        when ltb (cells-length 32 entry_of bo.0 part i) g.0 then refused 7 else
         begins)
         ∙ swapped keep (ltb bo.0 g.0) (refused 7) begins
 

@@ -4,16 +4,16 @@
 --     moved-gathers, moved_told, report-told                           what record_frame asks
 --     too-old, not_ours, moves, tells-view, gathers                    each way out of on_do_view_change
 -- Assumes nothing.
-use mathlib.Core.Path.{◌≡◌, refl, sym, ap, ◌∙◌, subst}
+use mathlib.Core.Path.{◌≡◌, sym, ap, ◌∙◌, subst}
 use mathlib.Core.Bool.{Bool, true, false, not}
 use mathlib.Core.List.{List, ◌++◌}
-use Prim.Native.Nat.{ℕ, zero, suc, ◌+◌, ◌-◌, ◌*◌, ◌≤◌, ◌<◌}
+use Prim.Native.Nat.{ℕ, ◌+◌, ◌-◌, ◌*◌, ◌≤◌, ◌<◌}
 use native.Mathlib.Omega.{arith}
 use lib.Dec.{eqb}
-use lib.ListN.{length, take, drop, replicate, length-take, length-drop}
+use lib.ListN.{length, take, drop, length-take, length-drop}
 use lib.Seq.{length-take-le}
 use borrow.Author.Tests.{lt-ltb, le-ltb, eq-eqb, ne_eqb}
-use Rattle.numbers.specs.Words.{if◌then◌else◌}
+use Rattle.numbers.specs.Words.{when◌then◌else◌}
 use Rattle.numbers.specs.Numbers.{Wrote}
 use Rattle.numbers.specs.declared.View.{View}
 use Rattle.numbers.specs.declared.Op.{Op}
@@ -25,14 +25,14 @@ use Rattle.frames.specs.declared.Message.TheVariants.{DoViewChange}
 use Rattle.writers.specs.Writers.{encode, size_of, length_of}
 use Rattle.writers.proofs.WriterLaws.{encode-length}
 use Rattle.state.specs.State.{leads, changing_to}
-use Rattle.state.specs.Statuses.{no_report, is_normal}
+use Rattle.state.specs.Statuses.{is_normal}
 use Rattle.state.specs.Answers.{refusal, completed, quiet}
 use Rattle.state.specs.declared.Returned.{Returned}
 use Rattle.state.specs.declared.Replica.{Replica}
 use Rattle.state.specs.declared.Report.{Report}
 use Rattle.state.proofs.SoundLaws.{none-gathered}
 use Rattle.steps.specs.Steps.{spoke}
-use Rattle.book.specs.Memory.{runs, Memory}
+use Rattle.book.specs.Memory.{Memory}
 use Rattle.view_change.specs.StartView.{LogHeld, sent_start_view}
 use Rattle.do_view_change.specs.Begin.{calls_first, first_length}
 use Rattle.steps.specs.Recorded.{Recorded, recorded, only_sent, Gathering}
@@ -45,7 +45,7 @@ use Rattle.do_view_change.proofs.BeginLaws.{first_small, first-long}
 
 module _ (s t : Replica) (first : Bool) (log out : List ℕ) (k : ℕ) (ek : k ≡ first_length first t) where
   pub tell-short : (a : Returned) → length out < k + report_length t → a ≡ refusal 9 s → spoke a out ≡ told_primary s t first log out
-  unfolding told_primary if◌then◌else◌
+  unfolding told_primary when◌then◌else◌
   tell-short a h p = rw (← ek, lt-ltb (length out) (k + report_length t) h, p)
 
   module _ (h : LogHeld t (length log)) where
@@ -91,7 +91,7 @@ module _ (s t : Replica) (first : Bool) (log out : List ℕ) (k : ℕ) (ek : k �
 
         pub tells : (a : Returned) → a ≡ completed t (w + n) 0 false
             → spoke a (take w cur ++ (part ++ drop (length cur - w) (drop w cur))) ≡ told_primary s t first log out
-        unfolding told_primary report_to if◌then◌else◌
+        unfolding told_primary report_to when◌then◌else◌
         tells a p =
             let b = over-lend (calls_first first t) _ out w (sym x.count) x.bytes y.bytes in
             rw (← ek, le-ltb (length out) (k + report_length t) l, p, b, counted, report-long, et)

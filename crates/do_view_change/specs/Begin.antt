@@ -1,11 +1,10 @@
 -- The end of record_do_view_change, after install_log, on the state by value and the bytes of the lent runs: commits up to the greatest commit
 -- number with a reply to each, enter_normal, acks anew, StartView to all others. Assumes nothing.
-use Rattle.std.specs.Prelude.{◌≡◌, Bool, true, List, [], ◌++◌, ℕ, ◌+◌, ◌-◌, ◌*◌, ◌≤◌, length, take, replicate}
-use Rattle.numbers.specs.Words.{if◌then◌else◌}
+use Rattle.std.specs.Prelude.{Bool, true, List, [], ◌++◌, ℕ, ◌+◌, ◌-◌, ◌*◌, take, replicate}
+use Rattle.numbers.specs.Words.{when◌then◌else◌}
 use Rattle.numbers.specs.Numbers.{over}
 use Rattle.numbers.specs.declared.Op.{Op}
 use Rattle.entries.specs.Places.{ack_place}
-use Rattle.config.specs.Setup.{setup_ok}
 use Rattle.config.specs.Replicas.{with_member}
 use Rattle.frames.specs.declared.Message.TheVariants.{StartView}
 use Rattle.writers.specs.Writers.{to_others}
@@ -21,10 +20,10 @@ use Rattle.view_change.specs.StartView.{start_view_length}
 
 -- what goes out first: StartViewChange to all others, of a call that asks for the view
 unfoldable pub calls_first : Bool → Replica → List ℕ
-calls_first first t = if first then calls_of t t.view else []
+calls_first first t = when first then calls_of t t.view else []
 
 unfoldable pub first_length : Bool → Replica → ℕ
-first_length first t = if first then calls_length t else 0
+first_length first t = when first then calls_length t else 0
 
 -- StartView to all others, with our log
 abbrev pub start_views_length : Replica → ℕ

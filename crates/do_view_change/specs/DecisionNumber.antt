@@ -1,7 +1,7 @@
 -- What a report leads to, as number and values: refusals 7, 9 and 10 have none; the number is 0 where it is kept, without values, and where the view begins, with
 -- those of the report to begin with. Assumes nothing.
 use Rattle.std.specs.Prelude.{◌≡◌, Bool, not, List, [], ℕ, ◌+◌, ◌*◌, ltb, take}
-use Rattle.numbers.specs.Words.{if◌then◌else◌, ◌or◌}
+use Rattle.numbers.specs.Words.{when◌then◌else◌, ◌or◌}
 use Rattle.config.specs.Replicas.{quorum_of}
 use Rattle.frames.specs.Numbered.{Numbered, numbered}
 use Rattle.book.specs.Log.{keeps_first}
@@ -27,10 +27,10 @@ decide_numbers t rows r first a b ours stored fresh =
     let held = take t.setup.n rows.rows in
     let best = chosen_from 0 held in
     let g = greatest_in held in
-    if ltb (filled_in held) (quorum_of t.setup.n) then (if ltb a (first_length first t) then numbered 9 [] else numbered 0 []) else
-    if ltb best.report.op.0 g or not (keeps_first t.commit.0 ours best.report.op.0 (chosen_log best r t.setup.room stored fresh)) then numbered 7 [] else
-    if ltb a (first_length first t + start_views_length (entered t best.report.op)) then numbered 9 [] else
-    if ltb b (36 * owed t (record { 0 = g })) then numbered 10 [] else
+    when ltb (filled_in held) (quorum_of t.setup.n) then (when ltb a (first_length first t) then numbered 9 [] else numbered 0 []) else
+    when ltb best.report.op.0 g or not (keeps_first t.commit.0 ours best.report.op.0 (chosen_log best r t.setup.room stored fresh)) then numbered 7 [] else
+    when ltb a (first_length first t + start_views_length (entered t best.report.op)) then numbered 9 [] else
+    when ltb b (36 * owed t (record { 0 = g })) then numbered 10 [] else
     numbered 0 (best_values best g)
 
 -- what `decide` promises: the enum, and its number and values

@@ -2,7 +2,7 @@
 -- before anything is stored: 7, then 9 and 10, and a refusal undoes the whole call. The report that completes a quorum is not stored.
 -- Assumes nothing.
 use Rattle.std.specs.Prelude.{Bool, true, false, not, List, ◌++◌, ℕ, ◌+◌, ◌*◌, ◌≤◌, ◌<◌, ltb, eqb, length, take}
-use Rattle.numbers.specs.Words.{if◌then◌else◌}
+use Rattle.numbers.specs.Words.{when◌then◌else◌}
 use Rattle.numbers.specs.Numbers.{over}
 use Rattle.numbers.specs.declared.View.{View}
 use Rattle.numbers.specs.declared.Op.{Op}
@@ -45,11 +45,11 @@ own_report s = report_of s.normal s.op s.commit
 
 -- 7, then 9 and 10, over areas of a and b bytes: the sums of all frames of the call
 unfoldable pub decided_by : Judged → (t : Replica) (first : Bool) (a b : ℕ) → Decision
-decided_by Wait t first a b = if ltb a (first_length first t) then No 9 else Keep
+decided_by Wait t first a b = when ltb a (first_length first t) then No 9 else Keep
 decided_by Refuse t first a b = No 7
 decided_by (Begin best g) t first a b =
-    if ltb a (first_length first t + start_views_length (entered t best.report.op)) then No 9 else
-    if ltb b (36 * owed t g) then No 10 else
+    when ltb a (first_length first t + start_views_length (entered t best.report.op)) then No 9 else
+    when ltb b (36 * owed t g) then No 10 else
     Start best g
 
 -- with the rows that hold the new report, that of replica r
@@ -112,20 +112,20 @@ report_to t log =
 
 unfoldable pub told_primary : (s t : Replica) (first : Bool) (log out : List ℕ) → Spoke
 told_primary s t first log out =
-    if ltb (length out) (first_length first t + report_length t) then spoke (refusal 9 s) out else
+    when ltb (length out) (first_length first t + report_length t) then spoke (refusal 9 s) out else
     spoke (completed t (first_length first t + report_length t) 0 false) (over (calls_first first t ++ report_to t log) out)
 
 -- send_do_view_change
 unfoldable pub send_step : (s t : Replica) (first : Bool) → Memory → Recorded
 send_step s t first m =
-    if leads t then record_step s t t.setup.id (own_report t) first m.runs.log m else
+    when leads t then record_step s t t.setup.id (own_report t) first m.runs.log m else
     only_sent m (told_primary s t first m.runs.log m.out)
 
 -- on_do_view_change of replica r: its last normal view, op and commit number; `part` begins with its log
 unfoldable pub do_view_change_step : Replica → View → (r : ℕ) (last : View) (o c : Op) (part : List ℕ) → Memory → Recorded
 do_view_change_step s v r l o c part m =
-    if ltb v.0 s.view.0 then recorded (quiet s) m else
-    if not (eqb (primary_of s.setup.n v) s.setup.id) then recorded (quiet s) m else
-    if ltb s.view.0 v.0 then record_step s (changing_to s v) r (report_of l o c) true part m else
-    if is_normal s.status then only_sent m (sent_start_view s r m.runs.log m.out) else
+    when ltb v.0 s.view.0 then recorded (quiet s) m else
+    when not (eqb (primary_of s.setup.n v) s.setup.id) then recorded (quiet s) m else
+    when ltb s.view.0 v.0 then record_step s (changing_to s v) r (report_of l o c) true part m else
+    when is_normal s.status then only_sent m (sent_start_view s r m.runs.log m.out) else
     record_step s s r (report_of l o c) false part m

@@ -1,7 +1,7 @@
 -- What is put at a place, a frame in its room, and the steps between a call's promise and the vector that it makes. Assumes nothing.
 use Rattle.std.proofs.Common.{◌≡◌, ℕ, ◌*◌, ◌<◌, ◌≤◌, List, length, take, replicate, refl, ap, ◌∙◌, arith, le-leb}
 use borrow.Author.Tests.{lt-leb}
-use Rattle.numbers.specs.Words.{if◌then◌else◌}
+use Rattle.numbers.specs.Words.{when◌then◌else◌}
 use Rattle.numbers.specs.Numbers.{big, over, Wrote}
 use Rattle.numbers.proofs.RunLaws.{over-all, over-nil}
 use Rattle.entries.specs.Entries.{encode_entry}
@@ -34,11 +34,11 @@ wrote-vector w q i = record { bytes = q.bytes i; len = q.count i }
 
 module _ (log area : List ℕ) (m : Message) (n : ℕ) (e : n ≡ length_of m) where
   pub tried-none : 192 < n → Wrote (tried_frame log m) area area 0
-  unfolding tried_frame if◌then◌else◌
+  unfolding tried_frame when◌then◌else◌
   tried-none h = rw (lt-leb (length_of m) 192 (omega (arith, e, h))) (record { bytes = over-nil area; count = refl })
 
   pub tried-some : {r : List ℕ} {k : ℕ} → n ≤ 192 → Wrote (encode 1 m (take (32 * (size_of m).entries) log)) area r k → Wrote (tried_frame log m) area r k
-  unfolding tried_frame if◌then◌else◌
+  unfolding tried_frame when◌then◌else◌
   tried-some h q = rw (le-leb (length_of m) 192 (omega (arith, e, h))) q
 
   pub tried-room : n ≤ 192 → 192 ≤ length log → 192 ≤ length area → Room m (length log) (length area)

@@ -1,6 +1,6 @@
 -- The vectors: a frame of each kind to replica 1, with the first of four entries, in 192 bytes; and a frame with a part changed. Assumes nothing.
 use Rattle.std.specs.Prelude.{ℕ, ◌-◌, ◌*◌, List, [], length, take, replicate, ◌==◌, nat_le, nat_lt}
-use Rattle.numbers.specs.Words.{if◌then◌else◌}
+use Rattle.numbers.specs.Words.{when◌then◌else◌}
 use Rattle.numbers.specs.Numbers.{over}
 use Rattle.numbers.specs.declared.View.{View}
 use Rattle.numbers.specs.declared.Op.{Op}
@@ -34,26 +34,26 @@ nonce_of = 72623859790382856
 -- by kind, a message that carries no log
 unfoldable pub short_message : ℕ → Message
 short_message kind =
-    if kind == 1 then Request (tried_entry 7 5) else
-    if kind == 2 then Prepare seventh (numbered_op 1) (numbered_op 0) (tried_entry 7 5) else
-    if kind == 3 then PrepareOk seventh (numbered_op 1) 2 else
-    if kind == 4 then Commit seventh (numbered_op 1) else
-    if kind == 5 then GetState 2 seventh (numbered_op 1) else
-    if kind == 7 then StartViewChange seventh 2 else
-    if kind == 10 then Recovery 2 nonce_of seventh else
+    when kind == 1 then Request (tried_entry 7 5) else
+    when kind == 2 then Prepare seventh (numbered_op 1) (numbered_op 0) (tried_entry 7 5) else
+    when kind == 3 then PrepareOk seventh (numbered_op 1) 2 else
+    when kind == 4 then Commit seventh (numbered_op 1) else
+    when kind == 5 then GetState 2 seventh (numbered_op 1) else
+    when kind == 7 then StartViewChange seventh 2 else
+    when kind == 10 then Recovery 2 nonce_of seventh else
     RecoveryResponse seventh nonce_of 2 Absent
 
 -- by kind, a message that carries a log of k entries, all committed
 unfoldable pub logged_message : ℕ → ℕ → Message
 logged_message kind k =
-    if kind == 6 then NewState seventh (numbered_op 0) (numbered_op k) (numbered_op k) else
-    if kind == 8 then DoViewChange seventh 2 (record { 0 = 6 }) (numbered_op k) (numbered_op k) else
-    if kind == 9 then StartView seventh (numbered_op k) (numbered_op k) else
+    when kind == 6 then NewState seventh (numbered_op 0) (numbered_op k) (numbered_op k) else
+    when kind == 8 then DoViewChange seventh 2 (record { 0 = 6 }) (numbered_op k) (numbered_op k) else
+    when kind == 9 then StartView seventh (numbered_op k) (numbered_op k) else
     RecoveryResponse seventh nonce_of 2 (Present (numbered_op k) (numbered_op k))
 
 -- a message's frame to replica 1, with the first entries of a run; nothing where 192 bytes do not hold it
 unfoldable pub tried_frame : List ℕ → Message → List ℕ
-tried_frame run m = if nat_le (length_of m) 192 then encode 1 m (take (32 * (size_of m).entries) run) else []
+tried_frame run m = when nat_le (length_of m) 192 then encode 1 m (take (32 * (size_of m).entries) run) else []
 
 -- bytes, and zeros behind them
 unfoldable pub vector_of : List ℕ → Vector
@@ -73,4 +73,4 @@ cut_to n v = record { bytes = v.bytes; len = n }
 
 -- what the length field of n bytes says
 unfoldable pub fitted_length : ℕ → ℕ
-fitted_length n = if nat_lt n 4 then 0 else if nat_lt 192 n then 0 else n - 4
+fitted_length n = when nat_lt n 4 then 0 else when nat_lt 192 n then 0 else n - 4

@@ -11,7 +11,7 @@ use native.Mathlib.Omega.{arith}
 use borrow.Author.Tests.{eq-eqb, ne_eqb, le-leb, leb-true}
 use lib.Dec.{lit<, lit≤, eqb}
 use lib.ListN.{length, drop}
-use Rattle.numbers.specs.Words.{if◌then◌else◌, ◌or◌}
+use Rattle.numbers.specs.Words.{when◌then◌else◌, ◌or◌}
 use Rattle.numbers.specs.Numbers.{num, within, Bytes}
 use Rattle.numbers.proofs.WordLaws.{and-true}
 use Rattle.numbers.proofs.NumberLaws.{num-lt, num-split, both-within, eq-or-not}
@@ -87,14 +87,14 @@ part_count a z c e = omega arith
 
 -- a RecoveryResponse without and with a log
 absent-at : (s : List ℕ) → 20 ≤ length s → takes (state_rule 17 (count_for 11 17)) (drop 20 s) ≡ true → Body 17 s 11
-unfolding state_rule room_of count_of fields_ok entries_from count_for carries_log if◌then◌else◌ ◌or◌ entries_ok
+unfolding state_rule room_of count_of fields_ok entries_from count_for carries_log when◌then◌else◌ ◌or◌ entries_ok
 absent-at s l h =
     let p = just-at 1 0 end 20 s (lit< tt) l h in
     let e = end-at 21 s p.0 p.2 in
     record { room = rw p.1; count = rw p.1; fields = rw p.1; exact = e; log = refl }
 
 present-at : (n : ℕ) (s : List ℕ) → n < 4294967296 → (n ≡ 17 → ⊥) → 20 ≤ length s → takes (state_rule n (count_for 11 n)) (drop 20 s) ≡ true → Body n s 11
-unfolding state_rule room_of count_of fields_ok entries_from count_for carries_log if◌then◌else◌ ◌or◌
+unfolding state_rule room_of count_of fields_ok entries_from count_for carries_log when◌then◌else◌ ◌or◌
 present-at n s g d l h =
     let f : eqb n 17 ≡ false = ne_eqb n 17 d in
     let c = (n + 4 - 29) / 32 in
@@ -104,7 +104,7 @@ present-at n s g d l h =
     record { room = rw (p.1, f); count = rw (p.1, f) q.0; fields = rw p.1; exact = rw f q.1; log = rw f q.2 }
 
 reads : (n : ℕ) (s : List ℕ) → n < 4294967296 → 6 ≤ length s → Each (Reads n s)
-unfolding Reads body_rule bound_from bound_rule state_rule room_of count_of fields_ok entries_from count_for carries_log if◌then◌else◌ ◌or◌
+unfolding Reads body_rule bound_from bound_rule state_rule room_of count_of fields_ok entries_from count_for carries_log when◌then◌else◌ ◌or◌
 reads n s g l =
     record {
       k1 = λ h. let p = plain_at 1 1 s l h in record { room = refl; count = refl; fields = refl; exact = p.0; log = p.1 };
@@ -140,19 +140,19 @@ Keeps : ℕ → List ℕ → ℕ → Type 0
 Keeps n s k = Body n s k → takes (body_rule n k) (drop 6 s) ≡ true
 
 at-absent : (s : List ℕ) → Bytes s → Body 17 s 11 → takes (state_rule 17 (count_for 11 17)) (drop 20 s) ≡ true
-unfolding state_rule room_of count_of fields_ok entries_from count_for carries_log if◌then◌else◌ ◌or◌
+unfolding state_rule room_of count_of fields_ok entries_from count_for carries_log when◌then◌else◌ ◌or◌
 at-absent s b f =
     ⊎_elim (λ e. let x : 29 ≡ 21 = rw e at f.room in absurd (omega (arith, x)))
     (λ e. at-just 1 0 end 20 s b (omega (arith, f.exact)) (omega (arith, leb-true (num 1 20 s) 1 f.fields)) (at-end 21 s f.exact)) (eq-or-not (num 1 20 s) 1)
 
 at-present : (n : ℕ) (s : List ℕ) → (n ≡ 17 → ⊥) → Bytes s → Body n s 11 → takes (state_rule n (count_for 11 n)) (drop 20 s) ≡ true
-unfolding state_rule room_of count_of fields_ok entries_from count_for carries_log if◌then◌else◌ ◌or◌
+unfolding state_rule room_of count_of fields_ok entries_from count_for carries_log when◌then◌else◌ ◌or◌
 at-present n s d b f =
     let g : eqb n 17 ≡ false = ne_eqb n 17 d in
     let c = (n + 4 - 29) / 32 in
     let x : length s ≡ 29 + 32 * c = rw g at f.exact in
     let o : entries_ok c (drop 29 s) ≡ true = rw g at f.log in
-    ⊎_elim (λ e. let y0 : (if eqb (num 1 20 s) 1 then num 4 21 s else 0) ≡ (n + 4 - (if eqb n 17 then 21 else 29)) / 32 = f.count in
+    ⊎_elim (λ e. let y0 : (when eqb (num 1 20 s) 1 then num 4 21 s else 0) ≡ (n + 4 - (when eqb n 17 then 21 else 29)) / 32 = f.count in
     let y : num 4 21 s ≡ c = rw (eq-eqb (num 1 20 s) 1 e, g) at y0 in rw g (at-just 1 1 (log_rule c) 20 s b (omega (arith, x)) e (at-log c 21 s b y x o)))
     (λ e. let y : 21 ≡ 29 = rw (ne_eqb (num 1 20 s) 1 e, g) at f.room in absurd (omega (arith, y))) (eq-or-not (num 1 20 s) 1)
 
@@ -160,11 +160,11 @@ part-whole : (a z c : ℕ) → a ≤ z → z - a ≡ c → z ≡ a + c
 part-whole a z c h e = omega arith
 
 room-20 : (n : ℕ) (s : List ℕ) → Body n s 11 → 20 ≤ length s
-unfolding entries_from if◌then◌else◌
+unfolding entries_from when◌then◌else◌
 room-20 n s f = omega (arith, f.exact, f.room, least-room 11 s)
 
 keeps : (n : ℕ) (s : List ℕ) → Bytes s → Each (Keeps n s)
-unfolding Keeps body_rule bound_from bound_rule room_of count_of fields_ok entries_from count_for carries_log if◌then◌else◌ ◌or◌
+unfolding Keeps body_rule bound_from bound_rule room_of count_of fields_ok entries_from count_for carries_log when◌then◌else◌ ◌or◌
 keeps n s b =
     record {
       k1 = λ f. at_plain 1 1 s b f.exact f.log;
@@ -191,7 +191,7 @@ Fixed : ℕ → List ℕ → ℕ → Type 0
 Fixed n s k = n + 4 ≡ room_of k s + 32 * count_of k s → fields_ok k s ≡ true → (room_of k s ≡ entries_from k n) × (count_of k s ≡ count_for k n)
 
 fixed-11 : (n : ℕ) (s : List ℕ) → Fixed n s 11
-unfolding Fixed room_of count_of fields_ok entries_from count_for carries_log if◌then◌else◌ ◌or◌
+unfolding Fixed room_of count_of fields_ok entries_from count_for carries_log when◌then◌else◌ ◌or◌
 fixed-11 n s h g =
     ⊎_elim
     (λ e.
@@ -199,8 +199,8 @@ fixed-11 n s h g =
     let d : eqb n 17 ≡ false = ne_eqb n 17 (λ y. absurd (omega (arith, x, y))) in
     let c : num 4 21 s ≡ (n + 4 - 29) / 32 = omega (arith, x) in
     let m : eqb (num 1 20 s) 1 ≡ true = eq-eqb (num 1 20 s) 1 e in
-    let r1 : (if eqb (num 1 20 s) 1 then 29 else 21) ≡ (if eqb n 17 then 21 else 29) = rw (m, d) in
-    let r2 : (if eqb (num 1 20 s) 1 then num 4 21 s else 0) ≡ (n + 4 - (if eqb n 17 then 21 else 29)) / 32 = rw (m, d) c in
+    let r1 : (when eqb (num 1 20 s) 1 then 29 else 21) ≡ (when eqb n 17 then 21 else 29) = rw (m, d) in
+    let r2 : (when eqb (num 1 20 s) 1 then num 4 21 s else 0) ≡ (n + 4 - (when eqb n 17 then 21 else 29)) / 32 = rw (m, d) c in
     (r1, r2))
     (λ e.
     let d : eqb (num 1 20 s) 1 ≡ false = ne_eqb (num 1 20 s) 1 e in
@@ -213,7 +213,7 @@ by_length : (c n r : ℕ) → n + 4 ≡ r + 32 * c → c ≡ (n + 4 - r) / 32
 by_length c n r h = omega arith
 
 fixed : (n : ℕ) (s : List ℕ) → Each (Fixed n s)
-unfolding Fixed room_of count_of entries_from count_for carries_log if◌then◌else◌ ◌or◌
+unfolding Fixed room_of count_of entries_from count_for carries_log when◌then◌else◌ ◌or◌
 fixed n s =
     record {
       k1 = λ h g. (refl, refl);

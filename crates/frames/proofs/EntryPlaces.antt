@@ -12,7 +12,7 @@ use borrow.Author.Tests.{eqb-true, eq-eqb, ne_eqb}
 use lib.Dec.{lit<, eqb}
 use lib.ListN.{length, drop}
 use lib.Seq.{drop-drop}
-use Rattle.numbers.specs.Words.{if◌then◌else◌, ◌and◌}
+use Rattle.numbers.specs.Words.{when◌then◌else◌, ◌and◌}
 use Rattle.numbers.specs.Numbers.{num, Bytes}
 use Rattle.numbers.proofs.WordLaws.{and_both, and-true}
 use Rattle.numbers.proofs.NumberLaws.{within_both, both-within, num-drop, eq-or-not}
@@ -23,7 +23,7 @@ use Rattle.frames.specs.FrameRules.{cents_rule, entry_rule, entries_rule}
 
 cents-at : (k : ℕ) (r : Rule) (a : ℕ) (s : List ℕ) → 1 ≤ k → k ≤ 3 → a ≤ length s → takes (cents_rule k r) (drop a s) ≡ true
     → (a + 8 ≤ length s) × (operation_ok k (num 8 a s) ≡ true) × (takes r (drop (a + 8) s) ≡ true)
-unfolding cents_rule operation_ok if◌then◌else◌
+unfolding cents_rule operation_ok when◌then◌else◌
 cents-at k r a s x y l h =
     ⊎_elim (λ e. let p = between-at 8 1 1000000 (λ v. r) a s (lit< tt) l (rw e at h) in (p.long, rw e (both-within 1 1000000 (num 8 a s) p.least p.most), p.rest)) (λ n1.
     ⊎_elim (λ e. let p = between-at 8 1 1000000 (λ v. r) a s (lit< tt) l (rw e at h) in (p.long, rw e (both-within 1 1000000 (num 8 a s) p.least p.most), p.rest)) (λ n2.
@@ -33,7 +33,7 @@ cents-at k r a s x y l h =
 
 at-cents : (k : ℕ) (r : Rule) (a : ℕ) (s : List ℕ) → Bytes s → a + 8 ≤ length s → operation_ok k (num 8 a s) ≡ true → takes r (drop (a + 8) s) ≡ true
     → (1 ≤ k) × (k ≤ 3) × (takes (cents_rule k r) (drop a s) ≡ true)
-unfolding cents_rule operation_ok if◌then◌else◌
+unfolding cents_rule operation_ok when◌then◌else◌
 at-cents k r a s b l o h =
     ⊎_elim (λ e. let q = within_both 1 1000000 (num 8 a s) (rw e at o) in (omega arith, omega arith, rw e (at-between 8 1 1000000 (λ v. r) a s b l q.0 q.1 h))) (λ n1.
     ⊎_elim (λ e. let q = within_both 1 1000000 (num 8 a s) (rw e at o) in (omega arith, omega arith, rw e (at-between 8 1 1000000 (λ v. r) a s b l q.0 q.1 h))) (λ n2.

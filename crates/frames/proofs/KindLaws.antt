@@ -15,7 +15,7 @@ use native.Mathlib.Omega.{arith}
 use borrow.Author.Tests.{leb-true, eqb-true, le-leb, eq-eqb}
 use lib.Dec.{leb, eqb, lit≤}
 use lib.ListN.{length, drop}
-use Rattle.numbers.specs.Words.{if◌then◌else◌, ◌and◌}
+use Rattle.numbers.specs.Words.{when◌then◌else◌, ◌and◌}
 use Rattle.numbers.specs.Numbers.{num, within}
 use Rattle.numbers.proofs.WordLaws.{split, and_both}
 use Rattle.numbers.proofs.NumberLaws.{within_both, both-within}
@@ -57,7 +57,7 @@ each-kind P e k l h =
 pub least-room : (k : ℕ) (s : List ℕ) → fields_end k ≤ room_of k s
 unfolding room_of
 least-room k s =
-    split (λ (x : ℕ). fields_end k ≤ x) (eqb k 11) (if eqb (num 1 20 s) 1 then 29 else 21) (fields_end k)
+    split (λ (x : ℕ). fields_end k ≤ x) (eqb k 11) (when eqb (num 1 20 s) 1 then 29 else 21) (fields_end k)
     (λ e. rw (eqb-true k 11 e) (split (λ (x : ℕ). 21 ≤ x) (eqb (num 1 20 s) 1) 29 21 (λ f. lit≤ tt) (λ f. lit≤ tt)))
     (λ e. le_refl (fields_end k))
 

@@ -10,7 +10,7 @@ use Prim.Native.Nat.{ℕ, zero, suc, ◌+◌, ◌-◌, ◌*◌, ◌/◌, ◌≤�
 use native.Mathlib.Omega.{arith}
 use borrow.Author.Tests.{eqb-true, eq-eqb}
 use lib.Dec.{lit<, lit≤, eqb}
-use Rattle.numbers.specs.Words.{if◌then◌else◌, ◌and◌, ◌or◌}
+use Rattle.numbers.specs.Words.{when◌then◌else◌, ◌and◌, ◌or◌}
 use Rattle.numbers.specs.Numbers.{within}
 use Rattle.numbers.proofs.WordLaws.{and_both, split}
 use Rattle.numbers.proofs.NumberLaws.{within_both, eq-or-not}
@@ -58,7 +58,7 @@ fits_low n k h =
 
 -- no entries begin past place 29
 pub from-most : (k n : ℕ) → 1 ≤ k → k ≤ 11 → entries_from k n ≤ 29
-unfolding entries_from if◌then◌else◌
+unfolding entries_from when◌then◌else◌
 from-most k n =
     each-kind (λ k. entries_from k n ≤ 29)
     (record {
@@ -78,14 +78,14 @@ from-most k n =
 
 -- every beginning of a length can go on to one of a StartView
 fits-start-view : (x : ℕ) → fits (x * 256 + 15) 9 ≡ true
-unfolding fits within entries_from count_for carries_log if◌then◌else◌ ◌and◌ ◌or◌
+unfolding fits within entries_from count_for carries_log when◌then◌else◌ ◌and◌ ◌or◌
 fits-start-view x = eq-eqb (x * 256 + 15 + 4) (19 + 32 * ((x * 256 + 15 + 4 - 19) / 32)) (omega arith)
 
 pub count-lt : (k n : ℕ) → n < 4294967296 → count_for k n < 4294967296
 unfolding count_for
 count-lt k n h =
-    split (λ (c : ℕ). c < 4294967296) (eqb k 1) 1 (if eqb k 2 then 1 else if carries_log k then (n + 4 - entries_from k n) / 32 else 0) (λ e. lit< tt) (λ e.
-    split (λ (c : ℕ). c < 4294967296) (eqb k 2) 1 (if carries_log k then (n + 4 - entries_from k n) / 32 else 0) (λ e. lit< tt) (λ e.
+    split (λ (c : ℕ). c < 4294967296) (eqb k 1) 1 (when eqb k 2 then 1 else when carries_log k then (n + 4 - entries_from k n) / 32 else 0) (λ e. lit< tt) (λ e.
+    split (λ (c : ℕ). c < 4294967296) (eqb k 2) 1 (when carries_log k then (n + 4 - entries_from k n) / 32 else 0) (λ e. lit< tt) (λ e.
     split (λ (c : ℕ). c < 4294967296) (carries_log k) ((n + 4 - entries_from k n) / 32) 0 (λ e. omega arith) (λ e. lit< tt)))
 
 -- ---- it never gets stuck
@@ -127,10 +127,10 @@ lives-body n k h =
     let c = count_for k n in
     let g = count-lt k n h in
     lives-free (bound_from k - 6) (bound_rule n k)
-    (split Lives (eqb k 6) (part_rule c) (if eqb k 8 then log_rule c else if eqb k 9 then log_rule c else if eqb k 11 then state_rule n c else entries_rule c)
+    (split Lives (eqb k 6) (part_rule c) (when eqb k 8 then log_rule c else when eqb k 9 then log_rule c else when eqb k 11 then state_rule n c else entries_rule c)
     (λ e. lives-part c g) (λ e.
-    split Lives (eqb k 8) (log_rule c) (if eqb k 9 then log_rule c else if eqb k 11 then state_rule n c else entries_rule c) (λ e. lives-log c g) (λ e.
-    split Lives (eqb k 9) (log_rule c) (if eqb k 11 then state_rule n c else entries_rule c) (λ e. lives-log c g) (λ e.
+    split Lives (eqb k 8) (log_rule c) (when eqb k 9 then log_rule c else when eqb k 11 then state_rule n c else entries_rule c) (λ e. lives-log c g) (λ e.
+    split Lives (eqb k 9) (log_rule c) (when eqb k 11 then state_rule n c else entries_rule c) (λ e. lives-log c g) (λ e.
     split Lives (eqb k 11) (state_rule n c) (entries_rule c) (λ e. lives-state n c g) (λ e. lives-entries c)))))
 
 lives-kind : (n : ℕ) → n < 4294967296 → some_fits 11 n ≡ true → Lives (kind_rule n)

@@ -13,7 +13,7 @@ use native.Mathlib.Omega.{arith}
 use lib.Dec.{eqb, lit≤}
 use lib.ListN.{length, take, drop, length-drop, drop_of_length-le}
 use lib.Seq.{take_all}
-use Rattle.numbers.specs.Words.{if◌then◌else◌, ◌and◌}
+use Rattle.numbers.specs.Words.{when◌then◌else◌, ◌and◌}
 use Rattle.numbers.specs.Numbers.{num, within, op_at}
 use Rattle.numbers.specs.declared.Op.{Op}
 use Rattle.numbers.proofs.WordLaws.{if-true, if-false}
@@ -62,7 +62,7 @@ kind-high m = (within_both 1 11 (carried_of m).kind (kind-within m)).1
 -- ---- what a well-formed frame says
 
 kind-said : (s : List ℕ) (k : ℕ) → 1 ≤ k → k ≤ 11 → (carried_of (message_of k s)).kind ≡ k
-unfolding message_of carried_of if◌then◌else◌
+unfolding message_of carried_of when◌then◌else◌
 kind-said s =
     each-kind (λ k. (carried_of (message_of k s)).kind ≡ k)
     record {
@@ -81,14 +81,14 @@ kind-said s =
 
 -- a carried log stands in the frame: of a RecoveryResponse
 state-size : (r : ℕ) (b : Bool) (o c : Op)
-    → (state_row r (if b then Present o c else Absent)).start + 32 * (state_row r (if b then Present o c else Absent)).whole ≤ (if b then 29 else 21) + 32 * (if b then o.0 else 0)
-unfolding state_row if◌then◌else◌
+    → (state_row r (when b then Present o c else Absent)).start + 32 * (state_row r (when b then Present o c else Absent)).whole ≤ (when b then 29 else 21) + 32 * (when b then o.0 else 0)
+unfolding state_row when◌then◌else◌
 state-size r true o c = le_refl (29 + 32 * o.0)
 state-size r false o c = lit≤ tt
 
 -- of each kind
 size-said : (s : List ℕ) (k : ℕ) → 1 ≤ k → k ≤ 11 → (carried_of (message_of k s)).start + 32 * (carried_of (message_of k s)).whole ≤ room_of k s + 32 * count_of k s
-unfolding message_of response_state carried_of room_of count_of if◌then◌else◌
+unfolding message_of response_state carried_of room_of count_of when◌then◌else◌
 size-said s =
     each-kind (λ k. (carried_of (message_of k s)).start + 32 * (carried_of (message_of k s)).whole ≤ room_of k s + 32 * count_of k s)
     record {

@@ -11,7 +11,7 @@ use Prim.Native.Nat.{ℕ, ◌≤◌}
 use lib.Dec.{eqb}
 use lib.ListN.{drop}
 use borrow.Author.Tests.{eqb-true}
-use Rattle.numbers.specs.Words.{if◌then◌else◌, ◌or◌}
+use Rattle.numbers.specs.Words.{when◌then◌else◌, ◌or◌}
 use Rattle.numbers.specs.Numbers.{num, op_at}
 use Rattle.numbers.specs.Cells.{cells}
 use Rattle.numbers.specs.declared.Op.{Op}
@@ -43,13 +43,13 @@ entry-19 : (s : List ℕ) → entry_values (entry_of (drop 19 s)) ≡ entry_numb
 unfolding entry_of in_turn
 entry-19 s = rw (num-drop 8 19 0 s, num-drop 8 19 8 s, num-drop 1 19 16 s, num-drop 4 19 20 s, num-drop 8 19 24 s)
 
-state-said : (b : Bool) (s : List ℕ) → state_values (if b then Present (op_at 21 s) (op_at 25 s) else Absent) ≡ (if b then 1 ∷ in_turn (4 ∷ 4 ∷ []) 21 s else 0 ∷ [])
-unfolding state_values in_turn if◌then◌else◌
+state-said : (b : Bool) (s : List ℕ) → state_values (when b then Present (op_at 21 s) (op_at 25 s) else Absent) ≡ (when b then 1 ∷ in_turn (4 ∷ 4 ∷ []) 21 s else 0 ∷ [])
+unfolding state_values in_turn when◌then◌else◌
 state-said true s = refl
 state-said false s = refl
 
 pub fields-said : (s : List ℕ) (k : ℕ) → 1 ≤ k → k ≤ 11 → fields_of (message_of k s) ≡ fields_in k s
-unfolding fields_of message_of response_state fields_in in_turn if◌then◌else◌
+unfolding fields_of message_of response_state fields_in in_turn when◌then◌else◌
 fields-said s =
     each-kind (λ k. fields_of (message_of k s) ≡ fields_in k s)
     record {
@@ -82,23 +82,23 @@ state-sender r Absent = refl
 state-sender r (Present o c) = refl
 
 module _ (r : ℕ) (o c : Op) where
-  state-op : (b : Bool) → (state_row r (if b then Present o c else Absent)).op.0 ≡ (if b then o.0 else 0)
-  unfolding state_row if◌then◌else◌
+  state-op : (b : Bool) → (state_row r (when b then Present o c else Absent)).op.0 ≡ (when b then o.0 else 0)
+  unfolding state_row when◌then◌else◌
   state-op true = refl
   state-op false = refl
 
-  state-commit : (b : Bool) → (state_row r (if b then Present o c else Absent)).commit.0 ≡ (if b then c.0 else 0)
-  unfolding state_row if◌then◌else◌
+  state-commit : (b : Bool) → (state_row r (when b then Present o c else Absent)).commit.0 ≡ (when b then c.0 else 0)
+  unfolding state_row when◌then◌else◌
   state-commit true = refl
   state-commit false = refl
 
-  state-log : (s : List ℕ) (b : Bool) → whole_log (state_row r (if b then Present o c else Absent)) s ≡ entries (if b then o.0 else 0) (drop (if b then 29 else 21) s)
-  unfolding whole_log state_row if◌then◌else◌
+  state-log : (s : List ℕ) (b : Bool) → whole_log (state_row r (when b then Present o c else Absent)) s ≡ entries (when b then o.0 else 0) (drop (when b then 29 else 21) s)
+  unfolding whole_log state_row when◌then◌else◌
   state-log s true = refl
   state-log s false = refl
 
 judges : (s : List ℕ) (k : ℕ) → 1 ≤ k → k ≤ 11 → Judges s k
-unfolding carried_of message_of response_state sender_in op_in commit_in log_in whole_log cells room_of count_of if◌then◌else◌ ◌or◌
+unfolding carried_of message_of response_state sender_in op_in commit_in log_in whole_log cells room_of count_of when◌then◌else◌ ◌or◌
 judges s =
     let b = eqb (num 1 20 s) 1 in
     each-kind (Judges s)
@@ -134,27 +134,27 @@ parsed-number s = go (well_formed s) refl
         ∙ sym (if-true (well_formed s) _ _ e)
     go false e = ap parsed_number (malformed-back s e) ∙ sym (if-false (well_formed s) _ _ e)
 
-verdict-number : (k : ℕ) (m : Message) → checked_number (verdict k m) ≡ numbered k (if eqb k 0 then fields_of m else [])
+verdict-number : (k : ℕ) (m : Message) → checked_number (verdict k m) ≡ numbered k (when eqb k 0 then fields_of m else [])
 unfolding verdict
 verdict-number k m =
-    split (λ (x : Checked). checked_number x ≡ numbered k (if eqb k 0 then fields_of m else [])) (eqb k 0) (Passed m) (Refused k 0)
+    split (λ (x : Checked). checked_number x ≡ numbered k (when eqb k 0 then fields_of m else [])) (eqb k 0) (Passed m) (Refused k 0)
     (λ e. ap (λ (j : ℕ). numbered j (fields_of m)) (sym (eqb-true k 0 e)) ∙ ap (numbered k) (sym (if-true (eqb k 0) _ _ e)))
     (λ e. ap (numbered k) (sym (if-false (eqb k 0) _ _ e)))
 
 module _ (u : Setup) (s : List ℕ) where
   earned-true : well_formed s ≡ true → refusal_of u (num 1 6 s) (carried_of (message_of (num 1 5 s) s)) s ≡ earned_by u s
-  unfolding earned_by refusal_of if◌then◌else◌
+  unfolding earned_by refusal_of when◌then◌else◌
   earned-true e =
       let w = well-formed s e in
       let j = judges s (num 1 5 s) w.low w.high in
       rw (e, j.log, j.sender, j.op, j.commit)
 
   earned-false : well_formed s ≡ false → earned_by u s ≡ 2
-  unfolding earned_by if◌then◌else◌
+  unfolding earned_by when◌then◌else◌
   earned-false e = rw e
 
   pub checked-number : checked_number (check_frame u s) ≡ check_numbers u s
-  unfolding check_frame check_parsed check_numbers if◌then◌else◌
+  unfolding check_frame check_parsed check_numbers when◌then◌else◌
   checked-number = go (well_formed s) refl
     where
       go : (b : Bool) → well_formed s ≡ b → checked_number (check_frame u s) ≡ check_numbers u s
@@ -163,11 +163,11 @@ module _ (u : Setup) (s : List ℕ) where
           let m = message_of (num 1 5 s) s in
           ap (λ (p : Parsed). checked_number (check_parsed u s p)) (accepted s e)
           ∙ verdict-number (refusal_of u (num 1 6 s) (carried_of m) s) m
-          ∙ ap (λ (k : ℕ). numbered k (if eqb k 0 then fields_of m else [])) (earned-true e)
-          ∙ ap (λ (x : List ℕ). numbered (earned_by u s) (if eqb (earned_by u s) 0 then x else [])) (fields-said s (num 1 5 s) w.low w.high)
+          ∙ ap (λ (k : ℕ). numbered k (when eqb k 0 then fields_of m else [])) (earned-true e)
+          ∙ ap (λ (x : List ℕ). numbered (earned_by u s) (when eqb (earned_by u s) 0 then x else [])) (fields-said s (num 1 5 s) w.low w.high)
       go false e =
           ap (λ (p : Parsed). checked_number (check_parsed u s p)) (malformed-back s e)
-          ∙ ap (λ (k : ℕ). numbered k (if eqb k 0 then fields_in (num 1 5 s) s else [])) (sym (earned-false e))
+          ∙ ap (λ (k : ℕ). numbered k (when eqb k 0 then fields_in (num 1 5 s) s else [])) (sym (earned-false e))
 
 -- ---- the promises
 

@@ -11,7 +11,7 @@ use native.Mathlib.Omega.{arith}
 use lib.Dec.{eqb}
 use lib.ListN.{length, take, drop, take-append-drop}
 use lib.Seq.{length-take-le}
-use Rattle.numbers.specs.Words.{if◌then◌else◌}
+use Rattle.numbers.specs.Words.{when◌then◌else◌}
 use Rattle.numbers.specs.Numbers.{num, Bytes}
 use Rattle.numbers.proofs.NumberLaws.{take-bytes, num-front}
 use Rattle.entries.specs.Entries.{entry_ok}
@@ -26,8 +26,8 @@ use Rattle.frames.proofs.BodyLaws.{length-parts}
 
 -- ---- fields
 
-either-field : {n : ℕ} {f g : Rule → Rule} (b : Bool) → Field n f → Field n g → Field n (λ r. if b then f r else g r)
-unfolding if◌then◌else◌
+either-field : {n : ℕ} {f g : Rule → Rule} (b : Bool) → Field n f → Field n g → Field n (λ r. when b then f r else g r)
+unfolding when◌then◌else◌
 either-field true x y = x
 either-field false x y = y
 

@@ -10,7 +10,7 @@ use Prim.Native.Nat.{ℕ, suc, ◌≤◌, ◌<◌}
 use native.Mathlib.Omega.{arith}
 use borrow.Author.Tests.{eqb-true, eqb-false, leb-false, ltb-false, not-false}
 use lib.Dec.{eqb, leb, ltb}
-use Rattle.numbers.specs.Words.{if◌then◌else◌, ◌or◌}
+use Rattle.numbers.specs.Words.{when◌then◌else◌, ◌or◌}
 use Rattle.numbers.proofs.WordLaws.{split, or_left, or_right}
 use Rattle.entries.specs.Rising.{rising}
 use Rattle.config.specs.declared.Setup.{Setup}
@@ -28,8 +28,8 @@ use Rattle.frames.proofs.MessageLaws.{Said, parsed}
 -- ---- no refusal
 
 -- a choice between a refusal and what follows
-if_none : (b : Bool) (k r : ℕ) → (if b then suc k else r) ≡ 0 → (b ≡ false) × (r ≡ 0)
-unfolding if◌then◌else◌
+if_none : (b : Bool) (k r : ℕ) → (when b then suc k else r) ≡ 0 → (b ≡ false) × (r ≡ 0)
+unfolding when◌then◌else◌
 if_none true k r e = absurd (omega (arith, e))
 if_none false k r e = (refl, e)
 
@@ -44,9 +44,9 @@ record Unrefused (u : Setup) (to : ℕ) (x : Carried) (s : List ℕ) : Type 0 wh
 unrefused : (u : Setup) (to : ℕ) (x : Carried) (s : List ℕ) → refusal_of u to x s ≡ 0 → Unrefused u to x s
 unfolding refusal_of
 unrefused u to x s h =
-    let r6 : ℕ = if not (rising (whole_log x s)) then 6 else 0 in
-    let r5 : ℕ = if ltb x.op.0 x.commit.0 then 5 else r6 in
-    let r4 : ℕ = if ltb u.room x.op.0 then 4 else r5 in
+    let r6 : ℕ = when not (rising (whole_log x s)) then 6 else 0 in
+    let r5 : ℕ = when ltb x.op.0 x.commit.0 then 5 else r6 in
+    let r4 : ℕ = when ltb u.room x.op.0 then 4 else r5 in
     let a = if_none (not (eqb to u.id) or leb u.n x.sender) 2 r4 h in
     let b = if_none (ltb u.room x.op.0) 3 r5 a.1 in
     let d = if_none (ltb x.op.0 x.commit.0) 4 r6 b.1 in

@@ -2,7 +2,7 @@
 -- follows: it says which kinds there can be, and of each how many entries. That the runs which keep these rules are the well-formed frames is a law (`frame-rules`).
 -- Assumes nothing.
 use Rattle.std.specs.Prelude.{Bool, false, List, ℕ, zero, suc, ◌+◌, ◌-◌, ◌*◌, ◌/◌, eqb}
-use Rattle.numbers.specs.Words.{if◌then◌else◌, ◌and◌, ◌or◌}
+use Rattle.numbers.specs.Words.{when◌then◌else◌, ◌and◌, ◌or◌}
 use Rattle.numbers.specs.Numbers.{within}
 use Rattle.offsets.specs.Rules.{Rule, end, byte, reach, free, between, just}
 use Rattle.frames.specs.Kinds.{fields_end, state_end}
@@ -15,14 +15,14 @@ carries_log k = eqb k 6 or eqb k 8 or eqb k 9 or eqb k 11
 
 -- how many bytes stand before the entries; a RecoveryResponse of 17 bytes has no log
 unfoldable pub entries_from : (kind n : ℕ) → ℕ
-entries_from k n = if eqb k 11 then (if eqb n 17 then fields_end 11 else state_end) else fields_end k
+entries_from k n = when eqb k 11 then (when eqb n 17 then fields_end 11 else state_end) else fields_end k
 
 -- how many entries there are
 unfoldable pub count_for : (kind n : ℕ) → ℕ
 count_for k n =
-    if eqb k 1 then 1 else
-    if eqb k 2 then 1 else
-    if carries_log k then (n + 4 - entries_from k n) / 32 else
+    when eqb k 1 then 1 else
+    when eqb k 2 then 1 else
+    when carries_log k then (n + 4 - entries_from k n) / 32 else
     0
 
 unfoldable pub fits : (n kind : ℕ) → Bool
@@ -37,7 +37,7 @@ some_fits (suc k) n = fits n (suc k) or some_fits k n
 
 -- cents of an operation, then what follows
 unfoldable pub cents_rule : (operation : ℕ) → Rule → Rule
-cents_rule k r = if eqb k 3 then just 8 0 r else between 8 0 1 1000000 (λ x. r)
+cents_rule k r = when eqb k 3 then just 8 0 r else between 8 0 1 1000000 (λ x. r)
 
 -- an entry: client and request, operation, three zero bytes, member, cents
 unfoldable pub entry_rule : Rule → Rule
@@ -57,24 +57,24 @@ part_rule c = between 4 0 0 (4294967295 - c) (λ a. just 4 (a + c) (free 4 (entr
 
 -- RecoveryResponse, from its mark on
 unfoldable pub state_rule : (n count : ℕ) → Rule
-state_rule n c = if eqb n 17 then just 1 0 end else just 1 1 (log_rule c)
+state_rule n c = when eqb n 17 then just 1 0 end else just 1 1 (log_rule c)
 
 -- where the first field stands that isn't free: start (6), o (8 and 9), the mark (11); of the other kinds the entries, or the frame's end
 unfoldable pub bound_from : (kind : ℕ) → ℕ
 bound_from k =
-    if eqb k 6 then 11 else
-    if eqb k 8 then 16 else
-    if eqb k 9 then 11 else
-    if eqb k 11 then 20 else
+    when eqb k 6 then 11 else
+    when eqb k 8 then 16 else
+    when eqb k 9 then 11 else
+    when eqb k 11 then 20 else
     fields_end k
 
 -- what may stand from there on
 unfoldable pub bound_rule : (n kind : ℕ) → Rule
 bound_rule n k =
-    if eqb k 6 then part_rule (count_for k n) else
-    if eqb k 8 then log_rule (count_for k n) else
-    if eqb k 9 then log_rule (count_for k n) else
-    if eqb k 11 then state_rule n (count_for k n) else
+    when eqb k 6 then part_rule (count_for k n) else
+    when eqb k 8 then log_rule (count_for k n) else
+    when eqb k 9 then log_rule (count_for k n) else
+    when eqb k 11 then state_rule n (count_for k n) else
     entries_rule (count_for k n)
 
 -- from the addressee on, in a frame of kind k

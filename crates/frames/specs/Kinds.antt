@@ -1,7 +1,7 @@
 -- Document 01, "Frames", and refusal 2 on a frame. A frame: length (4 bytes, of what follows), version 1, kind, addressee, fields.
 -- All places are counted from the frame's first byte. Assumes nothing.
 use Rattle.std.specs.Prelude.{Bool, true, List, [], ◌∷◌, ℕ, ◌+◌, ◌-◌, ◌*◌, leb, eqb, length, get_or, drop}
-use Rattle.numbers.specs.Words.{if◌then◌else◌, ◌and◌}
+use Rattle.numbers.specs.Words.{when◌then◌else◌, ◌and◌}
 use Rattle.numbers.specs.Numbers.{num, within}
 use Rattle.entries.specs.Entries.{entries_ok}
 
@@ -24,24 +24,24 @@ state_end = fields_end 11 + 8
 
 -- where the fields of this frame end
 unfoldable pub room_of : ℕ → List ℕ → ℕ
-room_of k s = if eqb k 11 then (if eqb (response_mark s) 1 then state_end else fields_end 11) else fields_end k
+room_of k s = when eqb k 11 then (when eqb (response_mark s) 1 then state_end else fields_end 11) else fields_end k
 
 -- NewState: start is at most end. RecoveryResponse: its mark is 0 or 1.
 unfoldable pub fields_ok : ℕ → List ℕ → Bool
 fields_ok k s =
-    if eqb k 6 then leb (num 4 11 s) (num 4 15 s) else
-    if eqb k 11 then leb (response_mark s) 1 else
+    when eqb k 6 then leb (num 4 11 s) (num 4 15 s) else
+    when eqb k 11 then leb (response_mark s) 1 else
     true
 
 -- how many entries the frame says that it carries
 unfoldable pub count_of : ℕ → List ℕ → ℕ
 count_of k s =
-    if eqb k 1 then 1 else
-    if eqb k 2 then 1 else
-    if eqb k 6 then num 4 15 s - num 4 11 s else
-    if eqb k 8 then num 4 16 s else
-    if eqb k 9 then num 4 11 s else
-    if eqb k 11 then (if eqb (response_mark s) 1 then num 4 21 s else 0) else
+    when eqb k 1 then 1 else
+    when eqb k 2 then 1 else
+    when eqb k 6 then num 4 15 s - num 4 11 s else
+    when eqb k 8 then num 4 16 s else
+    when eqb k 9 then num 4 11 s else
+    when eqb k 11 then (when eqb (response_mark s) 1 then num 4 21 s else 0) else
     0
 
 -- the length says what follows it, and the version is 1

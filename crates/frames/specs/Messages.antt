@@ -1,7 +1,7 @@
 -- Document 01, "Frames": what a well-formed frame says, and what its numbers are for the refusals that follow. The carried log is no part
 -- of the message: it stays in the frame, from `start` on. Assumes nothing.
 use Rattle.std.specs.Prelude.{List, ℕ, eqb, drop}
-use Rattle.numbers.specs.Words.{if◌then◌else◌}
+use Rattle.numbers.specs.Words.{when◌then◌else◌}
 use Rattle.numbers.specs.Numbers.{num, view_at, op_at}
 use Rattle.numbers.specs.declared.Op.{Op}
 use Rattle.entries.specs.Entries.{entry_of}
@@ -17,26 +17,26 @@ use Rattle.frames.specs.declared.Parsed.TheVariants.{Frame, Malformed}
 
 -- the end of a RecoveryResponse: 0, or 1 o c
 unfoldable pub response_state : List ℕ → RecoveryState
-response_state s = if eqb (response_mark s) 1 then Present (op_at 21 s) (op_at 25 s) else Absent
+response_state s = when eqb (response_mark s) 1 then Present (op_at 21 s) (op_at 25 s) else Absent
 
 -- the message of a frame of kind k
 unfoldable pub message_of : ℕ → List ℕ → Message
 message_of k s =
-    if eqb k 1 then Request (entry_of (drop (fields_end 1) s)) else
-    if eqb k 2 then Prepare (view_at 7 s) (op_at 11 s) (op_at 15 s) (entry_of (drop (fields_end 2) s)) else
-    if eqb k 3 then PrepareOk (view_at 7 s) (op_at 11 s) (num 1 15 s) else
-    if eqb k 4 then Commit (view_at 7 s) (op_at 11 s) else
-    if eqb k 5 then GetState (num 1 7 s) (view_at 8 s) (op_at 12 s) else
-    if eqb k 6 then NewState (view_at 7 s) (op_at 11 s) (op_at 15 s) (op_at 19 s) else
-    if eqb k 7 then StartViewChange (view_at 7 s) (num 1 11 s) else
-    if eqb k 8 then DoViewChange (view_at 7 s) (num 1 11 s) (view_at 12 s) (op_at 16 s) (op_at 20 s) else
-    if eqb k 9 then StartView (view_at 7 s) (op_at 11 s) (op_at 15 s) else
-    if eqb k 10 then Recovery (num 1 7 s) (num 8 8 s) (view_at 16 s) else
+    when eqb k 1 then Request (entry_of (drop (fields_end 1) s)) else
+    when eqb k 2 then Prepare (view_at 7 s) (op_at 11 s) (op_at 15 s) (entry_of (drop (fields_end 2) s)) else
+    when eqb k 3 then PrepareOk (view_at 7 s) (op_at 11 s) (num 1 15 s) else
+    when eqb k 4 then Commit (view_at 7 s) (op_at 11 s) else
+    when eqb k 5 then GetState (num 1 7 s) (view_at 8 s) (op_at 12 s) else
+    when eqb k 6 then NewState (view_at 7 s) (op_at 11 s) (op_at 15 s) (op_at 19 s) else
+    when eqb k 7 then StartViewChange (view_at 7 s) (num 1 11 s) else
+    when eqb k 8 then DoViewChange (view_at 7 s) (num 1 11 s) (view_at 12 s) (op_at 16 s) (op_at 20 s) else
+    when eqb k 9 then StartView (view_at 7 s) (op_at 11 s) (op_at 15 s) else
+    when eqb k 10 then Recovery (num 1 7 s) (num 8 8 s) (view_at 16 s) else
     RecoveryResponse (view_at 7 s) (num 8 11 s) (num 1 19 s) (response_state s)
 
 -- addressee and message, or refusal 2 with the offset of the first wrong byte
 unfoldable pub parse_frame : List ℕ → Parsed
-parse_frame s = if well_formed s then Frame (num 1 6 s) (message_of (kind_of s) s) else Malformed (offset_of s)
+parse_frame s = when well_formed s then Frame (num 1 6 s) (message_of (kind_of s) s) else Malformed (offset_of s)
 
 abbrev pub no_op : Op
 no_op = record { 0 = 0 }

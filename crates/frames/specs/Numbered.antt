@@ -2,7 +2,7 @@
 -- its kind and its fields, in the order of the frame table; of an entry its client, request, operation, member and cents. What number and values a frame
 -- earns is said here from its bytes alone, by the frame table and the refusal table; the contracts promise both. Assumes nothing.
 use Rattle.std.specs.Prelude.{◌≡◌, not, List, [], ◌∷◌, ◌++◌, ℕ, ◌+◌, eqb, leb, ltb, drop}
-use Rattle.numbers.specs.Words.{if◌then◌else◌, ◌or◌}
+use Rattle.numbers.specs.Words.{when◌then◌else◌, ◌or◌}
 use Rattle.numbers.specs.Numbers.{num}
 use Rattle.entries.specs.Entries.{entries}
 use Rattle.entries.specs.Rising.{rising}
@@ -87,65 +87,65 @@ entry_numbers a s = in_turn (8 ∷ 8 ∷ 1 ∷ []) a s ++ in_turn (4 ∷ 8 ∷ [
 unfoldable pub fields_in : ℕ → List ℕ → List ℕ
 fields_in k s =
     k ∷
-    (if eqb k 1 then entry_numbers 7 s else
-    if eqb k 2 then in_turn (4 ∷ 4 ∷ 4 ∷ []) 7 s ++ entry_numbers 19 s else
-    if eqb k 3 then in_turn (4 ∷ 4 ∷ 1 ∷ []) 7 s else
-    if eqb k 4 then in_turn (4 ∷ 4 ∷ []) 7 s else
-    if eqb k 5 then in_turn (1 ∷ 4 ∷ 4 ∷ []) 7 s else
-    if eqb k 6 then in_turn (4 ∷ 4 ∷ 4 ∷ 4 ∷ []) 7 s else
-    if eqb k 7 then in_turn (4 ∷ 1 ∷ []) 7 s else
-    if eqb k 8 then in_turn (4 ∷ 1 ∷ 4 ∷ 4 ∷ 4 ∷ []) 7 s else
-    if eqb k 9 then in_turn (4 ∷ 4 ∷ 4 ∷ []) 7 s else
-    if eqb k 10 then in_turn (1 ∷ 8 ∷ 4 ∷ []) 7 s else
-    in_turn (4 ∷ 8 ∷ 1 ∷ []) 7 s ++ (if eqb (response_mark s) 1 then 1 ∷ in_turn (4 ∷ 4 ∷ []) 21 s else 0 ∷ []))
+    (when eqb k 1 then entry_numbers 7 s else
+    when eqb k 2 then in_turn (4 ∷ 4 ∷ 4 ∷ []) 7 s ++ entry_numbers 19 s else
+    when eqb k 3 then in_turn (4 ∷ 4 ∷ 1 ∷ []) 7 s else
+    when eqb k 4 then in_turn (4 ∷ 4 ∷ []) 7 s else
+    when eqb k 5 then in_turn (1 ∷ 4 ∷ 4 ∷ []) 7 s else
+    when eqb k 6 then in_turn (4 ∷ 4 ∷ 4 ∷ 4 ∷ []) 7 s else
+    when eqb k 7 then in_turn (4 ∷ 1 ∷ []) 7 s else
+    when eqb k 8 then in_turn (4 ∷ 1 ∷ 4 ∷ 4 ∷ 4 ∷ []) 7 s else
+    when eqb k 9 then in_turn (4 ∷ 4 ∷ 4 ∷ []) 7 s else
+    when eqb k 10 then in_turn (1 ∷ 8 ∷ 4 ∷ []) 7 s else
+    in_turn (4 ∷ 8 ∷ 1 ∷ []) 7 s ++ (when eqb (response_mark s) 1 then 1 ∷ in_turn (4 ∷ 4 ∷ []) 21 s else 0 ∷ []))
 
 -- the sender; 0, which is below every n, where the kind names none
 unfoldable pub sender_in : ℕ → List ℕ → ℕ
 sender_in k s =
-    if eqb k 3 then num 1 15 s else
-    if eqb k 5 or eqb k 10 then num 1 7 s else
-    if eqb k 7 or eqb k 8 then num 1 11 s else
-    if eqb k 11 then num 1 19 s else
+    when eqb k 3 then num 1 15 s else
+    when eqb k 5 or eqb k 10 then num 1 7 s else
+    when eqb k 7 or eqb k 8 then num 1 11 s else
+    when eqb k 11 then num 1 19 s else
     0
 
 -- the carried o (kinds 2, 3, 5, 8, 9, 11) or end (6); 0 where there is none
 unfoldable pub op_in : ℕ → List ℕ → ℕ
 op_in k s =
-    if eqb k 2 or eqb k 3 or eqb k 9 then num 4 11 s else
-    if eqb k 5 then num 4 12 s else
-    if eqb k 6 then num 4 15 s else
-    if eqb k 8 then num 4 16 s else
-    if eqb k 11 then (if eqb (response_mark s) 1 then num 4 21 s else 0) else
+    when eqb k 2 or eqb k 3 or eqb k 9 then num 4 11 s else
+    when eqb k 5 then num 4 12 s else
+    when eqb k 6 then num 4 15 s else
+    when eqb k 8 then num 4 16 s else
+    when eqb k 11 then (when eqb (response_mark s) 1 then num 4 21 s else 0) else
     0
 
 -- the carried c that o bounds (kinds 8, 9, 11) or end (6); 0 where there is none
 unfoldable pub commit_in : ℕ → List ℕ → ℕ
 commit_in k s =
-    if eqb k 6 then num 4 19 s else
-    if eqb k 8 then num 4 20 s else
-    if eqb k 9 then num 4 15 s else
-    if eqb k 11 then (if eqb (response_mark s) 1 then num 4 25 s else 0) else
+    when eqb k 6 then num 4 19 s else
+    when eqb k 8 then num 4 20 s else
+    when eqb k 9 then num 4 15 s else
+    when eqb k 11 then (when eqb (response_mark s) 1 then num 4 25 s else 0) else
     0
 
 -- the whole carried log (kinds 8, 9, 11); empty where there is none
 unfoldable pub log_in : ℕ → List ℕ → List Entry
-log_in k s = if eqb k 8 or eqb k 9 or eqb k 11 then entries (count_of k s) (drop (room_of k s) s) else []
+log_in k s = when eqb k 8 or eqb k 9 or eqb k 11 then entries (count_of k s) (drop (room_of k s) s) else []
 
 -- the first refusal that the frame alone earns, in the order of the refusal table; 0: none
 unfoldable pub earned_by : Setup → List ℕ → ℕ
 earned_by u s =
-    if not (well_formed s) then 2 else
-    if not (eqb (num 1 6 s) u.id) or leb u.n (sender_in (kind_of s) s) then 3 else
-    if ltb u.room (op_in (kind_of s) s) then 4 else
-    if ltb (op_in (kind_of s) s) (commit_in (kind_of s) s) then 5 else
-    if not (rising (log_in (kind_of s) s)) then 6 else
+    when not (well_formed s) then 2 else
+    when not (eqb (num 1 6 s) u.id) or leb u.n (sender_in (kind_of s) s) then 3 else
+    when ltb u.room (op_in (kind_of s) s) then 4 else
+    when ltb (op_in (kind_of s) s) (commit_in (kind_of s) s) then 5 else
+    when not (rising (log_in (kind_of s) s)) then 6 else
     0
 
 unfoldable pub parse_numbers : List ℕ → Numbered
-parse_numbers s = if well_formed s then numbered 0 (num 1 6 s ∷ fields_in (kind_of s) s) else numbered 2 []
+parse_numbers s = when well_formed s then numbered 0 (num 1 6 s ∷ fields_in (kind_of s) s) else numbered 2 []
 
 unfoldable pub check_numbers : Setup → List ℕ → Numbered
-check_numbers u s = numbered (earned_by u s) (if eqb (earned_by u s) 0 then fields_in (kind_of s) s else [])
+check_numbers u s = numbered (earned_by u s) (when eqb (earned_by u s) 0 then fields_in (kind_of s) s else [])
 
 -- ---- what `parse` and `check` promise: the enum, its number and values, and where a malformed frame is wrong
 

@@ -1,6 +1,6 @@
 // When a frame is well formed. Each test is made once all bytes that it reads are known to be there.
 ghost use Rattle.std.specs.Prelude.{◌≡◌, true, ◌+◌, ◌-◌, ◌≤◌, eqb, length};
-ghost use Rattle.numbers.specs.Words.{if◌then◌else◌};
+ghost use Rattle.numbers.specs.Words.{when◌then◌else◌};
 ghost use Rattle.numbers.specs.Numbers.{num};
 ghost use Rattle.frames.specs.Kinds.{fields_end, response_mark, state_end, room_of, fields_ok, count_of, head_ok, body_ok, well_formed};
 
@@ -51,7 +51,7 @@ fn count_new_state(frame: &[u8]) -> u32
 
 fn count_response(frame: &[u8]) -> u32
     requires { (fields_end 11 ≤ length frame.now) × (response_mark frame.now ≡ 1 → state_end ≤ length frame.now) }
-    ensures { result ≡ (if eqb (response_mark frame.now) 1 then num 4 21 frame.now else 0) }
+    ensures { result ≡ (when eqb (response_mark frame.now) 1 then num 4 21 frame.now else 0) }
 {
     if numbers::read_u8(frame, 20) == 1 {
         return numbers::read_u32(frame, 21);

@@ -13,7 +13,7 @@ use native.Mathlib.Omega.{arith}
 use borrow.Author.Tests.{leb-true}
 use lib.Dec.{eqb}
 use lib.ListN.{length, drop, length-drop}
-use Rattle.numbers.specs.Words.{if◌then◌else◌}
+use Rattle.numbers.specs.Words.{when◌then◌else◌}
 use Rattle.numbers.specs.Numbers.{num, Bytes}
 use Rattle.numbers.specs.declared.View.{View}
 use Rattle.numbers.specs.declared.Op.{Op}
@@ -74,11 +74,11 @@ module _ (u : Setup) (frame : List ℕ) where
     request-known = known u frame 1 (Request e) refl h
 
     request-entry : e ≡ entry_of (drop 7 frame)
-    unfolding message_of if◌then◌else◌
+    unfolding message_of when◌then◌else◌
     request-entry = let q = request-known.message in cc
 
     pub request-ok : Bytes frame → EntryFits e × (operation_ok e.operation e.cents ≡ true)
-    unfolding room_of count_of if◌then◌else◌
+    unfolding room_of count_of when◌then◌else◌
     request-ok b = rw request-entry (first-ok (drop 7 frame) (drop-bytes 7 frame b) request-known.log)
 
   module _ (v : View) (o c : Op) (e : Entry) (h : check_frame u frame ≡ Passed (Prepare v o c e)) where
@@ -87,11 +87,11 @@ module _ (u : Setup) (frame : List ℕ) where
     prepare-known = known u frame 2 (Prepare v o c e) refl h
 
     prepare-entry : e ≡ entry_of (drop 19 frame)
-    unfolding message_of if◌then◌else◌
+    unfolding message_of when◌then◌else◌
     prepare-entry = let q = prepare-known.message in cc
 
     pub prepare-ok : Bytes frame → EntryFits e × (operation_ok e.operation e.cents ≡ true)
-    unfolding room_of count_of if◌then◌else◌
+    unfolding room_of count_of when◌then◌else◌
     prepare-ok b = rw prepare-entry (first-ok (drop 19 frame) (drop-bytes 19 frame b) prepare-known.log)
 
   -- ---- PrepareOk, StartViewChange
@@ -114,15 +114,15 @@ module _ (u : Setup) (frame : List ℕ) where
     new-state-known = known u frame 6 (NewState v a z c) refl h
 
     new-state-start : a.0 ≡ num 4 11 frame
-    unfolding message_of if◌then◌else◌
+    unfolding message_of when◌then◌else◌
     new-state-start = let e = new-state-known.message in cc
 
     new-state-end : z.0 ≡ num 4 15 frame
-    unfolding message_of if◌then◌else◌
+    unfolding message_of when◌then◌else◌
     new-state-end = let e = new-state-known.message in cc
 
     pub new-state-fit : (a.0 ≤ z.0) × ((z.0 ≤ u.room) × ((c.0 ≤ z.0) × (32 * (z.0 - a.0) ≤ length (carried_bytes (NewState v a z c) frame))))
-    unfolding carried_bytes carried_of fields_ok room_of count_of if◌then◌else◌
+    unfolding carried_bytes carried_of fields_ok room_of count_of when◌then◌else◌
     new-state-fit =
         let f = new-state-known in
         let l : num 4 11 frame ≤ num 4 15 frame = leb-true (num 4 11 frame) (num 4 15 frame) f.fields in
@@ -132,7 +132,7 @@ module _ (u : Setup) (frame : List ℕ) where
         )
 
     pub new-state-ok : entries_ok (z.0 - a.0) (carried_bytes (NewState v a z c) frame) ≡ true
-    unfolding carried_bytes carried_of room_of count_of if◌then◌else◌
+    unfolding carried_bytes carried_of room_of count_of when◌then◌else◌
     new-state-ok = rw (new-state-start, new-state-end) new-state-known.log
 
   -- ---- DoViewChange
@@ -143,18 +143,18 @@ module _ (u : Setup) (frame : List ℕ) where
     report-known = known u frame 8 (DoViewChange v r l o c) refl h
 
     report-op : o.0 ≡ num 4 16 frame
-    unfolding message_of if◌then◌else◌
+    unfolding message_of when◌then◌else◌
     report-op = let e = report-known.message in cc
 
     pub report-fit : (r < u.n) × ((o.0 ≤ u.room) × ((c.0 ≤ o.0) × (32 * o.0 ≤ length (carried_bytes (DoViewChange v r l o c) frame))))
-    unfolding carried_bytes carried_of room_of count_of if◌then◌else◌
+    unfolding carried_bytes carried_of room_of count_of when◌then◌else◌
     report-fit =
         let f = report-known in
         let e : length frame ≡ 24 + 32 * num 4 16 frame = f.exact in
         (f.sender, (f.op, (f.commit, rw (report-op, length-drop) (omega (arith, e)))))
 
     pub report-ok : entries_ok o.0 (carried_bytes (DoViewChange v r l o c) frame) ≡ true
-    unfolding carried_bytes carried_of room_of count_of if◌then◌else◌
+    unfolding carried_bytes carried_of room_of count_of when◌then◌else◌
     report-ok = rw report-op report-known.log
 
   -- ---- StartView
@@ -165,18 +165,18 @@ module _ (u : Setup) (frame : List ℕ) where
     start-view-known = known u frame 9 (StartView v o c) refl h
 
     start-view-op : o.0 ≡ num 4 11 frame
-    unfolding message_of if◌then◌else◌
+    unfolding message_of when◌then◌else◌
     start-view-op = let e = start-view-known.message in cc
 
     pub start-view-fit : (o.0 ≤ u.room) × ((c.0 ≤ o.0) × (32 * o.0 ≤ length (carried_bytes (StartView v o c) frame)))
-    unfolding carried_bytes carried_of room_of count_of if◌then◌else◌
+    unfolding carried_bytes carried_of room_of count_of when◌then◌else◌
     start-view-fit =
         let f = start-view-known in
         let e : length frame ≡ 19 + 32 * num 4 11 frame = f.exact in
         (f.op, (f.commit, rw (start-view-op, length-drop) (omega (arith, e))))
 
     pub start-view-ok : entries_ok o.0 (carried_bytes (StartView v o c) frame) ≡ true
-    unfolding carried_bytes carried_of room_of count_of if◌then◌else◌
+    unfolding carried_bytes carried_of room_of count_of when◌then◌else◌
     start-view-ok = rw start-view-op start-view-known.log
 
   -- ---- RecoveryResponse
@@ -188,7 +188,7 @@ module _ (u : Setup) (frame : List ℕ) where
     response-known = known u frame 11 (RecoveryResponse v x r (Present o c)) refl h
 
     response-state : Present o c ≡ response_state frame
-    unfolding message_of if◌then◌else◌
+    unfolding message_of when◌then◌else◌
     response-state = let e = response-known.message in cc
 
     -- its mark is 1
@@ -199,11 +199,11 @@ module _ (u : Setup) (frame : List ℕ) where
         (λ b e. (b, cc)) (λ _ e. absurd (let q : ◌≡◌ {A = ℕ} 0 1 = cc in omega arith)) response-state
 
     response-long : length frame ≡ 29 + 32 * o.0
-    unfolding room_of count_of if◌then◌else◌
+    unfolding room_of count_of when◌then◌else◌
     response-long = rw response-mark.0 at response-known.exact ∙ ap (λ (i : ℕ). 29 + 32 * i) (sym response-mark.1)
 
     response-log : entries_ok o.0 (carried_bytes (RecoveryResponse v x r (Present o c)) frame) ≡ true
-    unfolding carried_bytes carried_of state_row room_of count_of if◌then◌else◌
+    unfolding carried_bytes carried_of state_row room_of count_of when◌then◌else◌
     response-log = rw response-mark.1 (rw response-mark.0 at response-known.log)
 
   -- what is held of it

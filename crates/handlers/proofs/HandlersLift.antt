@@ -9,7 +9,7 @@ use mathlib.Core.List.{List, []}
 use mathlib.Core.Option.{Option}
 use lib.Dec.{eqb}
 use lib.ListN.{length}
-use Rattle.numbers.specs.Words.{if◌then◌else◌, ◌and◌, ◌or◌}
+use Rattle.numbers.specs.Words.{when◌then◌else◌, ◌and◌, ◌or◌}
 use Rattle.numbers.specs.Numbers.{within, Bytes}
 use Rattle.numbers.specs.declared.View.{View}
 use Rattle.numbers.specs.declared.Op.{Op}
@@ -136,8 +136,8 @@ in-change ViewChange e = refl
 in-change Recovering e = absurd (false≢true e)
 
 -- a choice within a choice, and by joined tests
-by_both : {A : Type 0} (a b : Bool) (x y z : A) → (if a then (if b then x else y) else z) ≡ (if a and b then x else if a then y else z)
-unfolding if◌then◌else◌ ◌and◌
+by_both : {A : Type 0} (a b : Bool) (x y z : A) → (when a then (when b then x else y) else z) ≡ (when a and b then x else when a then y else z)
+unfolding when◌then◌else◌ ◌and◌
 by_both true true x y z = refl
 by_both true false x y z = refl
 by_both false b x y z = refl
@@ -352,7 +352,7 @@ module _ (c : Given) (table : List ClientEntry) (applied : List Entry) (h : Fit 
         (λ f. transfer-tick-shown c table applied t t.clock f refl)
 
   normal : Awake → Said (normal_tick c.state c.runs.log c.out)
-      (if is_primary u m then primary_tick u m else follow_tick u m (tick_of u.timeout Follow c.state.clock) [])
+      (when is_primary u m then primary_tick u m else follow_tick u m (tick_of u.timeout Follow c.state.clock) [])
   unfolding normal_tick leads is_primary primary model_of
   normal looks =
       split₂ Said _ _ _ _ _ _ refl

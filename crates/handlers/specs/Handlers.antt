@@ -1,7 +1,7 @@
 -- on_message, its match, and on_idle, on the state by value and the bytes of all lent runs but the client table, whose row of the client is handed in
 -- by value. A frame comes here after refusals 1 to 6 on it alone. Assumes nothing.
 use Rattle.std.specs.Prelude.{◌≡◌, Bool, true, false, not, List, ℕ}
-use Rattle.numbers.specs.Words.{if◌then◌else◌}
+use Rattle.numbers.specs.Words.{when◌then◌else◌}
 use Rattle.numbers.specs.declared.View.{View}
 use Rattle.clock.specs.Clock.{tick_of}
 use Rattle.clock.specs.declared.Ticked.{Ticked}
@@ -49,22 +49,22 @@ handled (RecoveryResponse v x r t) s latest frame m = of_collected m (response_s
 -- on_message: a kind that the status doesn't look at is ignored
 unfoldable pub message_step : Message → Replica → Latest → (frame : List ℕ) → Memory → Recorded
 message_step x s latest frame m =
-    if looks_at s.status (carried_of x).kind then handled x s latest frame m else
+    when looks_at s.status (carried_of x).kind then handled x s latest frame m else
     recorded (quiet s) m
 
 -- on_idle of a Normal backup, t being its clock's tick
 unfoldable pub follow_tick : Replica → Ticked → List ℕ → Spoke
-follow_tick s t out = if t.up then next_view s t.clock out else spoke (backup_tick s t.clock) out
+follow_tick s t out = when t.up then next_view s t.clock out else spoke (backup_tick s t.clock) out
 
 -- in Normal
 unfoldable pub normal_tick : Replica → (log out : List ℕ) → Spoke
 normal_tick s log out =
-    if leads s then primary_tick s log out else
+    when leads s then primary_tick s log out else
     follow_tick s (tick_of s.setup.timeout Follow s.clock) out
 
 -- in StateTransfer
 unfoldable pub ask_tick : Replica → Ticked → List ℕ → Spoke
-ask_tick s t out = if t.up then next_view_asking s t.clock out else transfer_tick s t.clock out
+ask_tick s t out = when t.up then next_view_asking s t.clock out else transfer_tick s t.clock out
 
 -- in ViewChange
 unfoldable pub changing_tick : Replica → Ticked → Memory → Recorded
@@ -73,7 +73,7 @@ changing_tick s t m = change_tick s t.clock t.up m
 -- on_idle
 unfoldable pub idle_step : Replica → Memory → Recorded
 idle_step s m =
-    if is_normal s.status then only_sent m (normal_tick s m.runs.log m.out) else
-    if is_transfer s.status then only_sent m (ask_tick s (tick_of s.setup.timeout Follow s.clock) m.out) else
-    if is_changing s.status then changing_tick s (tick_of s.setup.timeout Change s.clock) m else
+    when is_normal s.status then only_sent m (normal_tick s m.runs.log m.out) else
+    when is_transfer s.status then only_sent m (ask_tick s (tick_of s.setup.timeout Follow s.clock) m.out) else
+    when is_changing s.status then changing_tick s (tick_of s.setup.timeout Change s.clock) m else
     only_sent m (recovering_tick s m.out)

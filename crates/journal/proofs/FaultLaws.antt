@@ -15,7 +15,7 @@ use lib.Dec.{eqb, ltb}
 use lib.ListN.{length, drop, length-drop}
 use lib.Seq.{drop-drop}
 use borrow.Author.Tests.{ltb-true, ltb-false, lt-ltb, le-ltb, eqb-true, eq-eqb, ne_eqb, not-false}
-use Rattle.numbers.specs.Words.{if◌then◌else◌}
+use Rattle.numbers.specs.Words.{when◌then◌else◌}
 use Rattle.numbers.specs.Numbers.{num}
 use Rattle.numbers.proofs.WordLaws.{split, if-true, if-false}
 use Rattle.numbers.proofs.NumberLaws.{num-drop}
@@ -33,8 +33,8 @@ short-at n at = go _ refl
     go false h = let l = ltb-false n (at + 50) h in le-ltb (n - at) 50 (omega arith) ∙ sym h
 
 pub form-at : (op at : ℕ) (s : List ℕ) → form_fault op (drop at s)
-    ≡ (if ltb (length s) (at + 50) then 1 else if not (eqb (num 4 at s) 46) then 2 else if not (eqb (num 1 (at + 4) s) 1) then 3
-    else if not (eqb (num 4 (at + 5) s) op) then 4 else if not (entry_ok (drop (at + 9) s)) then 5 else 0)
+    ≡ (when ltb (length s) (at + 50) then 1 else when not (eqb (num 4 at s) 46) then 2 else when not (eqb (num 1 (at + 4) s) 1) then 3
+    else when not (eqb (num 4 (at + 5) s) op) then 4 else when not (entry_ok (drop (at + 9) s)) then 5 else 0)
 unfolding form_fault
 form-at op at s =
     rw (length-drop at s, short-at (length s) at, num-drop 4 at 0 s, add-zero at, num-drop 1 at 4 s, num-drop 4 at 5 s, drop-drop)
@@ -63,8 +63,8 @@ pub record GoodForm (op : ℕ) (s : List ℕ) : Type 0 where
   pub entry-ok : entry_ok (drop 9 s) ≡ true
 
 -- a test that would give another number than 0 has failed
-pub passed : (b : Bool) (k rest : ℕ) → 0 < k → (if b then k else rest) ≡ 0 → (b ≡ false) × (rest ≡ 0)
-unfolding if◌then◌else◌
+pub passed : (b : Bool) (k rest : ℕ) → 0 < k → (when b then k else rest) ≡ 0 → (b ≡ false) × (rest ≡ 0)
+unfolding when◌then◌else◌
 passed true k rest p e = absurd (omega arith)
 passed false k rest p e = (refl, e)
 

@@ -16,7 +16,7 @@ use lib.Dec.{leb, ltb}
 use lib.ListN.{length, get_or, set, take, drop, replicate, length-drop, length-replicate, replicate-append-replicate}
 use lib.Seq.{length-take-le, get_or-take, get_or-drop, take_at, drop_at, take-set-lt, take-set-le, drop-set-add, drop-set-lt}
 use borrow.Author.Tests.{ltb-true, ltb-false, leb-true, lt-ltb, le-ltb, le-leb}
-use Rattle.numbers.specs.Words.{if◌then◌else◌}
+use Rattle.numbers.specs.Words.{when◌then◌else◌}
 use Rattle.numbers.specs.Numbers.{Bytes}
 use Rattle.numbers.specs.Cells.{cells}
 use Rattle.numbers.proofs.WordLaws.{split, if-true, if-false}
@@ -80,7 +80,7 @@ module _ (M low : ℕ) where
     pub below_next : groups_below M (low + 64) m ≡ true → groups_below M low m ≡ false → in_group M low m ≡ true
     unfolding groups_below in_group
     below_next =
-        split (λ (b : Bool). (if ltb m (low + 64) then true else leb M (low + 64)) ≡ true → b ≡ false → in_group M low m ≡ true) (ltb m low) _ _
+        split (λ (b : Bool). (when ltb m (low + 64) then true else leb M (low + 64)) ≡ true → b ≡ false → in_group M low m ≡ true) (ltb m low) _ _
         (λ _ _ e. absurd (false≢true (sym e)))
         (λ p a _.
         if-false _ _ _ p

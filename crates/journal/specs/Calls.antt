@@ -3,7 +3,7 @@
 -- a run of totals that isn't 8M bytes; in writing 2, an entry outside its rules, and 4, past 4,096 entries; in reading 12; 9, the result doesn't fit.
 -- Assumes nothing.
 use Rattle.std.specs.Prelude.{Bool, true, not, List, [], ◌∷◌, ℕ, ◌+◌, ◌-◌, ◌*◌, eqb, leb, ltb, length, drop}
-use Rattle.numbers.specs.Words.{if◌then◌else◌, ◌and◌}
+use Rattle.numbers.specs.Words.{when◌then◌else◌, ◌and◌}
 use Rattle.numbers.specs.Numbers.{big, within, over}
 use Rattle.numbers.specs.Cells.{cells, packed}
 use Rattle.entries.specs.Entries.{encode_entry, entries, run_count, run_ok}
@@ -35,14 +35,14 @@ not_written k area = record { answer = record { code = k; bytes = 0 }; area = ar
 -- the bytes w at the front of the area, where they fit
 unfoldable pub writing : (w area : List ℕ) → LeftWritten
 writing w area =
-    if ltb (length area) (length w) then not_written 9 area else
+    when ltb (length area) (length w) then not_written 9 area else
     record { answer = record { code = 0; bytes = length w }; area = over w area }
 
 unfoldable pub write_call : (M : ℕ) (run area : List ℕ) → LeftWritten
 write_call M run area =
-    if not (within 1 4096 M) then not_written 1 area else
-    if not (run_ok run) then not_written 2 area else
-    if ltb 4096 (run_count run) then not_written 4 area else
+    when not (within 1 4096 M) then not_written 1 area else
+    when not (run_ok run) then not_written 2 area else
+    when ltb 4096 (run_count run) then not_written 4 area else
     writing (journal M (entries (run_count run) run)) area
 
 -- the frames of ops from + 1 to `to` out of a replica's log and results
@@ -57,7 +57,7 @@ ops_there from to log results =
 
 unfoldable pub append_call : (from to : ℕ) (log results area : List ℕ) → LeftWritten
 append_call from to log results area =
-    if not (ops_there from to log results) then not_written 1 area else
+    when not (ops_there from to log results) then not_written 1 area else
     writing (frames_in from to log results) area
 
 -- ---- reading
@@ -74,7 +74,7 @@ not_read k p f area totals = record { answer = record { code = k; entries = 0; o
 -- a file that is good: its entries over the front of the area, where they fit, and the members' totals after them
 unfoldable pub read_into : (M : ℕ) → List Entry → (area totals : List ℕ) → LeftRead
 read_into M es area totals =
-    if ltb (length area) (32 * length es) then not_read 9 0 0 area totals else
+    when ltb (length area) (32 * length es) then not_read 9 0 0 area totals else
     record {
       answer = record { code = 0; entries = length es; offset = 0; fault = 0 };
       area = over (packed encode_entry es) area;
@@ -83,7 +83,7 @@ read_into M es area totals =
 
 unfoldable pub read_examined : (M : ℕ) → Examined → (file area totals : List ℕ) → LeftRead
 read_examined M j file area totals =
-    if eqb j.fault 0 then read_into M (filed j.frames file) area totals else
+    when eqb j.fault 0 then read_into M (filed j.frames file) area totals else
     not_read 12 (50 * j.frames) j.fault area totals
 
 -- M totals in a run
@@ -92,7 +92,7 @@ totals_there M totals = within 1 4096 M and eqb (length totals) (8 * M)
 
 unfoldable pub read_call : (M : ℕ) (file area totals : List ℕ) → LeftRead
 read_call M file area totals =
-    if not (totals_there M totals) then not_read 1 0 0 area totals else
+    when not (totals_there M totals) then not_read 1 0 0 area totals else
     read_examined M (examined M file) file area totals
 
 -- ---- looking at a journal
@@ -106,8 +106,8 @@ not_framed f = framed_as f (record { client = 0; request = 0; operation = 0; mem
 
 unfoldable pub frame_in : (i : ℕ) (file : List ℕ) → Framed
 frame_in i file =
-    if leb 4096 i then not_framed 8 else
-    if eqb (form_fault (i + 1) (drop (50 * i) file)) 0 then framed_as 0 (framed_entry (drop (50 * i) file)) (framed_result (drop (50 * i) file)) else
+    when leb 4096 i then not_framed 8 else
+    when eqb (form_fault (i + 1) (drop (50 * i) file)) 0 then framed_as 0 (framed_entry (drop (50 * i) file)) (framed_result (drop (50 * i) file)) else
     not_framed (form_fault (i + 1) (drop (50 * i) file))
 
 -- no total above 1,000,000,000
@@ -118,6 +118,6 @@ all_small (t ∷ ts) = leb t 1000000000 and all_small ts
 -- the takings: all totals added up. 1 also where one is above 1,000,000,000, which no fee rule gives
 unfoldable pub takings_of : (M : ℕ) (totals : List ℕ) → Added
 takings_of M totals =
-    if not (totals_there M totals) then record { code = 1; cents = 0 } else
-    if not (all_small (cells 8 total_of M totals)) then record { code = 1; cents = 0 } else
+    when not (totals_there M totals) then record { code = 1; cents = 0 } else
+    when not (all_small (cells 8 total_of M totals)) then record { code = 1; cents = 0 } else
     record { code = 0; cents = sum (cells 8 total_of M totals) }

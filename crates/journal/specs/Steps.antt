@@ -1,7 +1,7 @@
 -- What the steps of writing and of examining a journal promise to the calls that take them. Members are taken in groups of 64, those from `low` on, so
 -- that the totals of a group take 512 bytes; the last group has those too who are no members. Assumes nothing.
 use Rattle.std.specs.Prelude.{◌≡◌, Bool, true, false, List, ℕ, ◌+◌, ◌-◌, ◌*◌, ◌≤◌, ◌<◌, leb, ltb, length, take, drop}
-use Rattle.numbers.specs.Words.{if◌then◌else◌}
+use Rattle.numbers.specs.Words.{when◌then◌else◌}
 use Rattle.entries.specs.Entries.{entry_of, entries}
 use Rattle.entries.specs.declared.Entry.{Entry}
 use Rattle.model.specs.Book.{outcome, through}
@@ -13,18 +13,18 @@ use Rattle.journal.specs.declared.Examined.{Examined}
 
 -- how many members a group has
 unfoldable pub group_size : (M low : ℕ) → ℕ
-group_size M low = if ltb (M - low) 64 then M - low else 64
+group_size M low = when ltb (M - low) 64 then M - low else 64
 
 -- whether an entry of this member is taken with the group
 unfoldable pub in_group : (M low member : ℕ) → Bool
 in_group M low m =
-    if ltb m low then false else
-    if ltb (m - low) 64 then true else
+    when ltb m low then false else
+    when ltb (m - low) 64 then true else
     leb (M - low) 64
 
 -- whether it is taken with a group before this one
 unfoldable pub groups_below : (M low member : ℕ) → Bool
-groups_below M low m = if ltb m low then true else leb M low
+groups_below M low m = when ltb m low then true else leb M low
 
 -- an entry, its member being counted from the group's first
 abbrev pub group_entry : (low : ℕ) → Entry → Entry

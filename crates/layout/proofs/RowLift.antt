@@ -16,7 +16,7 @@ use lib.Dec.{ltb, eqb}
 use lib.ListN.{length, get_or, take, drop, length-append, length-take, length-drop, drop_of_length-le}
 use lib.Seq.{get_or-drop, take_all}
 use borrow.Author.Tests.{lt-ltb, le-ltb, leb-true}
-use Rattle.numbers.specs.Words.{if◌then◌else◌, ◌and◌}
+use Rattle.numbers.specs.Words.{when◌then◌else◌, ◌and◌}
 use Rattle.numbers.proofs.WordLaws.{split, split₂, if-true, if-false, and-true, and-false}
 use Rattle.numbers.proofs.NumberLaws.{le-or-lt}
 use Rattle.client_table.specs.declared.Goal.TheVariants.{Client, End}
@@ -98,7 +98,7 @@ module _ {R : Type 0} (h : Shape R) where
   -- what a row says of a client
   abbrev pub seen_at : R → ℕ → Seen
   seen_at x c =
-      if h.used x and eqb (h.client x) c then record { there = true; request = h.request x; kept = h.kept x } else find [] c
+      when h.used x and eqb (h.client x) c then record { there = true; request = h.request x; kept = h.kept x } else find [] c
 
   -- told by the first row, where all are of the client or above it
   head-seen : h.used h.blank ≡ false → (ys : List R) (c : ℕ) → Rises (table_in h ys) → Floor c (table_in h ys)
@@ -166,7 +166,7 @@ module _ {R : Type 0} (h : Shape R) where
         ap (λ (z : Seen). z.there) (find-lift law c)
         ∙ split₂ (λ (z : Seen) (b : Bool). z.there ≡ b) _ _ _ _ _ _ refl (λ _. refl) (λ _. refl) ∙ as_is _
       where
-        as_is : (b : Bool) → (if b then true else false) ≡ b
+        as_is : (b : Bool) → (when b then true else false) ≡ b
         as_is b = split (λ (a : Bool). a ≡ b) b true false (λ e. sym e) (λ e. sym e)
 
     pub find-row : Lawful h → (c : ℕ) → is_there h xs c ≡ true

@@ -1,8 +1,8 @@
 -- The layout: the model's state as it is read from the state that a replica holds by value and from the runs that it is lent. Nothing is written
 -- by this: what a call leaves in each run is said of bytes. Assumes nothing.
-use Rattle.std.specs.Prelude.{ℕ, zero, suc, ◌≤◌, ◌≡◌, false, List, [], ◌∷◌, length, take, drop, replicate}
+use Rattle.std.specs.Prelude.{ℕ, suc, ◌≤◌, ◌≡◌, false, List, [], ◌∷◌, length, take, drop, replicate}
 use Rattle.std.proofs.Math.Option.{Option, none, some}
-use Rattle.numbers.specs.Words.{if◌then◌else◌}
+use Rattle.numbers.specs.Words.{when◌then◌else◌}
 use Rattle.numbers.specs.Numbers.{num}
 use Rattle.numbers.specs.Cells.{cells}
 use Rattle.entries.specs.Entries.{entries}
@@ -43,7 +43,7 @@ module _ {R : Type 0} (h : Shape R) where
   -- the rows before the first unused one
   unfoldable pub table_in : List R → List M.ClientEntry
   table_in [] = []
-  table_in (x ∷ xs) = if h.used x then meant x ∷ table_in xs else []
+  table_in (x ∷ xs) = when h.used x then meant x ∷ table_in xs else []
 
   -- rows as calls leave them: client ids rise, unused rows stand last
   pub record Ordered (xs : List R) : Type 0 where
@@ -61,12 +61,12 @@ module _ (u : Setup) (stored : List ℕ) where
 
   -- a place, read as a DoViewChange
   unfoldable pub report_at : ℕ → Report → Option M.Reported
-  report_at i d = if d.there then some (record { last_normal = d.view.0; held = held_at i d }) else none
+  report_at i d = when d.there then some (record { last_normal = d.view.0; held = held_at i d }) else none
 
   -- a place, read as a RecoveryResponse
   unfoldable pub response_at : ℕ → Report → Option M.Response
   response_at i d =
-      if d.there then some (record { view = d.view.0; held = if d.full then some (held_at i d) else none }) else none
+      when d.there then some (record { view = d.view.0; held = when d.full then some (held_at i d) else none }) else none
 
 -- the places from id i on
 unfoldable pub placed : {A : Type 0} → (ℕ → Report → Option A) → ℕ → List Report → List (Option A)
@@ -78,10 +78,10 @@ unfoldable pub store_of : Replica → List ℕ → M.Store
 store_of s stored =
     record {
       reports =
-          if is_recovering s.status then replicate s.setup.n none else
+          when is_recovering s.status then replicate s.setup.n none else
           placed (report_at s.setup stored) 0 (take s.setup.n s.reports.rows);
       responses =
-          if is_recovering s.status then placed (response_at s.setup stored) 0 (take s.setup.n s.reports.rows) else
+          when is_recovering s.status then placed (response_at s.setup stored) 0 (take s.setup.n s.reports.rows) else
           replicate s.setup.n none;
       nonce = s.nonce;
     }

@@ -16,7 +16,7 @@ use mathlib.Core.Option.{Option, none, some}
 use lib.Dec.{ltb}
 use lib.ListN.{drop}
 use borrow.Author.Tests.{ltb-false, leb-true}
-use Rattle.numbers.specs.Words.{if◌then◌else◌}
+use Rattle.numbers.specs.Words.{when◌then◌else◌}
 use Rattle.numbers.specs.declared.View.{View}
 use Rattle.numbers.proofs.WordLaws.{split, and_right}
 use Rattle.entries.specs.declared.Entry.{Entry}
@@ -148,7 +148,7 @@ module _ (u : Setup) (Asked : ℕ → ℕ → Type 0) where
 
   -- ---- answers
 
-  cases : {m : State} (b : Bool) (x y : Answer) → (b ≡ true → Fair u Asked m x) → (b ≡ false → Fair u Asked m y) → Fair u Asked m (if b then x else y)
+  cases : {m : State} (b : Bool) (x y : Answer) → (b ≡ true → Fair u Asked m x) → (b ≡ false → Fair u Asked m y) → Fair u Asked m (when b then x else y)
   cases {m} = split (Fair u Asked m)
 
   -- votes that follow, and messages that need nothing

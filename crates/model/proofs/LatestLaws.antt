@@ -13,7 +13,7 @@ use mathlib.Core.Logic.{◌⊎◌, inl, inr, ⊎_elim}
 use mathlib.Core.Option.{Option}
 use lib.Dec.{leb, eqb}
 use borrow.Author.Tests.{eqb-true, eqb-false, eq-eqb, ne_eqb, leb-true, leb-false, le-leb, lt-leb, not-true}
-use Rattle.numbers.specs.Words.{if◌then◌else◌, ◌and◌}
+use Rattle.numbers.specs.Words.{when◌then◌else◌, ◌and◌}
 use Rattle.numbers.proofs.WordLaws.{split, if-true, if-false, and_left, and_right, and-true, and-false, and_yes}
 use Rattle.numbers.proofs.NumberLaws.{eq-or-not}
 use Rattle.entries.specs.Rising.{breaks_at, follows, rising}
@@ -48,7 +48,7 @@ find-other (q ∷ qs) r c n =
     let h : r.client ≡ q.client = eqb-true _ _ eq in
     if-false _ _ _ (ne_eqb r.client c n) ∙ sym (if-false _ _ _ (ne_eqb q.client c (λ e. n (h ∙ e)))))
     (λ _.
-    ap (λ (z : Seen). if eqb q.client c then record { there = true; request = q.request; kept = q.kept } else z) (find-other qs r c n))
+    ap (λ (z : Seen). when eqb q.client c then record { there = true; request = q.request; kept = q.kept } else z) (find-other qs r c n))
 
 -- ---- the table has each client's latest request
 

@@ -1,7 +1,7 @@
 -- What a statement opens so that antt computes it: all definitions of a file, and of those that it rests on. Assumes nothing.
 use Rattle.state.specs.Statuses.{is_normal, is_transfer, is_changing}
 use Rattle.model.specs.State.{after, ignored, set_place, set_book, set_votes, set_store, set_clock, set_status, set_acks, op_of}
-use Rattle.numbers.specs.Words.{if◌then◌else◌, ◌and◌, ◌or◌}
+use Rattle.numbers.specs.Words.{when◌then◌else◌, ◌and◌, ◌or◌}
 use Rattle.entries.specs.Entries.{operation_of, encode_entry, operation_ok, entry_of, entry_ok, entries_ok}
 use Rattle.entries.specs.Rising.{breaks_at, follows, rising}
 use Rattle.fees.specs.Takings.{takings_after}
@@ -34,7 +34,7 @@ unfolding is_normal is_transfer is_changing after ignored set_place set_book set
 open-state = tt
 
 unfoldable pub open-book : Unit {0}
-unfolding if◌then◌else◌ ◌and◌ ◌or◌ operation_of breaks_at follows rising rule takings_after outcome totals_after through results_of find put entry_row append append_all keep commit_one commit_all due_entries commit_up_to replies_of commit_replies rebuilt table_of install same_entry agree empty_book
+unfolding when◌then◌else◌ ◌and◌ ◌or◌ operation_of breaks_at follows rising rule takings_after outcome totals_after through results_of find put entry_row append append_all keep commit_one commit_all due_entries commit_up_to replies_of commit_replies rebuilt table_of install same_entry agree empty_book
 open-book = tt
 
 unfoldable pub open-sending : Unit {0}

@@ -15,7 +15,7 @@ use lib.Dec.{ltb}
 use lib.ListN.{length, get_or, take, drop, length-append, length-take, length-drop}
 use lib.Seq.{drop-drop}
 use borrow.Author.Tests.{ltb-true, ltb-false, eqb-true, eqb-false, eq-eqb, ne_eqb, le-ltb}
-use Rattle.numbers.specs.Words.{if◌then◌else◌}
+use Rattle.numbers.specs.Words.{when◌then◌else◌}
 use Rattle.numbers.proofs.WordLaws.{split, if-true, if-false, and_left}
 use Rattle.entries.specs.declared.Entry.{Entry}
 use Rattle.fees.specs.declared.Outcome.{Outcome}
@@ -64,7 +64,7 @@ absent c (q ∷ qs) p =
 -- the rows that stand before the first whose client isn't below c; ids rise, so all that are below
 unfoldable pub below : ℕ → List ClientEntry → ℕ
 below c [] = 0
-below c (r ∷ rs) = if ltb r.client c then suc (below c rs) else 0
+below c (r ∷ rs) = when ltb r.client c then suc (below c rs) else 0
 
 pub below-le : (c : ℕ) (t : List ClientEntry) → below c t ≤ length t
 unfolding below

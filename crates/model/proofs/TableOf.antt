@@ -18,7 +18,7 @@ use lib.Dec.{ltb}
 use lib.ListN.{length, get_or, take, drop, length-append, length-take, length-drop, take-append-drop}
 use lib.Seq.{append_snoc, take_all, drop-drop, get_or-take, length-take-le}
 use borrow.Author.Tests.{eq-eqb, ne_eqb, not-true, ltb-true, ltb-false}
-use Rattle.numbers.specs.Words.{if◌then◌else◌}
+use Rattle.numbers.specs.Words.{when◌then◌else◌}
 use Rattle.numbers.proofs.WordLaws.{split, if-true, if-false, and_left, and_right, and-true, and-false}
 use Rattle.numbers.proofs.NumberLaws.{eq-or-not, le-or-lt}
 use Rattle.entries.specs.Rising.{breaks_at, follows, rising}
@@ -193,7 +193,7 @@ module _ (log : List Entry) (rs : List Outcome) (k : ℕ) where
   table_none c d n = rebuilt-none c [] log (take k rs) d n
 
   -- what was given of the first k
-  gave-taken : (i : ℕ) (o : Outcome) → k ≤ length rs → gave (take k rs) i ≡ (if ltb i k then some (get_or rs i o) else none)
+  gave-taken : (i : ℕ) (o : Outcome) → k ≤ length rs → gave (take k rs) i ≡ (when ltb i k then some (get_or rs i o) else none)
   gave-taken i o h =
       let l : length (take k rs) ≡ k = length-take-le k rs h in
       split (λ (x : Option Outcome). gave (take k rs) i ≡ x) _ _ _
@@ -204,7 +204,7 @@ module _ (log : List Entry) (rs : List Outcome) (k : ℕ) where
 
   pub table-last : (d : Entry) (o : Outcome) (i : ℕ) → k ≤ length rs → i < length log
       → ((j : ℕ) → i < j → j < length log → (get_or log j d).client ≡ (get_or log i d).client → ⊥)
-      → find (table_of log rs k) (get_or log i d).client ≡ seen_as (get_or log i d).request (if ltb i k then some (get_or rs i o) else none)
+      → find (table_of log rs k) (get_or log i d).client ≡ seen_as (get_or log i d).request (when ltb i k then some (get_or rs i o) else none)
   unfolding table_of
   table-last d o i h l n = rebuilt-last [] log (take k rs) d i l n ∙ ap (seen_as (get_or log i d).request) (gave-taken i o h)
 

@@ -1,7 +1,7 @@
 -- The book: the fee rules over the members' totals, the client table, append, commit and install. Assumes nothing.
 use Rattle.std.specs.Prelude.{ℕ, zero, suc, ◌+◌, ◌-◌, ◌<◌, Bool, true, false, List, [], ◌∷◌, ◌++◌, ltb, eqb, length, get_or, set, take, drop, replicate}
 use Rattle.std.proofs.Math.Option.{Option, none, some}
-use Rattle.numbers.specs.Words.{if◌then◌else◌, ◌and◌}
+use Rattle.numbers.specs.Words.{when◌then◌else◌, ◌and◌}
 use Rattle.entries.specs.Entries.{operation_of}
 use Rattle.entries.specs.declared.Entry.{Entry}
 use Rattle.fees.specs.Fees.{gives, rule}
@@ -12,12 +12,12 @@ use Rattle.model.specs.State.{ClientEntry, Book, Reply}
 -- what the fee rules give for an entry on the members' totals: a member not below M has outcome 4 (document 01, "Fee rules")
 unfoldable pub outcome : List ℕ → Entry → Outcome
 outcome ts e =
-    if ltb e.member (length ts) then rule (get_or ts e.member 0) (operation_of e.operation) e.cents else
+    when ltb e.member (length ts) then rule (get_or ts e.member 0) (operation_of e.operation) e.cents else
     gives 4 0
 
 -- the totals after it
 unfoldable pub totals_after : List ℕ → Entry → List ℕ
-totals_after ts e = if ltb e.member (length ts) then set ts e.member (outcome ts e).total else ts
+totals_after ts e = when ltb e.member (length ts) then set ts e.member (outcome ts e).total else ts
 
 -- the totals after a list of entries, one after the other
 unfoldable pub through : List ℕ → List Entry → List ℕ
@@ -53,14 +53,14 @@ pub record Seen : Type 0 where
 -- the first row of the client; ids rise, so it is the only one
 unfoldable pub find : List ClientEntry → ℕ → Seen
 find [] c = record { there = false; request = 0; kept = none }
-find (r ∷ rs) c = if eqb r.client c then record { there = true; request = r.request; kept = r.kept } else find rs c
+find (r ∷ rs) c = when eqb r.client c then record { there = true; request = r.request; kept = r.kept } else find rs c
 
 -- `client_table.insert`: the row in its place, or in place of the client's old one; client ids rise
 unfoldable pub put : List ClientEntry → ClientEntry → List ClientEntry
 put [] r = r ∷ []
 put (q ∷ qs) r =
-    if ltb r.client q.client then r ∷ q ∷ qs else
-    if eqb r.client q.client then r ∷ qs else
+    when ltb r.client q.client then r ∷ q ∷ qs else
+    when eqb r.client q.client then r ∷ qs else
     q ∷ put qs r
 
 -- the row of an entry, with the reply kept for it
@@ -88,7 +88,7 @@ append_all b (e ∷ es) = append_all (append b e) es
 -- the table after an entry was executed: its reply is kept if the request is still the client's latest
 unfoldable pub keep : List ClientEntry → Entry → Outcome → List ClientEntry
 keep t e o =
-    if (find t e.client).there and eqb (find t e.client).request e.request then put t (entry_row e (some o)) else
+    when (find t e.client).there and eqb (find t e.client).request e.request then put t (entry_row e (some o)) else
     t
 
 -- commit_op, of the entry given: it goes through the fee rules, and is added to the applied entries. Here alone the takings change.

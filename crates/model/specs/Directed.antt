@@ -13,7 +13,7 @@ use Rattle.writers.specs.Writers.{encode, reply}
 use Rattle.model.specs.State.{view_of, op_number, ClientEntry, Book, Store, State, Answer, after}
 use Rattle.model.specs.State.Answer.{refused, done}
 use Rattle.model.specs.Sending.{messages_out, replies_out}
-use Rattle.model.specs.Examples.{Start, Event, answer, starts, setup, book, store}
+use Rattle.model.specs.Examples.{Start, Event, answer, starts, book, store}
 
 -- a call, with what it answers
 pub record DirectedStep : Type 0 where

@@ -2,7 +2,7 @@
 -- returns. Assumes nothing.
 use Rattle.std.specs.Prelude.{ℕ, ◌+◌, ◌-◌, min, not, List, [], ◌∷◌, ◌++◌, ltb, leb, eqb, take, drop, get_or, set, replicate}
 use Rattle.std.proofs.Math.Option.{Option, none, some}
-use Rattle.numbers.specs.Words.{if◌then◌else◌, ◌and◌, ◌or◌}
+use Rattle.numbers.specs.Words.{when◌then◌else◌, ◌and◌, ◌or◌}
 use Rattle.entries.specs.Rising.{rising}
 use Rattle.entries.specs.declared.Entry.{Entry}
 use Rattle.config.specs.Replicas.{bit, with_member, count_below, quorum_of}
@@ -59,21 +59,21 @@ module _ (u : Setup) where
   -- on_request: an older number is dropped, the latest one answered again, a new one appended. 4: the log has L entries; 6: it would not rise.
   unfoldable pub on_request : State → Entry → Answer
   on_request m e =
-      if not (is_primary u m and is_normal m.place.status) then ignored m else
-      if (find m.book.table e.client).there and ltb e.request (find m.book.table e.client).request then ignored m else
-      if (find m.book.table e.client).there and eqb e.request (find m.book.table e.client).request
+      when not (is_primary u m and is_normal m.place.status) then ignored m else
+      when (find m.book.table e.client).there and ltb e.request (find m.book.table e.client).request then ignored m else
+      when (find m.book.table e.client).there and eqb e.request (find m.book.table e.client).request
       then resend m e (find m.book.table e.client).kept else
-      if leb u.room (op_of m) then refused 4 else
-      if not (rising (m.book.log ++ (e ∷ []))) then refused 6 else
+      when leb u.room (op_of m) then refused 4 else
+      when not (rising (m.book.log ++ (e ∷ []))) then refused 6 else
       done (accepted m e) (send_prepare u m (op_of m + 1) e) []
 
   -- accept_from_primary: `rest` is done only by a backup in Normal, in the message's view
   unfoldable pub accept_from_primary : State → ℕ → Answer → Answer
   accept_from_primary m v rest =
-      if ltb v m.place.view then ignored m else
-      if ltb m.place.view v then catch_up_with_view u m v else
-      if is_changing m.place.status then catch_up_with_view u (heard_from_primary m) v else
-      if is_normal m.place.status and not (is_primary u m) then rest else
+      when ltb v m.place.view then ignored m else
+      when ltb m.place.view v then catch_up_with_view u m v else
+      when is_changing m.place.status then catch_up_with_view u (heard_from_primary m) v else
+      when is_normal m.place.status and not (is_primary u m) then rest else
       ignored (heard_from_primary m)
 
   -- state_transfer: within a view only the primary is asked; the paper asks any replica
@@ -87,10 +87,10 @@ module _ (u : Setup) where
   -- the next op is appended; an earlier one is a re-sent Prepare, not compared with our entry
   unfoldable pub take_prepare : State → (op commit : ℕ) → Entry → Answer
   take_prepare m o c e =
-      if ltb (op_of m + 1) o then state_transfer (heard_from_primary m) else
-      if not (eqb o (op_of m + 1)) then prepared (heard_from_primary m) c else
-      if leb u.room (op_of m) then refused 4 else
-      if not (rising (m.book.log ++ (e ∷ []))) then refused 6 else
+      when ltb (op_of m + 1) o then state_transfer (heard_from_primary m) else
+      when not (eqb o (op_of m + 1)) then prepared (heard_from_primary m) c else
+      when leb u.room (op_of m) then refused 4 else
+      when not (rising (m.book.log ++ (e ∷ []))) then refused 6 else
       prepared (set_book (heard_from_primary m) (append m.book e)) c
 
   -- on_prepare
@@ -100,7 +100,7 @@ module _ (u : Setup) where
   -- on_commit, its last part
   unfoldable pub take_commit : State → ℕ → Answer
   take_commit m c =
-      if ltb (op_of m) c then state_transfer (heard_from_primary m) else
+      when ltb (op_of m) c then state_transfer (heard_from_primary m) else
       done (committed (heard_from_primary m) c) [] []
 
   -- on_commit: c is bounded by nothing
@@ -111,24 +111,24 @@ module _ (u : Setup) where
   -- NewState is installed, so that a row may stand above the log.
   unfoldable pub on_prepare_ok : State → (view op sender : ℕ) → Answer
   on_prepare_ok m v o r =
-      if not (eqb v m.place.view and is_primary u m and is_normal m.place.status) then ignored m else
-      if leb o m.book.commit then ignored m else
-      if eqb (ack_row m o) 0 or eqb (bit (ack_row m o) r) 1 then ignored m else
-      if not (eqb (count_below u.n (with_member (ack_row m o) r)) (quorum_of u.n)) then ignored (acked m o r) else
-      if ltb (op_of m) o then refused 5 else
+      when not (eqb v m.place.view and is_primary u m and is_normal m.place.status) then ignored m else
+      when leb o m.book.commit then ignored m else
+      when eqb (ack_row m o) 0 or eqb (bit (ack_row m o) r) 1 then ignored m else
+      when not (eqb (count_below u.n (with_member (ack_row m o) r)) (quorum_of u.n)) then ignored (acked m o r) else
+      when ltb (op_of m) o then refused 5 else
       done (set_acks (committed m o) (blanked o m.votes.acks)) [] (commit_replies v m.book o)
 
   -- on_get_state
   unfoldable pub on_get_state : State → (sender view op : ℕ) → Answer
   on_get_state m r v o =
-      if not (is_normal m.place.status and eqb v m.place.view and leb o (op_of m)) then ignored m else
+      when not (is_normal m.place.status and eqb v m.place.view and leb o (op_of m)) then ignored m else
       done m (send_new_state m r o) []
 
   -- on_new_state in StateTransfer: it must start at or before our log's end and end beyond it
   unfoldable pub fill_gap : State → (start end commit : ℕ) → List Entry → Answer
   fill_gap m a z c es =
-      if ltb (op_of m) a or leb z (op_of m) then ignored (heard_from_primary m) else
-      if not (rising (m.book.log ++ drop (op_of m - a) es)) then refused 6 else
+      when ltb (op_of m) a or leb z (op_of m) then ignored (heard_from_primary m) else
+      when not (rising (m.book.log ++ drop (op_of m - a) es)) then refused 6 else
       done (filled_gap m c (drop (op_of m - a) es)) (send_prepare_ok u (filled_gap m c (drop (op_of m - a) es))) []
 
   -- on_new_state, catching up, what it changes: what we had beyond our commit number is replaced. Acks stay (document 01).
@@ -138,14 +138,14 @@ module _ (u : Setup) where
   -- on_new_state, catching up: it must start exactly at our commit number. 6: the log would not rise.
   unfoldable pub catch_up : State → (start commit : ℕ) → List Entry → Answer
   catch_up m a c es =
-      if not (eqb a m.book.commit) then ignored (heard_from_primary m) else
-      if not (rising (committed_then m es)) then refused 6 else
+      when not (eqb a m.book.commit) then ignored (heard_from_primary m) else
+      when not (rising (committed_then m es)) then refused 6 else
       done (caught_up m c es) (send_prepare_ok u (caught_up m c es)) []
 
   -- on_new_state: one of our view counts as heard, in Normal too
   unfoldable pub on_new_state : State → (view start end commit : ℕ) → List Entry → Answer
   on_new_state m v a z c es =
-      if not (eqb v m.place.view) then ignored m else
-      if is_transfer m.place.status then fill_gap m a z c es else
-      if is_changing m.place.status and m.place.catching_up then catch_up m a c es else
+      when not (eqb v m.place.view) then ignored m else
+      when is_transfer m.place.status then fill_gap m a z c es else
+      when is_changing m.place.status and m.place.catching_up then catch_up m a c es else
       ignored (heard_from_primary m)

@@ -1,7 +1,7 @@
 -- Recovery: what a replica answers to one that is back from a crash, and how that one comes back. Assumes nothing.
 use Rattle.std.specs.Prelude.{ℕ, max, not, List, [], ◌∷◌, ltb, eqb, get_or, set, replicate}
 use Rattle.std.proofs.Math.Option.{Option, none, some}
-use Rattle.numbers.specs.Words.{if◌then◌else◌}
+use Rattle.numbers.specs.Words.{when◌then◌else◌}
 use Rattle.config.specs.Replicas.{quorum_of}
 use Rattle.config.specs.declared.Setup.{Setup}
 use Rattle.state.specs.Statuses.{is_normal}
@@ -37,8 +37,8 @@ module _ (u : Setup) where
   -- doesn't count its sender.
   unfoldable pub on_recovery : State → (sender nonce view : ℕ) → Answer
   on_recovery m r x v =
-      if ltb m.place.view v then start_view_change u m v [] else
-      if not (is_normal m.place.status) then ignored m else
+      when ltb m.place.view v then start_view_change u m v [] else
+      when not (is_normal m.place.status) then ignored m else
       done m (send_recovery_response u m r x) []
 
   -- on_recovery_response, its end: back in view v with the primary's state; no PrepareOk
@@ -50,9 +50,9 @@ module _ (u : Setup) where
   unfoldable pub recover_with : State → ℕ → ℕ → Option Held → Answer
   recover_with m v w none = ignored m
   recover_with m v w (some h) =
-      if not (eqb w v) then ignored m else
-      if not (agree m.book.commit h.log m.book.log) then refused 7 else
-      if ltb v m.place.view then refused 7 else
+      when not (eqb w v) then ignored m else
+      when not (agree m.book.commit h.log m.book.log) then refused 7 else
+      when ltb v m.place.view then refused 7 else
       done (recovered m v h) [] []
 
   -- with the place of the primary of the latest view, v, which may be empty
@@ -63,14 +63,14 @@ module _ (u : Setup) where
   -- with a quorum of responses, v being the latest view among them
   unfoldable pub recover_latest : State → ℕ → Answer
   recover_latest m v =
-      if ltb (filled m.store.responses) (quorum_of u.n) then ignored m else
-      if ltb v m.place.view then ignored m else
+      when ltb (filled m.store.responses) (quorum_of u.n) then ignored m else
+      when ltb v m.place.view then ignored m else
       recover_from m v (get_or m.store.responses (primary u v) none)
 
   -- on_recovery_response
   unfoldable pub on_recovery_response : State → (view nonce sender : ℕ) → Option Held → Answer
   on_recovery_response m v x r h =
-      if not (eqb x m.store.nonce) then ignored m else
+      when not (eqb x m.store.nonce) then ignored m else
       recover_latest
       (noted m r (record { view = v; held = h }))
       (latest_view (noted m r (record { view = v; held = h })).store.responses)

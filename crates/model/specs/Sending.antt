@@ -1,7 +1,7 @@
 -- Who gets what: each message as it is sent, and the bytes of all that a call sends (the Rust's `send`, `send_to_primary`, `send_to_others`).
 -- Assumes nothing.
 use Rattle.std.specs.Prelude.{ℕ, zero, suc, ◌+◌, Bool, List, [], ◌∷◌, ◌++◌, eqb, drop}
-use Rattle.numbers.specs.Words.{if◌then◌else◌}
+use Rattle.numbers.specs.Words.{when◌then◌else◌}
 use Rattle.numbers.specs.Cells.{packed}
 use Rattle.entries.specs.Entries.{encode_entry}
 use Rattle.entries.specs.declared.Entry.{Entry}
@@ -60,7 +60,7 @@ module _ (u : Setup) where
   -- send_to_others: to each replica below k but ourselves, in rising order of id
   unfoldable pub to_others_below : ℕ → Message → List Entry → List Sent
   to_others_below zero x log = []
-  to_others_below (suc k) x log = to_others_below k x log ++ (if eqb k u.id then [] else send k x log)
+  to_others_below (suc k) x log = to_others_below k x log ++ (when eqb k u.id then [] else send k x log)
 
   -- send_to_others
   unfoldable pub to_others : Message → List Entry → List Sent
@@ -109,7 +109,7 @@ module _ (u : Setup) where
   -- the RecoveryResponse of on_recovery: with state from the primary only
   unfoldable pub send_recovery_response : State → (to nonce : ℕ) → List Sent
   send_recovery_response m r x =
-      if is_primary m
+      when is_primary m
       then
       send r
       (RecoveryResponse (view_of m.place.view) x u.id (Present (op_number (op_of m)) (op_number m.book.commit)))

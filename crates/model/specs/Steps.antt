@@ -2,7 +2,7 @@
 -- 01's order: 1; 2 to 6 on the frame alone; the Rust's early returns and the later causes in the handlers; 9, 10. Assumes nothing.
 use Rattle.std.specs.Prelude.{ℕ, ◌+◌, Bool, true, false, not, List, [], ◌∷◌, ◌++◌, ltb, leb, length, drop}
 use Rattle.std.proofs.Math.Option.{Option, none, some}
-use Rattle.numbers.specs.Words.{if◌then◌else◌, ◌and◌}
+use Rattle.numbers.specs.Words.{when◌then◌else◌, ◌and◌}
 use Rattle.entries.specs.Entries.{entries}
 use Rattle.entries.specs.declared.Entry.{Entry}
 use Rattle.config.specs.Setup.{setup_ok}
@@ -37,8 +37,8 @@ use Rattle.model.specs.Recovery.{no_responses, on_recovery, on_recovery_response
 unfoldable pub fitted : (room room_replies : ℕ) → Answer → Answer
 fitted a b (refused k) = refused k
 fitted a b (done m out rs) =
-    if ltb a (length (messages_out out)) then refused 9 else
-    if ltb b (length (replies_out rs)) then refused 10 else
+    when ltb a (length (messages_out out)) then refused 9 else
+    when ltb b (length (replies_out rs)) then refused 10 else
     done m out rs
 
 -- the log that a frame carries: as many entries as its message says, of what follows its fields
@@ -96,7 +96,7 @@ module _ (u : Setup) where
   unfoldable pub on_checked : State → List ℕ → Checked → Answer
   on_checked m s (Refused k p) = refused k
   on_checked m s (Passed x) =
-      if not (looks_at m.place.status (carried_of x).kind) then ignored m else
+      when not (looks_at m.place.status (carried_of x).kind) then ignored m else
       on_message m x (carried_log x s)
 
   -- on_idle, a Normal primary's: the heartbeat, then a Prepare for every op that is not committed
@@ -110,39 +110,39 @@ module _ (u : Setup) where
   -- the wait is over, after the messages `out`: the next view, or refusal 8
   unfoldable pub next_view : State → List Sent → Answer
   next_view m out =
-      if leb 4294967295 m.place.view then refused 8 else
+      when leb 4294967295 m.place.view then refused 8 else
       start_view_change u m (m.place.view + 1) out
 
   -- a Normal backup's, and StateTransfer's, which sends its GetState first; t is the clock's tick
   unfoldable pub follow_tick : State → Ticked → List Sent → Answer
   follow_tick m t out =
-      if t.up then next_view (set_clock m t.clock) out else
+      when t.up then next_view (set_clock m t.clock) out else
       done (set_clock m t.clock) out []
 
   -- ViewChange's: a primary-to-be that sent its DoViewChange records its own again
   unfoldable pub change_tick : State → Ticked → Answer
   change_tick m t =
-      if t.up then next_view (set_clock m t.clock) [] else
-      if m.place.catching_up then done (set_clock m t.clock) (send_get_state u m m.book.commit) [] else
-      if m.votes.sent then send_do_view_change u (set_clock m t.clock) (send_start_view_change u m.place.view) else
+      when t.up then next_view (set_clock m t.clock) [] else
+      when m.place.catching_up then done (set_clock m t.clock) (send_get_state u m m.book.commit) [] else
+      when m.votes.sent then send_do_view_change u (set_clock m t.clock) (send_start_view_change u m.place.view) else
       done (set_clock m t.clock) (send_start_view_change u m.place.view) []
 
   -- on_idle. A Recovering tick leaves the clock alone.
   unfoldable pub on_idle : State → Answer
   on_idle m =
-      if is_normal m.place.status and is_primary u m then primary_tick m else
-      if is_normal m.place.status then follow_tick m (tick_of u.timeout Follow m.clock) [] else
-      if is_transfer m.place.status then follow_tick m (tick_of u.timeout Follow m.clock) (send_get_state u m (op_of m)) else
-      if is_changing m.place.status then change_tick m (tick_of u.timeout Change m.clock) else
+      when is_normal m.place.status and is_primary u m then primary_tick m else
+      when is_normal m.place.status then follow_tick m (tick_of u.timeout Follow m.clock) [] else
+      when is_transfer m.place.status then follow_tick m (tick_of u.timeout Follow m.clock) (send_get_state u m (op_of m)) else
+      when is_changing m.place.status then change_tick m (tick_of u.timeout Change m.clock) else
       done m (send_recovery u m) []
 
   -- The outside calls, with the sizes of the two areas lent.
   unfoldable pub on_frame : State → List ℕ → (room room_replies : ℕ) → Answer
-  on_frame m frame a b = if not (numbers_ok m) then refused 1 else fitted a b (on_checked m frame (check_frame u frame))
+  on_frame m frame a b = when not (numbers_ok m) then refused 1 else fitted a b (on_checked m frame (check_frame u frame))
 
   -- a tick
   unfoldable pub on_tick : State → (room room_replies : ℕ) → Answer
-  on_tick m a b = if not (numbers_ok m) then refused 1 else fitted a b (on_idle m)
+  on_tick m a b = when not (numbers_ok m) then refused 1 else fitted a b (on_idle m)
 
   -- a new replica, in a view with a nonce
   unfoldable pub new_at : Status → (view nonce : ℕ) → State
@@ -157,8 +157,8 @@ module _ (u : Setup) where
 
   -- new: refusal 1 on the setup. Nothing is sent.
   unfoldable pub create : Answer
-  create = if setup_ok u then done (new_at Normal 0 0) [] [] else refused 1
+  create = when setup_ok u then done (new_at Normal 0 0) [] [] else refused 1
 
   -- recover, with the size of the area for its Recovery messages: 1, then 9
   unfoldable pub recover : (view nonce room : ℕ) → Answer
-  recover v x a = if setup_ok u then fitted a 0 (done (new_at Recovering v x) (send_recovery u (new_at Recovering v x)) []) else refused 1
+  recover v x a = when setup_ok u then fitted a 0 (done (new_at Recovering v x) (send_recovery u (new_at Recovering v x)) []) else refused 1

@@ -2,7 +2,7 @@
 -- Assumes nothing.
 use Rattle.std.specs.Prelude.{ℕ, suc, ◌-◌, ◌/◌, max, Bool, true, false, not, List, [], ◌∷◌, ◌++◌, ltb, leb, eqb, length, set, replicate}
 use Rattle.std.proofs.Math.Option.{Option, none, some}
-use Rattle.numbers.specs.Words.{if◌then◌else◌, ◌and◌, ◌or◌}
+use Rattle.numbers.specs.Words.{when◌then◌else◌, ◌and◌, ◌or◌}
 use Rattle.entries.specs.declared.Entry.{Entry}
 use Rattle.config.specs.Replicas.{with_member, with_another, count_below, quorum_of}
 use Rattle.config.specs.declared.Setup.{Setup}
@@ -26,8 +26,8 @@ filled (some x ∷ xs) = suc (filled xs)
 unfoldable pub better : Reported → Option Reported → Reported
 better a none = a
 better a (some b) =
-    if ltb b.last_normal a.last_normal then a else
-    if eqb b.last_normal a.last_normal and ltb (length b.held.log) (length a.held.log) then a else
+    when ltb b.last_normal a.last_normal then a else
+    when eqb b.last_normal a.last_normal and ltb (length b.held.log) (length a.held.log) then a else
     b
 
 -- the best report of all; none where there is none
@@ -111,7 +111,7 @@ module _ (u : Setup) where
   -- catch_up_with_view: nothing where we are catching up with that view already
   unfoldable pub catch_up_with_view : State → ℕ → Answer
   catch_up_with_view m v =
-      if eqb m.place.view v and m.place.catching_up then ignored m else
+      when eqb m.place.view v and m.place.catching_up then ignored m else
       done (catching_up_with m v) (send_get_state u (catching_up_with m v) m.book.commit) []
 
   -- acks of a new view: our own for each op after c and up to k, none for the others
@@ -126,8 +126,8 @@ module _ (u : Setup) where
   -- entries, or the greatest c passes the chosen log. Replies go out for all that is committed here.
   unfoldable pub start_view : State → List Entry → ℕ → List Sent → Answer
   start_view m log c out =
-      if not (agree m.book.commit log m.book.log) then refused 7 else
-      if ltb (length log) c then refused 7 else
+      when not (agree m.book.commit log m.book.log) then refused 7 else
+      when ltb (length log) c then refused 7 else
       done
       (started_with m (commit_up_to (install m.book log) c))
       (out ++ start_view_to_others u (started_with m (commit_up_to (install m.book log) c)))
@@ -142,13 +142,13 @@ module _ (u : Setup) where
   -- them, the Rust doesn't.
   unfoldable pub record_do_view_change : State → ℕ → Reported → List Sent → Answer
   record_do_view_change m r d out =
-      if ltb (filled (report_noted m r d).store.reports) (quorum_of u.n) then done (report_noted m r d) out [] else
+      when ltb (filled (report_noted m r d).store.reports) (quorum_of u.n) then done (report_noted m r d) out [] else
       start_chosen (report_noted m r d) (chosen (report_noted m r d).store.reports) out
 
   -- send_do_view_change, after the messages `out`: to the primary, or report_noted if that is us
   unfoldable pub send_do_view_change : State → List Sent → Answer
   send_do_view_change m out =
-      if is_primary u m then record_do_view_change m u.id (our_report m) out else
+      when is_primary u m then record_do_view_change m u.id (our_report m) out else
       done m (out ++ do_view_change_to_primary u m) []
 
   -- maybe_send_do_view_change, its test: once, as soon as the set has n/2 distinct ids
@@ -159,7 +159,7 @@ module _ (u : Setup) where
 
   -- maybe_send_do_view_change, after the messages `out`
   unfoldable pub maybe_send_do_view_change : State → List Sent → Answer
-  maybe_send_do_view_change m out = if enough m then send_do_view_change (mark_sent m) out else done m out []
+  maybe_send_do_view_change m out = when enough m then send_do_view_change (mark_sent m) out else done m out []
 
   -- start_view_change, what it changes: attempts rise only from ViewChange. No vote is held then and n/2 is at least 1, so its last line,
   -- maybe_send_do_view_change, does nothing.
@@ -180,18 +180,18 @@ module _ (u : Setup) where
   -- on_start_view_change. The paper has no answer to one who missed StartView.
   unfoldable pub on_start_view_change : State → (view sender : ℕ) → Answer
   on_start_view_change m v r =
-      if ltb v m.place.view then ignored m else
-      if ltb m.place.view v then maybe_send_do_view_change (voted_for (changing_to m v) r) (send_start_view_change u v) else
-      if is_changing m.place.status then maybe_send_do_view_change (voted_for m r) [] else
-      if is_normal m.place.status and is_primary u m then done m (send_start_view m r) [] else
+      when ltb v m.place.view then ignored m else
+      when ltb m.place.view v then maybe_send_do_view_change (voted_for (changing_to m v) r) (send_start_view_change u v) else
+      when is_changing m.place.status then maybe_send_do_view_change (voted_for m r) [] else
+      when is_normal m.place.status and is_primary u m then done m (send_start_view m r) [] else
       ignored m
 
   -- on_do_view_change. One of a later view is dropped unless we lead that view.
   unfoldable pub on_do_view_change : State → (view sender : ℕ) → Reported → Answer
   on_do_view_change m v r d =
-      if ltb v m.place.view or not (eqb (primary u v) u.id) then ignored m else
-      if ltb m.place.view v then record_do_view_change (changing_to m v) r d (send_start_view_change u v) else
-      if is_normal m.place.status then done m (send_start_view m r) [] else
+      when ltb v m.place.view or not (eqb (primary u v) u.id) then ignored m else
+      when ltb m.place.view v then record_do_view_change (changing_to m v) r d (send_start_view_change u v) else
+      when is_normal m.place.status then done m (send_start_view m r) [] else
       record_do_view_change m r d []
 
   -- on_start_view, what it changes: install, commit, acks cleared. PrepareOk then goes out always (the paper: only for uncommitted entries).
@@ -201,7 +201,7 @@ module _ (u : Setup) where
   -- on_start_view: one of our own view is new only while we are changing to it. 7: committed entries would be shortened or altered.
   unfoldable pub on_start_view : State → (view : ℕ) → Held → Answer
   on_start_view m v h =
-      if ltb v m.place.view then ignored m else
-      if eqb v m.place.view and not (is_changing m.place.status) then ignored m else
-      if not (agree m.book.commit h.log m.book.log) then refused 7 else
+      when ltb v m.place.view then ignored m else
+      when eqb v m.place.view and not (is_changing m.place.status) then ignored m else
+      when not (agree m.book.commit h.log m.book.log) then refused 7 else
       done (joined m v h) (send_prepare_ok u (joined m v h)) []

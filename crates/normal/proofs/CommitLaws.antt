@@ -6,7 +6,7 @@ use mathlib.Core.List.{List}
 use Prim.Native.Nat.{ℕ, ◌≤◌, ◌<◌}
 use native.Mathlib.Omega.{arith}
 use borrow.Author.Tests.{lt-ltb, le-ltb}
-use Rattle.numbers.specs.Words.{if◌then◌else◌}
+use Rattle.numbers.specs.Words.{when◌then◌else◌}
 use Rattle.numbers.specs.declared.View.{View}
 use Rattle.numbers.specs.declared.Op.{Op}
 use Rattle.config.proofs.SetupLaws.{sized}
@@ -43,22 +43,22 @@ within-log s u c e h = rw e h
 -- a message from the primary: k is what accept_from_primary says, b whether it is taken
 module _ (s : Replica) (v : View) (x : Runs) (out : List ℕ) (k : Accept) (b : Bool) (p : k ≡ accept_of s v) (q : b ≡ is_take k)
     (y : Left) where
-  pub takes : (z : Left) → b ≡ true → z ≡ y → z ≡ (if is_take (accept_of s v) then y else alone x (deferred (accept_of s v) s v out))
-  unfolding if◌then◌else◌
+  pub takes : (z : Left) → b ≡ true → z ≡ y → z ≡ (when is_take (accept_of s v) then y else alone x (deferred (accept_of s v) s v out))
+  unfolding when◌then◌else◌
   takes z h e = rw (← p, ← q, h, e)
 
   pub defers : (a : Returned) (o : List ℕ) → b ≡ false → spoke a o ≡ deferred k s v out
-      → left a x o ≡ (if is_take (accept_of s v) then y else alone x (deferred (accept_of s v) s v out))
-  unfolding if◌then◌else◌
+      → left a x o ≡ (when is_take (accept_of s v) then y else alone x (deferred (accept_of s v) s v out))
+  unfolding when◌then◌else◌
   defers a o h e = rw (← p, ← q, h) (ap (alone x) e)
 
 -- a Commit that is taken
 module _ (s : Replica) (c : Op) (x : Runs) (out : List ℕ) where
   pub past-log : (a : Returned) (o : List ℕ) → s.op.0 < c.0 → spoke a o ≡ transferred s out → left a x o ≡ taken_commit s c x out
-  unfolding taken_commit if◌then◌else◌
+  unfolding taken_commit when◌then◌else◌
   past-log a o h e = rw (lt-ltb s.op.0 c.0 h) (ap (alone x) e)
 
   pub settles : (u t : Replica) (y : Runs) (a : Returned) → c.0 ≤ s.op.0 → u ≡ heard_by s → t ≡ committed_to u c x → y ≡ settled u c x
       → a ≡ quiet t → left a y out ≡ taken_commit s c x out
-  unfolding taken_commit if◌then◌else◌
+  unfolding taken_commit when◌then◌else◌
   settles u t y a h e p q r = rw (le-ltb s.op.0 c.0 h, r, q, p, e)

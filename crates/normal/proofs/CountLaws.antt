@@ -5,7 +5,7 @@ use mathlib.Core.Bool.{Bool, true, false, not}
 use mathlib.Core.List.{[], ◌∷◌}
 use Prim.Native.Nat.{ℕ, ◌-◌, ◌*◌}
 use lib.Dec.{eqb, ltb}
-use Rattle.numbers.specs.Words.{if◌then◌else◌, ◌or◌}
+use Rattle.numbers.specs.Words.{when◌then◌else◌, ◌or◌}
 use Rattle.numbers.specs.declared.Op.{Op}
 use Rattle.config.specs.Replicas.{bit, with_member, count_below, quorum_of}
 use Rattle.frames.specs.Numbered.{numbered}
@@ -17,13 +17,13 @@ use Rattle.normal.specs.declared.prepare_ok.Count.TheVariants.{Nothing, Note, Re
 
 by_tests : (none known full past short : Bool)
     → count_number
-    (if none then Nothing else if known then Nothing else if not full then Note else if past then Refuse 5 else if short then Refuse 10 else Commit)
-    ≡ (if none or known then numbered 0 (0 ∷ 0 ∷ []) else
-    if not full then numbered 0 (1 ∷ 0 ∷ []) else
-    if past then numbered 5 [] else
-    if short then numbered 10 [] else
+    (when none then Nothing else when known then Nothing else when not full then Note else when past then Refuse 5 else when short then Refuse 10 else Commit)
+    ≡ (when none or known then numbered 0 (0 ∷ 0 ∷ []) else
+    when not full then numbered 0 (1 ∷ 0 ∷ []) else
+    when past then numbered 5 [] else
+    when short then numbered 10 [] else
     numbered 0 (1 ∷ 1 ∷ []))
-unfolding if◌then◌else◌ ◌or◌
+unfolding when◌then◌else◌ ◌or◌
 by_tests true k f p s = refl
 by_tests false true f p s = refl
 by_tests false false false p s = refl

@@ -8,7 +8,7 @@ use native.Mathlib.Omega.{arith}
 use lib.Dec.{ltb, leb}
 use lib.ListN.{length}
 use borrow.Author.Tests.{lt-ltb, le-ltb, le-leb, lt-leb, leb-false}
-use Rattle.numbers.specs.Words.{if◌then◌else◌}
+use Rattle.numbers.specs.Words.{when◌then◌else◌}
 use Rattle.numbers.specs.declared.Op.{Op}
 use Rattle.numbers.proofs.WordLaws.{split}
 use Rattle.entries.specs.Entries.{encode_entry}
@@ -47,28 +47,28 @@ module _ (a b : Op) where
 -- weigh_append, weigh
 module _ (s : Replica) (p : Prepared) where
   pub full : s.setup.room ≤ s.op.0 → Refuse 4 ≡ append_verdict s p
-  unfolding append_verdict if◌then◌else◌
+  unfolding append_verdict when◌then◌else◌
   full h = rw (le-leb s.setup.room s.op.0 h)
 
   module _ (h : s.op.0 < s.setup.room) (b : Bool) (q : b ≡ is_new p.latest p.entry.request) where
     pub stale : not b ≡ true → Refuse 6 ≡ append_verdict s p
-    unfolding append_verdict if◌then◌else◌
+    unfolding append_verdict when◌then◌else◌
     stale n = rw (lt-leb s.setup.room s.op.0 h, ← q, n)
 
     pub rises : not b ≡ false → Append ≡ append_verdict s p
-    unfolding append_verdict if◌then◌else◌
+    unfolding append_verdict when◌then◌else◌
     rises n = rw (lt-leb s.setup.room s.op.0 h, ← q, n)
 
   pub misses : s.op.0 + 1 < p.op.0 → Transfer ≡ prepare_verdict s p
-  unfolding prepare_verdict if◌then◌else◌
+  unfolding prepare_verdict when◌then◌else◌
   misses h = rw (lt-ltb (s.op.0 + 1) p.op.0 h)
 
   pub resent : p.op.0 ≤ s.op.0 + 1 → p.op.0 < s.op.0 + 1 → Again ≡ prepare_verdict s p
-  unfolding prepare_verdict if◌then◌else◌
+  unfolding prepare_verdict when◌then◌else◌
   resent h l = rw (le-ltb (s.op.0 + 1) p.op.0 h, lt-ltb p.op.0 (s.op.0 + 1) l)
 
   pub next : (d : PrepareVerdict) → p.op.0 ≤ s.op.0 + 1 → s.op.0 + 1 ≤ p.op.0 → d ≡ append_verdict s p → d ≡ prepare_verdict s p
-  unfolding prepare_verdict if◌then◌else◌
+  unfolding prepare_verdict when◌then◌else◌
   next d h l e = rw (le-ltb (s.op.0 + 1) p.op.0 h, le-ltb p.op.0 (s.op.0 + 1) l, e)
 
 -- what `Append` says
@@ -135,14 +135,14 @@ lower-fits m c o k e h = rw (e, h) (omega arith)
 module _ (s : Replica) (p : Prepared) (log results totals out : List ℕ) where
   pub no-area : (a : Returned) → length out < 16 → a ≡ refusal 9 s
       → left a (runs log results totals) out ≡ appended_by s p (runs log results totals) out
-  unfolding appended_by if◌then◌else◌
+  unfolding appended_by when◌then◌else◌
   no-area a h e = rw (lt-ltb (length out) 16 h, e)
 
   pub appended : (u t : Replica) (k : Op) (r : List ℕ) (y : Left) → 16 ≤ length out
       → r ≡ with_entries s.op.0 (encode_entry p.entry) log → u ≡ heard_by s → t ≡ with_log u (next_op s) s.commit
       → k ≡ lower_of p.commit (next_op s) → y ≡ committed_and_acked s t k false (runs r results totals) out
       → y ≡ appended_by s p (runs log results totals) out
-  unfolding appended_by if◌then◌else◌
+  unfolding appended_by when◌then◌else◌
   appended u t k r y h w d f g e = rw (le-ltb (length out) 16 h, e, g, f, d, w)
 
 -- a Prepare that is taken

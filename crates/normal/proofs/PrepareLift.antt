@@ -14,7 +14,7 @@ use mathlib.Core.Option.{Option, none, some}
 use lib.Dec.{ltb, leb, eqb}
 use lib.ListN.{length}
 use borrow.Author.Tests.{le-ltb, le-leb, lt-leb, ltb-true, ltb-false, leb-false, eq-eqb, ne_eqb}
-use Rattle.numbers.specs.Words.{if◌then◌else◌, ◌and◌}
+use Rattle.numbers.specs.Words.{when◌then◌else◌, ◌and◌}
 use Rattle.numbers.specs.Numbers.{Bytes}
 use Rattle.numbers.specs.Cells.{packed}
 use Rattle.numbers.specs.declared.Op.{Op}
@@ -98,7 +98,7 @@ module _ (c : Given) (table : List ClientEntry) (applied : List Entry) where
     waits = set_status (heard_from_primary now) StateTransfer
 
     waits-reads : model_of asking c.runs table applied ≡ waits
-    unfolding model_of store_of heard_from_primary set_status set_place set_clock is_recovering if◌then◌else◌
+    unfolding model_of store_of heard_from_primary set_status set_place set_clock is_recovering when◌then◌else◌
     waits-reads = rw looks
 
     waits-book : waits.book ≡ now.book
@@ -176,8 +176,8 @@ pub record Met (c : Given) (p : Prepared) (table : List ClientEntry) : Type 0 wh
   pub row : Tells table p.entry.client p.latest
 
 -- refusal 9 by the same test once more
-twice : {A : Type 0} (b : Bool) (x y : A) → (if b then x else if b then x else y) ≡ (if b then x else y)
-unfolding if◌then◌else◌
+twice : {A : Type 0} (b : Bool) (x y : A) → (when b then x else when b then x else y) ≡ (when b then x else y)
+unfolding when◌then◌else◌
 twice true x y = refl
 twice false x y = refl
 
@@ -213,7 +213,7 @@ module _ (c : Given) (k : Op) (t : Replica) (y : Memory.Runs) (table : List Clie
     (same : t.setup ≡ c.state.setup) (sound : Sound t y) (bytes : Bytes y.money.totals) where
   abbrev ends : Left
   ends =
-      if ltb (length c.out) 16 then left (refusal 9 c.state) (book_runs c.runs) c.out else
+      when ltb (length c.out) 16 then left (refusal 9 c.state) (book_runs c.runs) c.out else
       committed_and_acked c.state t (lower_of k t.op) false y c.out
 
   abbrev read : State
@@ -304,8 +304,8 @@ module _ (c : Given) (p : Prepared) (table : List ClientEntry) (applied : List E
   refuse-shown k = refl
 
   next-shown : By (append_verdict s p)
-      (if leb s.setup.room (op_of m) then refused 4 else
-      if not (rising (m.book.log ++ (e ∷ []))) then refused 6 else
+      (when leb s.setup.room (op_of m) then refused 4 else
+      when not (rising (m.book.log ++ (e ∷ []))) then refused 6 else
       prepared s.setup (set_book (heard_from_primary m) (append m.book e)) p.commit.0)
   unfolding append_verdict
   next-shown =

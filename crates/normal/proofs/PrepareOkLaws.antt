@@ -7,7 +7,7 @@ use native.Mathlib.Omega.{arith}
 use lib.Dec.{ltb, eqb}
 use lib.ListN.{length, get_or, replicate}
 use borrow.Author.Tests.{lt-ltb, le-ltb, eq-eqb, ne_eqb, ltb-true, ltb-false, not-false}
-use Rattle.numbers.specs.Words.{if◌then◌else◌}
+use Rattle.numbers.specs.Words.{when◌then◌else◌}
 use Rattle.numbers.specs.Numbers.{over}
 use Rattle.numbers.specs.declared.View.{View}
 use Rattle.numbers.specs.declared.Op.{Op}
@@ -31,20 +31,20 @@ use Rattle.normal.specs.PrepareOk.{Counted, counted, listens, ack_verdict, commi
 -- hears
 module _ (s : Replica) (v : View) (op : Op) where
   pub other-view : (v.0 ≡ s.view.0 → ⊥) → false ≡ listens s v op
-  unfolding listens if◌then◌else◌
+  unfolding listens when◌then◌else◌
   other-view h = rw (ne_eqb v.0 s.view.0 h)
 
   module _ (h : v.0 ≡ s.view.0) where
     pub not-primary : not (leads s) ≡ true → false ≡ listens s v op
-    unfolding listens if◌then◌else◌
+    unfolding listens when◌then◌else◌
     not-primary l = rw (eq-eqb v.0 s.view.0 h, l)
 
     pub not-normal : not (leads s) ≡ false → not (is_normal s.status) ≡ true → false ≡ listens s v op
-    unfolding listens if◌then◌else◌
+    unfolding listens when◌then◌else◌
     not-normal l n = rw (eq-eqb v.0 s.view.0 h, l, n)
 
     pub last-test : not (leads s) ≡ false → not (is_normal s.status) ≡ false → ltb s.commit.0 op.0 ≡ listens s v op
-    unfolding listens if◌then◌else◌
+    unfolding listens when◌then◌else◌
     last-test l n = rw (eq-eqb v.0 s.view.0 h, l, n)
 
   abbrev After : Bool → Type 0
@@ -67,12 +67,12 @@ module _ (s : Replica) (v : View) (op : Op) where
 -- weigh
 module _ (s : Replica) (op : Op) (held from room : ℕ) where
   pub no-row : held ≡ 0 → Nothing ≡ ack_verdict s op held from room
-  unfolding ack_verdict if◌then◌else◌
+  unfolding ack_verdict when◌then◌else◌
   no-row h = rw (eq-eqb held 0 h)
 
   module _ (h : held ≡ 0 → ⊥) where
     pub known : eqb (bit held from) 1 ≡ true → Nothing ≡ ack_verdict s op held from room
-    unfolding ack_verdict if◌then◌else◌
+    unfolding ack_verdict when◌then◌else◌
     known b = rw (ne_eqb held 0 h, b)
 
     -- w is the row with the sender in it, k its count, q the quorum
@@ -85,20 +85,20 @@ module _ (s : Replica) (op : Op) (held from room : ℕ) where
       reached e = eq-eqb (count_below s.setup.n (with_member held from)) (quorum_of s.setup.n) (sym count-is ∙ e ∙ eq)
 
       pub one_more : (k ≡ q → ⊥) → Note ≡ ack_verdict s op held from room
-      unfolding ack_verdict if◌then◌else◌
+      unfolding ack_verdict when◌then◌else◌
       one_more d =
           rw (ne_eqb held 0 h, b, ne_eqb (count_below s.setup.n (with_member held from)) (quorum_of s.setup.n) (λ e. d (count-is ∙ e ∙ sym eq)))
 
       pub past-log : k ≡ q → s.op.0 < op.0 → Refuse 5 ≡ ack_verdict s op held from room
-      unfolding ack_verdict if◌then◌else◌
+      unfolding ack_verdict when◌then◌else◌
       past-log e l = rw (ne_eqb held 0 h, b, reached e, lt-ltb s.op.0 op.0 l)
 
       pub no-area : k ≡ q → op.0 ≤ s.op.0 → room < 36 * (op.0 - s.commit.0) → Refuse 10 ≡ ack_verdict s op held from room
-      unfolding ack_verdict if◌then◌else◌
+      unfolding ack_verdict when◌then◌else◌
       no-area e l m = rw (ne_eqb held 0 h, b, reached e, le-ltb s.op.0 op.0 l, lt-ltb room (36 * (op.0 - s.commit.0)) m)
 
       pub fires : k ≡ q → op.0 ≤ s.op.0 → 36 * (op.0 - s.commit.0) ≤ room → Commit ≡ ack_verdict s op held from room
-      unfolding ack_verdict if◌then◌else◌
+      unfolding ack_verdict when◌then◌else◌
       fires e l m = rw (ne_eqb held 0 h, b, reached e, le-ltb s.op.0 op.0 l, le-ltb room (36 * (op.0 - s.commit.0)) m)
 
 -- what `Commit` says
@@ -166,12 +166,12 @@ sender-small s x from h l = omega (arith, (sized s.setup h.sized).seven)
 module _ (s : Replica) (v : View) (op : Op) (from : ℕ) (log : List ℕ) (x : Money) (acks reps : List ℕ) (b : Bool)
     (p : b ≡ listens s v op) where
   pub unheard : (a : Returned) → not b ≡ true → a ≡ quiet s → counted a x acks reps ≡ prepare_ok_step s v op from log x acks reps
-  unfolding prepare_ok_step if◌then◌else◌
+  unfolding prepare_ok_step when◌then◌else◌
   unheard a n e = rw (← p, n, e)
 
   pub weighed : (i : ℕ) (d e : Count) (y : Counted) → i ≡ ack_place (op.0 - 1) → not b ≡ false → d ≡ ack_verdict s op (get_or acks i 0) from (length reps) → d ≡ e
       → y ≡ by_count e s op from log x acks reps → y ≡ prepare_ok_step s v op from log x acks reps
-  unfolding prepare_ok_step if◌then◌else◌
+  unfolding prepare_ok_step when◌then◌else◌
   weighed i d e y h n q m z =
       let r = q ∙ ap (λ (k : ℕ). ack_verdict s op (get_or acks k 0) from (length reps)) h in
       rw (← p, n) (z ∙ ap (λ (k : Count). by_count k s op from log x acks reps) (sym m ∙ r))

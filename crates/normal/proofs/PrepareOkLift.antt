@@ -7,7 +7,7 @@ use mathlib.Core.List.{List, [], ◌++◌}
 use lib.Dec.{ltb, eqb}
 use lib.ListN.{length, get_or, set, drop, replicate, length-replicate}
 use borrow.Author.Tests.{le-ltb, lt-ltb, eqb-true, leb-true, leb-false, ltb-false, not-false}
-use Rattle.numbers.specs.Words.{if◌then◌else◌, ◌and◌, ◌or◌}
+use Rattle.numbers.specs.Words.{when◌then◌else◌, ◌and◌, ◌or◌}
 use Rattle.numbers.specs.Numbers.{over, Bytes}
 use Rattle.numbers.specs.Cells.{packed}
 use Rattle.numbers.specs.declared.View.{View}
@@ -58,24 +58,24 @@ of_counted c d =
 
 -- who listens, by tests one after the other and by tests joined
 unheard : (a b d l : Bool) → not (a and b and d) ≡ true
-    → (if not a then false else if not b then false else if not d then false else l) ≡ false
-unfolding ◌and◌ if◌then◌else◌
+    → (when not a then false else when not b then false else when not d then false else l) ≡ false
+unfolding ◌and◌ when◌then◌else◌
 unheard false b d l e = refl
 unheard true false d l e = refl
 unheard true true false l e = refl
 unheard true true true l e = absurd (false≢true e)
 
 heard : (a b d l : Bool) → not (a and b and d) ≡ false
-    → (if not a then false else if not b then false else if not d then false else l) ≡ l
-unfolding ◌and◌ if◌then◌else◌
+    → (when not a then false else when not b then false else when not d then false else l) ≡ l
+unfolding ◌and◌ when◌then◌else◌
 heard false b d l e = absurd (false≢true (sym e))
 heard true false d l e = absurd (false≢true (sym e))
 heard true true false l e = absurd (false≢true (sym e))
 heard true true true l e = refl
 
 -- two ways to the same answer
-either : {A : Type 0} (a b : Bool) (x y : A) → (a or b) ≡ true → (if a then x else if b then x else y) ≡ x
-unfolding ◌or◌ if◌then◌else◌
+either : {A : Type 0} (a b : Bool) (x y : A) → (a or b) ≡ true → (when a then x else when b then x else y) ≡ x
+unfolding ◌or◌ when◌then◌else◌
 either true b x y e = refl
 either false true x y e = refl
 either false false x y e = absurd (false≢true e)
@@ -178,12 +178,12 @@ module _ (c : Given) (table : List ClientEntry) (applied : List Entry) (v : View
         told-did c (committed_to s o (record { log = c.runs.log; money = x })) (of_counted c after).runs false now.book next refl reads grew [] answers [] _ 0 _ refl refl q
         (sym (ap length q) ∙ answers-long)
 
-    commit-shown : Agree (if ltb (length c.reps) (36 * (o.0 - s.commit.0)) then Refuse 10 else Commit)
+    commit-shown : Agree (when ltb (length c.reps) (36 * (o.0 - s.commit.0)) then Refuse 10 else Commit)
         (done next [] (commit_replies s.view.0 now.book o.0))
     unfolding by_count
     commit-shown =
         subst
-        (λ (a : Answer). Shown c (of_counted c (by (if ltb (length c.reps) (36 * (o.0 - s.commit.0)) then Refuse 10 else Commit)))
+        (λ (a : Answer). Shown c (of_counted c (by (when ltb (length c.reps) (36 * (o.0 - s.commit.0)) then Refuse 10 else Commit)))
         now.book a)
         (sym (replies-only (length c.out) (length c.reps) next answers))
         (split₂ (λ (z : Count) (a : Answer). Shown c (of_counted c (by z)) now.book a) _ _ _ _ _ _
@@ -200,9 +200,9 @@ module _ (c : Given) (table : List ClientEntry) (applied : List Entry) (v : View
   -- what follows the tests on view, place and op, in the model
   abbrev rest : ℕ → Answer
   rest w =
-      if eqb held 0 or eqb (bit held r) 1 then ignored now else
-      if not (eqb (count_below s.setup.n (with_member held r)) (quorum_of s.setup.n)) then ignored (acked now o.0 r) else
-      if ltb (op_of now) o.0 then refused 5 else
+      when eqb held 0 or eqb (bit held r) 1 then ignored now else
+      when not (eqb (count_below s.setup.n (with_member held r)) (quorum_of s.setup.n)) then ignored (acked now o.0 r) else
+      when ltb (op_of now) o.0 then refused 5 else
       done next [] (commit_replies w now.book o.0)
 
   weighed : Agree (ack_verdict s o held r (length c.reps)) (rest s.view.0)
@@ -211,8 +211,8 @@ module _ (c : Given) (table : List ClientEntry) (applied : List Entry) (v : View
       split (Agree (ack_verdict s o held r (length c.reps))) _ _ _
       (λ t. subst (λ (z : Count). Agree z (ignored now)) (sym (either _ _ _ _ t)) nothing-shown)
       (λ f.
-      subst (λ (z : Count). Agree z (if not (eqb (count_below s.setup.n (with_member held r)) (quorum_of s.setup.n)) then ignored (acked now o.0 r) else
-      if ltb (op_of now) o.0 then refused 5 else
+      subst (λ (z : Count). Agree z (when not (eqb (count_below s.setup.n (with_member held r)) (quorum_of s.setup.n)) then ignored (acked now o.0 r) else
+      when ltb (op_of now) o.0 then refused 5 else
       done next [] (commit_replies s.view.0 now.book o.0)))
       (sym (if-false _ _ _ (or_left _ _ f) ∙ if-false _ _ _ (or_right _ _ f)))
       (split₂ Agree _ _ _ _ _ _ refl (λ _. note-shown) λ _.

@@ -7,7 +7,7 @@ use native.Mathlib.Omega.{arith}
 use lib.Dec.{ltb, leb}
 use lib.ListN.{length, take, set}
 use borrow.Author.Tests.{lt-ltb, le-ltb, le-leb, lt-leb, ltb-false, leb-false}
-use Rattle.numbers.specs.Words.{if◌then◌else◌}
+use Rattle.numbers.specs.Words.{when◌then◌else◌}
 use Rattle.numbers.specs.Numbers.{Wrote}
 use Rattle.numbers.proofs.WordLaws.{split}
 use Rattle.entries.specs.Entries.{encode_entry}
@@ -37,54 +37,54 @@ use Rattle.normal.proofs.SendLaws.{prepare-long}
 -- weigh_again
 module _ (e : Entry) (request : ℕ) (o : Outcome) (room : ℕ) where
   pub older : e.request < request → Nothing ≡ again_verdict e request o room
-  unfolding again_verdict if◌then◌else◌
+  unfolding again_verdict when◌then◌else◌
   older h = rw (lt-ltb e.request request h)
 
   module _ (g : request ≤ e.request) where
     pub again-short : room < 36 → Refuse 10 ≡ again_verdict e request o room
-    unfolding again_verdict if◌then◌else◌
+    unfolding again_verdict when◌then◌else◌
     again-short h = rw (le-ltb e.request request g, lt-ltb room 36 h)
 
     pub again : 36 ≤ room → Resend o ≡ again_verdict e request o room
-    unfolding again_verdict if◌then◌else◌
+    unfolding again_verdict when◌then◌else◌
     again h = rw (le-ltb e.request request g, le-ltb room 36 h)
 
 -- weigh_new
 module _ (s : Replica) (out : ℕ) where
   pub full : s.setup.room ≤ s.op.0 → Refuse 4 ≡ new_verdict s out
-  unfolding new_verdict if◌then◌else◌
+  unfolding new_verdict when◌then◌else◌
   full h = rw (le-leb s.setup.room s.op.0 h)
 
   module _ (k : ℕ) (g : s.op.0 < s.setup.room) (e : k ≡ sends_of s) where
     pub new-short : out < k → Refuse 9 ≡ new_verdict s out
-    unfolding new_verdict if◌then◌else◌
+    unfolding new_verdict when◌then◌else◌
     new-short h = rw (lt-leb s.setup.room s.op.0 g, lt-ltb out (sends_of s) (omega arith))
 
     pub new : k ≤ out → Append ≡ new_verdict s out
-    unfolding new_verdict if◌then◌else◌
+    unfolding new_verdict when◌then◌else◌
     new h = rw (lt-leb s.setup.room s.op.0 g, le-ltb out (sends_of s) (omega arith))
 
 -- weigh_client, weigh
 module _ (s : Replica) (e : Entry) (latest : Latest) (out reps : ℕ) where
   pub new-number : (k : RequestVerdict) → is_new latest e.request ≡ true → k ≡ new_verdict s out → k ≡ client_verdict s e latest out reps
-  unfolding client_verdict if◌then◌else◌
+  unfolding client_verdict when◌then◌else◌
   new-number k t p = rw t p
 
   pub known-number : (k : RequestVerdict) → is_new latest e.request ≡ false → k ≡ known_verdict e latest reps → k ≡ client_verdict s e latest out reps
-  unfolding client_verdict if◌then◌else◌
+  unfolding client_verdict when◌then◌else◌
   known-number k t p = rw t p
 
   pub follower : not (leads s) ≡ true → Nothing ≡ request_verdict s e latest out reps
-  unfolding request_verdict if◌then◌else◌
+  unfolding request_verdict when◌then◌else◌
   follower l = rw l
 
   pub absent : not (leads s) ≡ false → not (is_normal s.status) ≡ true → Nothing ≡ request_verdict s e latest out reps
-  unfolding request_verdict if◌then◌else◌
+  unfolding request_verdict when◌then◌else◌
   absent l n = rw (l, n)
 
   pub primary : (k : RequestVerdict) → not (leads s) ≡ false → not (is_normal s.status) ≡ false → k ≡ client_verdict s e latest out reps
       → k ≡ request_verdict s e latest out reps
-  unfolding request_verdict if◌then◌else◌
+  unfolding request_verdict when◌then◌else◌
   primary k l n p = rw (l, n) p
 
 -- what a verdict says of the log's room and of the areas
@@ -98,7 +98,7 @@ module _ (s : Replica) (out reps : ℕ) where
   again-fits : (e : Entry) (request : ℕ) (o : Outcome) → Fits (again_verdict e request o reps)
   unfolding again_verdict
   again-fits e request o =
-      let a : RequestVerdict = if ltb reps 36 then Refuse 10 else Resend o in
+      let a : RequestVerdict = when ltb reps 36 then Refuse 10 else Resend o in
       split Fits (ltb e.request request) Nothing a (λ h. tt)
       (λ h. split Fits (ltb reps 36) (Refuse 10) (Resend o) (λ l. tt) (λ l. ltb-false reps 36 l))
 
@@ -111,7 +111,7 @@ module _ (s : Replica) (out reps : ℕ) where
   new-fits : Fits (new_verdict s out)
   unfolding new_verdict
   new-fits =
-      let a : RequestVerdict = if ltb out (sends_of s) then Refuse 9 else Append in
+      let a : RequestVerdict = when ltb out (sends_of s) then Refuse 9 else Append in
       split Fits (leb s.setup.room s.op.0) (Refuse 4) a (λ h. tt)
       (λ h. split Fits (ltb out (sends_of s)) (Refuse 9) Append (λ l. tt)
       (λ l. (leb-false s.setup.room s.op.0 h, ltb-false out (sends_of s) l)))
@@ -125,7 +125,7 @@ module _ (s : Replica) (out reps : ℕ) where
   unfolding request_verdict
   fits e latest =
       let b : RequestVerdict = client_verdict s e latest out reps in
-      let a : RequestVerdict = if not (is_normal s.status) then Nothing else b in
+      let a : RequestVerdict = when not (is_normal s.status) then Nothing else b in
       split Fits (not (leads s)) Nothing a (λ l. tt)
       (λ l. split Fits (not (is_normal s.status)) Nothing b (λ n. tt) (λ n. client-fits e latest))
 

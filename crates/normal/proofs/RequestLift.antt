@@ -10,7 +10,7 @@ use mathlib.Core.Option.{Option, none, some}
 use lib.Dec.{ltb, leb, eqb}
 use lib.ListN.{length, set}
 use borrow.Author.Tests.{lt-ltb, le-ltb, lt-leb, ltb-true, ltb-false, leb-false, eqb-true, eqb-false}
-use Rattle.numbers.specs.Words.{if◌then◌else◌, ◌and◌}
+use Rattle.numbers.specs.Words.{when◌then◌else◌, ◌and◌}
 use Rattle.numbers.specs.Numbers.{over}
 use Rattle.numbers.specs.Cells.{packed}
 use Rattle.numbers.proofs.WordLaws.{if-false, split, split₂, and_both}
@@ -79,14 +79,14 @@ pub record Asked (c : Given) (table : List ClientEntry) (e : Entry) (latest : La
   pub tells : Tells table e.client latest
 
 -- two tests one after the other, and joined
-outside : {A : Type 0} (a b : Bool) (x y : A) → not (a and b) ≡ true → (if not a then x else if not b then x else y) ≡ x
-unfolding ◌and◌ if◌then◌else◌
+outside : {A : Type 0} (a b : Bool) (x y : A) → not (a and b) ≡ true → (when not a then x else when not b then x else y) ≡ x
+unfolding ◌and◌ when◌then◌else◌
 outside false b x y e = refl
 outside true false x y e = refl
 outside true true x y e = absurd (false≢true e)
 
-inside : {A : Type 0} (a b : Bool) (x y : A) → not (a and b) ≡ false → (if not a then x else if not b then x else y) ≡ y
-unfolding ◌and◌ if◌then◌else◌
+inside : {A : Type 0} (a b : Bool) (x y : A) → not (a and b) ≡ false → (when not a then x else when not b then x else y) ≡ y
+unfolding ◌and◌ when◌then◌else◌
 inside false b x y e = absurd (false≢true (sym e))
 inside true false x y e = absurd (false≢true (sym e))
 inside true true x y e = refl
@@ -106,7 +106,7 @@ above true x y h = lt-leb x y (h refl)
 -- what the latest number calls for, by the reply that is kept
 abbrev answer_to : Option Outcome → (room : ℕ) → RequestVerdict
 answer_to none room = Nothing
-answer_to (some o) room = if ltb room 36 then Refuse 10 else Resend o
+answer_to (some o) room = when ltb room 36 then Refuse 10 else Resend o
 
 -- the verdict by what the table has of the client
 module _ (s : Replica) (e : Entry) (r : ℕ) (out reps : ℕ) where
@@ -188,9 +188,9 @@ module _ (c : Given) (table : List ClientEntry) (applied : List Entry) (e : Entr
       told-did c s c.runs false now.book now refl (still-reads c table applied) (no-growth now.book) [] (again-with o ∷ []) []
       (reply_to s.view e o) 0 36 refl refl (reply-bytes o) (reply-length s.view e o)
 
-  resend-shown : (o : Outcome) → Agree (if ltb (length c.reps) 36 then Refuse 10 else Resend o) (done now [] (again-with o ∷ []))
+  resend-shown : (o : Outcome) → Agree (when ltb (length c.reps) 36 then Refuse 10 else Resend o) (done now [] (again-with o ∷ []))
   resend-shown o =
-      subst (Goal (by (if ltb (length c.reps) 36 then Refuse 10 else Resend o)))
+      subst (Goal (by (when ltb (length c.reps) 36 then Refuse 10 else Resend o)))
       (sym (replies-only (length c.out) (length c.reps) now (again-with o ∷ [])))
       (split₂ (λ (z : RequestVerdict) (a : Answer). Goal (by z) a) _ _ _ _ _ _ (ap (ltb (length c.reps)) (sym (reply-long o)))
       (λ _. refuse-fitted 10) (λ _. resend-did o))
@@ -243,10 +243,10 @@ module _ (c : Given) (table : List ClientEntry) (applied : List Entry) (e : Entr
         (send_prepare s.setup now (op_of now + 1) e) [] (W.to_others s.setup.n s.setup.id (prepare_of s e) []) [] (sends_of s) 0
         prepare-bytes prepares-long refl refl
 
-    append-shown : Agree (if ltb (length c.out) (sends_of s) then Refuse 9 else Append)
+    append-shown : Agree (when ltb (length c.out) (sends_of s) then Refuse 9 else Append)
         (done next (send_prepare s.setup now (op_of now + 1) e) [])
     append-shown =
-        subst (Goal (by (if ltb (length c.out) (sends_of s) then Refuse 9 else Append)))
+        subst (Goal (by (when ltb (length c.out) (sends_of s) then Refuse 9 else Append)))
         (sym (sends-only (length c.out) (length c.reps) next (send_prepare s.setup now (op_of now + 1) e)))
         (split₂ (λ (z : RequestVerdict) (a : Answer). Goal (by z) a) _ _ _ _ _ _
         (ap (ltb (length c.out)) (sym (ap length prepare-bytes ∙ prepares-long)))
@@ -258,8 +258,8 @@ module _ (c : Given) (table : List ClientEntry) (applied : List Entry) (e : Entr
   -- what the model does with a new number
   abbrev taken : Answer
   taken =
-      if leb s.setup.room (op_of now) then refused 4 else
-      if not (rising (now.book.log ++ (e ∷ []))) then refused 6 else
+      when leb s.setup.room (op_of now) then refused 4 else
+      when not (rising (now.book.log ++ (e ∷ []))) then refused 6 else
       done next (send_prepare s.setup now (op_of now + 1) e) []
 
   risen : (seen.there ≡ true → seen.request < e.request) → rising (now.book.log ++ (e ∷ [])) ≡ true
@@ -272,7 +272,7 @@ module _ (c : Given) (table : List ClientEntry) (applied : List Entry) (e : Entr
   unfolding new_verdict
   new-shown h =
       split₂ Agree _ _ _ _ _ _ (ap (leb s.setup.room) (sym op-is)) (λ _. refuse-shown 4) λ l.
-      subst (Agree (if ltb (length c.out) (sends_of s) then Refuse 9 else Append)) (sym (if-false _ _ _ (ap not (risen h))))
+      subst (Agree (when ltb (length c.out) (sends_of s) then Refuse 9 else Append)) (sym (if-false _ _ _ (ap not (risen h))))
       (append-shown (leb-false _ _ l))
 
   -- ---- by the client's row
@@ -295,8 +295,8 @@ module _ (c : Given) (table : List ClientEntry) (applied : List Entry) (e : Entr
       told _ _ (same-verdict s e seen.request (length c.out) (length c.reps) seen.there seen.kept p h) (kept-shown seen.kept)
 
   client-shown : Agree verdict
-      (if seen.there and ltb e.request seen.request then ignored now else
-      if seen.there and eqb e.request seen.request then resend now e seen.kept else
+      (when seen.there and ltb e.request seen.request then ignored now else
+      when seen.there and eqb e.request seen.request then resend now e seen.kept else
       taken)
   client-shown =
       split (Agree verdict) _ _ _ (λ t. let p = and_both _ _ t in old-shown p.0 (ltb-true _ _ p.1)) λ f.
@@ -313,7 +313,7 @@ module _ (c : Given) (table : List ClientEntry) (applied : List Entry) (e : Entr
       (λ f.
       subst
       (λ (z : RequestVerdict). Agree z
-      (if seen.there and ltb e.request seen.request then ignored now else
-      if seen.there and eqb e.request seen.request then resend now e seen.kept else
+      (when seen.there and ltb e.request seen.request then ignored now else
+      when seen.there and eqb e.request seen.request then resend now e seen.kept else
       taken))
       (sym (inside _ _ _ _ f)) client-shown)

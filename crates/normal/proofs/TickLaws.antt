@@ -8,7 +8,7 @@ use native.Mathlib.Nat.{mul-suc, mul-le-mul, mul-le-mul_left}
 use native.Mathlib.Omega.{arith}
 use lib.ListN.{length, take, drop, length-take, length-drop, length-append}
 use borrow.Author.Tests.{lt-ltb, le-ltb}
-use Rattle.numbers.specs.Words.{if◌then◌else◌}
+use Rattle.numbers.specs.Words.{when◌then◌else◌}
 use Rattle.numbers.specs.Numbers.{over, Wrote}
 use Rattle.numbers.proofs.RunLaws.{over-lend, over-nil, length_over}
 use Rattle.entries.specs.Places.{entry_place, entry_in}
@@ -137,7 +137,7 @@ module _ (s : Replica) (log : List ℕ) (h : Leading s (length log)) where
   -- tick_primary
   module _ (out : List ℕ) (k : ℕ) (e : k ≡ heartbeat_length s + prepares_length s (s.op.0 - s.commit.0)) where
     pub tick-short : (a : Returned) → length out < k → a ≡ refusal 9 s → spoke a out ≡ primary_tick s log out
-    unfolding primary_tick if◌then◌else◌
+    unfolding primary_tick when◌then◌else◌
     tick-short a l p = rw (lt-ltb (length out) (heartbeat_length s + prepares_length s (s.op.0 - s.commit.0)) (omega arith), p)
 
     -- where the heartbeat stands over the front of the area
@@ -174,7 +174,7 @@ module _ (s : Replica) (log : List ℕ) (h : Leading s (length log)) where
         pub ticks : (x : Ticked) (t : Replica) (a : Returned) → x ≡ tick_of s.setup.timeout Lead s.clock → t ≡ with_clock s x.clock
             → a ≡ completed t (w + p) 0 false
             → spoke a (take w o ++ (part ++ drop (length o - w) (drop w o))) ≡ primary_tick s log out
-        unfolding primary_tick if◌then◌else◌ size_of
+        unfolding primary_tick when◌then◌else◌ size_of
         ticks x t a y z q =
             let f = over-lend (heartbeat_of s) (prepares_of s log (s.op.0 - s.commit.0)) out w (sym b.count) b.bytes c.bytes in
             rw (

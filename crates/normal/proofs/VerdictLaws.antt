@@ -5,9 +5,8 @@ use mathlib.Core.Bool.{Bool, true, false, not}
 use mathlib.Core.List.{[], ◌∷◌}
 use Prim.Native.Nat.{ℕ, ◌+◌}
 use lib.Dec.{ltb, leb}
-use Rattle.numbers.specs.Words.{if◌then◌else◌, ◌and◌}
+use Rattle.numbers.specs.Words.{when◌then◌else◌, ◌and◌}
 use Rattle.entries.specs.declared.Entry.{Entry}
-use Rattle.fees.specs.declared.Outcome.{Outcome}
 use Rattle.frames.specs.Numbered.{Numbered, numbered}
 use Rattle.client_table.specs.Latest.{is_new}
 use Rattle.client_table.specs.declared.Latest.{Latest}
@@ -28,22 +27,22 @@ use Rattle.normal.specs.declared.request.RequestVerdict.TheVariants.{Nothing, Re
 
 -- ---- Request
 
-by_two : (a b : Bool) (x y z : RequestVerdict) → request_number (if a then x else if b then y else z)
-    ≡ (if a then request_number x else if b then request_number y else request_number z)
-unfolding if◌then◌else◌
+by_two : (a b : Bool) (x y z : RequestVerdict) → request_number (when a then x else when b then y else z)
+    ≡ (when a then request_number x else when b then request_number y else request_number z)
+unfolding when◌then◌else◌
 by_two true b x y z = refl
 by_two false true x y z = refl
 by_two false false x y z = refl
 
 by-new : (a : Bool) (x y : RequestVerdict) (k l : Numbered) → request_number x ≡ k → request_number y ≡ l
-    → request_number (if a then x else y) ≡ (if a then k else l)
-unfolding if◌then◌else◌
+    → request_number (when a then x else y) ≡ (when a then k else l)
+unfolding when◌then◌else◌
 by-new true x y k l p q = p
 by-new false x y k l p q = q
 
 by-lead : (a b : Bool) (x : RequestVerdict) (k : Numbered) → request_number x ≡ k
-    → request_number (if not a then Nothing else if not b then Nothing else x) ≡ (if not (a and b) then passed_over else k)
-unfolding if◌then◌else◌ ◌and◌
+    → request_number (when not a then Nothing else when not b then Nothing else x) ≡ (when not (a and b) then passed_over else k)
+unfolding when◌then◌else◌ ◌and◌
 by-lead true true x k p = p
 by-lead true false x k p = refl
 by-lead false b x k p = refl
@@ -71,13 +70,13 @@ module _ (s : Replica) (e : Entry) (latest : Latest) (out reps : ℕ) where
 -- ---- Prepare
 
 by_place : (past early full old : Bool)
-    → prepare_number (if past then Transfer else if early then Again else if full then Q.Refuse 4 else if not old then Q.Refuse 6 else Q.Append)
-    ≡ (if past then numbered 0 (1 ∷ 0 ∷ []) else
-    if early then numbered 0 (0 ∷ 0 ∷ []) else
-    if full then numbered 4 [] else
-    if not old then numbered 6 [] else
+    → prepare_number (when past then Transfer else when early then Again else when full then Q.Refuse 4 else when not old then Q.Refuse 6 else Q.Append)
+    ≡ (when past then numbered 0 (1 ∷ 0 ∷ []) else
+    when early then numbered 0 (0 ∷ 0 ∷ []) else
+    when full then numbered 4 [] else
+    when not old then numbered 6 [] else
     numbered 0 (0 ∷ 1 ∷ []))
-unfolding if◌then◌else◌
+unfolding when◌then◌else◌
 by_place true early full old = refl
 by_place false true full old = refl
 by_place false false true old = refl

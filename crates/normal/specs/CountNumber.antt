@@ -1,7 +1,7 @@
 -- What an acknowledgement calls for, as number and values: refusals 5 and 10 have none; else the number is 0, with 1 or 0 for whether the ack is new, and for whether
 -- all up to its op is committed. Assumes nothing.
 use Rattle.std.specs.Prelude.{◌≡◌, not, [], ◌∷◌, ℕ, ◌-◌, ◌*◌, eqb, ltb}
-use Rattle.numbers.specs.Words.{if◌then◌else◌, ◌or◌}
+use Rattle.numbers.specs.Words.{when◌then◌else◌, ◌or◌}
 use Rattle.numbers.specs.declared.Op.{Op}
 use Rattle.config.specs.Replicas.{bit, with_member, count_below, quorum_of}
 use Rattle.frames.specs.Numbered.{Numbered, numbered}
@@ -20,10 +20,10 @@ count_number Commit = numbered 0 (1 ∷ 1 ∷ [])
 -- reaches the quorum exactly; then 5 where the op is past the log, and 10 where the replies don't fit.
 unfoldable pub ack_numbers : Replica → Op → (held from room : ℕ) → Numbered
 ack_numbers s op held from room =
-    if eqb held 0 or eqb (bit held from) 1 then numbered 0 (0 ∷ 0 ∷ []) else
-    if not (eqb (count_below s.setup.n (with_member held from)) (quorum_of s.setup.n)) then numbered 0 (1 ∷ 0 ∷ []) else
-    if ltb s.op.0 op.0 then numbered 5 [] else
-    if ltb room (36 * (op.0 - s.commit.0)) then numbered 10 [] else
+    when eqb held 0 or eqb (bit held from) 1 then numbered 0 (0 ∷ 0 ∷ []) else
+    when not (eqb (count_below s.setup.n (with_member held from)) (quorum_of s.setup.n)) then numbered 0 (1 ∷ 0 ∷ []) else
+    when ltb s.op.0 op.0 then numbered 5 [] else
+    when ltb room (36 * (op.0 - s.commit.0)) then numbered 10 [] else
     numbered 0 (1 ∷ 1 ∷ [])
 
 -- what `prepare_ok::weigh` promises: the enum, and its number and values

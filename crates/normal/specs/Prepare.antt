@@ -1,6 +1,6 @@
 -- on_prepare, on the state by value and the bytes of the lent runs; the client's row is handed in by value. Assumes nothing.
-use Rattle.std.specs.Prelude.{Bool, false, not, List, ℕ, ◌+◌, min, ltb, leb, length}
-use Rattle.numbers.specs.Words.{if◌then◌else◌}
+use Rattle.std.specs.Prelude.{false, not, List, ℕ, ◌+◌, min, ltb, leb, length}
+use Rattle.numbers.specs.Words.{when◌then◌else◌}
 use Rattle.numbers.specs.declared.View.{View}
 use Rattle.numbers.specs.declared.Op.{Op}
 use Rattle.entries.specs.Entries.{encode_entry}
@@ -29,15 +29,15 @@ prepared_by o c e latest = record { op = o; commit = c; entry = e; latest = late
 -- the next op: refusal 4 where the log has L entries; 6 where the client's row has this number or a later one
 unfoldable pub append_verdict : Replica → Prepared → PrepareVerdict
 append_verdict s p =
-    if leb s.setup.room s.op.0 then Refuse 4 else
-    if not (is_new p.latest p.entry.request) then Refuse 6 else
+    when leb s.setup.room s.op.0 then Refuse 4 else
+    when not (is_new p.latest p.entry.request) then Refuse 6 else
     Append
 
 -- past the next op a state transfer; an earlier one is a re-sent Prepare, not compared with our entry
 unfoldable pub prepare_verdict : Replica → Prepared → PrepareVerdict
 prepare_verdict s p =
-    if ltb (s.op.0 + 1) p.op.0 then Transfer else
-    if ltb p.op.0 (s.op.0 + 1) then Again else
+    when ltb (s.op.0 + 1) p.op.0 then Transfer else
+    when ltb p.op.0 (s.op.0 + 1) then Again else
     append_verdict s p
 
 -- the log with the entry after its first op entries
@@ -47,7 +47,7 @@ with_entry s p x = record { log = with_entries s.op.0 (encode_entry p.entry) x.l
 -- appended; then commit to the smaller of c and our op number, and acknowledge our op number
 unfoldable pub appended_by : Replica → Prepared → Runs → List ℕ → Left
 appended_by s p x out =
-    if ltb (length out) 16 then left (refusal 9 s) x out else
+    when ltb (length out) 16 then left (refusal 9 s) x out else
     committed_and_acked s (with_log (heard_by s) (next_op s) s.commit) (lower_of p.commit (next_op s)) false (with_entry s p x) out
 
 unfoldable pub by_prepare_verdict : PrepareVerdict → Replica → Prepared → Runs → List ℕ → Left
@@ -62,4 +62,4 @@ taken_prepare s p x out = by_prepare_verdict (prepare_verdict s p) s p x out
 
 -- on_prepare
 unfoldable pub prepare_step : Replica → View → Prepared → Runs → List ℕ → Left
-prepare_step s v p x out = if is_take (accept_of s v) then taken_prepare s p x out else alone x (deferred (accept_of s v) s v out)
+prepare_step s v p x out = when is_take (accept_of s v) then taken_prepare s p x out else alone x (deferred (accept_of s v) s v out)

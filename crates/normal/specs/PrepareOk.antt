@@ -1,7 +1,7 @@
 -- on_prepare_ok, on the state by value and the bytes of the lent runs: an ack fires only when the count reaches the quorum exactly. Refusal 5
 -- where the Rust panics: acks aren't cleared when a NewState is installed, so that a row may stand above the log. Assumes nothing.
 use Rattle.std.specs.Prelude.{Bool, false, not, List, ℕ, ◌-◌, ◌*◌, ltb, eqb, length, get_or, set, replicate}
-use Rattle.numbers.specs.Words.{if◌then◌else◌, ◌and◌}
+use Rattle.numbers.specs.Words.{when◌then◌else◌}
 use Rattle.numbers.specs.Numbers.{over}
 use Rattle.numbers.specs.declared.View.{View}
 use Rattle.numbers.specs.declared.Op.{Op}
@@ -45,19 +45,19 @@ of_counted m d =
 -- a Normal primary, in its view, for an op that isn't money_committed
 unfoldable pub listens : Replica → View → Op → Bool
 listens s v op =
-    if not (eqb v.0 s.view.0) then false else
-    if not (leads s) then false else
-    if not (is_normal s.status) then false else
+    when not (eqb v.0 s.view.0) then false else
+    when not (leads s) then false else
+    when not (is_normal s.status) then false else
     ltb s.commit.0 op.0
 
 -- what one more ack calls for, `held` being the row of the op, `room` the size of the area for replies
 unfoldable pub ack_verdict : Replica → Op → (held from room : ℕ) → Count
 ack_verdict s op held from room =
-    if eqb held 0 then Nothing else
-    if eqb (bit held from) 1 then Nothing else
-    if not (eqb (count_below s.setup.n (with_member held from)) (quorum_of s.setup.n)) then Note else
-    if ltb s.op.0 op.0 then Refuse 5 else
-    if ltb room (36 * (op.0 - s.commit.0)) then Refuse 10 else
+    when eqb held 0 then Nothing else
+    when eqb (bit held from) 1 then Nothing else
+    when not (eqb (count_below s.setup.n (with_member held from)) (quorum_of s.setup.n)) then Note else
+    when ltb s.op.0 op.0 then Refuse 5 else
+    when ltb room (36 * (op.0 - s.commit.0)) then Refuse 10 else
     Commit
 
 -- all up to op is money_committed, with a reply to each in the current view, and the rows of acks up to it go
@@ -86,5 +86,5 @@ by_count Commit s op from log x acks reps = committed_by s op log x acks reps
 -- on_prepare_ok
 unfoldable pub prepare_ok_step : Replica → View → Op → (from : ℕ) (log : List ℕ) → Money → (acks reps : List ℕ) → Counted
 prepare_ok_step s v op from log x acks reps =
-    if not (listens s v op) then counted (quiet s) x acks reps else
+    when not (listens s v op) then counted (quiet s) x acks reps else
     by_count (ack_verdict s op (get_or acks (ack_place (op.0 - 1)) 0) from (length reps)) s op from log x acks reps

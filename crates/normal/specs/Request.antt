@@ -1,7 +1,7 @@
 -- on_request, on the state by value and the bytes of the lent runs; what the table holds of the client is handed in by value. A new number
 -- rises by the table alone, so that refusal 6 has no test here. Assumes nothing.
-use Rattle.std.specs.Prelude.{◌≡◌, Bool, true, false, not, List, [], ℕ, ◌+◌, ◌-◌, ◌*◌, ◌≤◌, ltb, leb, length, set}
-use Rattle.numbers.specs.Words.{if◌then◌else◌}
+use Rattle.std.specs.Prelude.{◌≡◌, true, false, not, List, [], ℕ, ◌+◌, ◌-◌, ◌*◌, ◌≤◌, ltb, leb, length, set}
+use Rattle.numbers.specs.Words.{when◌then◌else◌}
 use Rattle.numbers.specs.Numbers.{over}
 use Rattle.numbers.specs.declared.Op.{Op}
 use Rattle.entries.specs.Entries.{encode_entry}
@@ -86,8 +86,8 @@ sends_of s = 51 * (s.setup.n - 1)
 -- no new number, and the reply of the client's latest request is kept: nothing for an older one, else the reply again, or refusal 10
 unfoldable pub again_verdict : Entry → (request : ℕ) → Outcome → (room : ℕ) → RequestVerdict
 again_verdict e request reply room =
-    if ltb e.request request then Nothing else
-    if ltb room 36 then Refuse 10 else
+    when ltb e.request request then Nothing else
+    when ltb room 36 then Refuse 10 else
     Resend reply
 
 -- no new number: nothing where no reply is kept
@@ -99,20 +99,20 @@ known_verdict e (Row.Answered request reply) room = again_verdict e request repl
 -- a new number: refusal 4 where the log has L entries, then 9
 unfoldable pub new_verdict : Replica → ℕ → RequestVerdict
 new_verdict s out =
-    if leb s.setup.room s.op.0 then Refuse 4 else
-    if ltb out (sends_of s) then Refuse 9 else
+    when leb s.setup.room s.op.0 then Refuse 4 else
+    when ltb out (sends_of s) then Refuse 9 else
     Append
 
 unfoldable pub client_verdict : Replica → Entry → Latest → (out reps : ℕ) → RequestVerdict
 client_verdict s e latest out reps =
-    if is_new latest e.request then new_verdict s out else
+    when is_new latest e.request then new_verdict s out else
     known_verdict e latest reps
 
 -- only a Normal primary looks at a Request; out and reps are the sizes of the areas
 unfoldable pub request_verdict : Replica → Entry → Latest → (out reps : ℕ) → RequestVerdict
 request_verdict s e latest out reps =
-    if not (leads s) then Nothing else
-    if not (is_normal s.status) then Nothing else
+    when not (leads s) then Nothing else
+    when not (is_normal s.status) then Nothing else
     client_verdict s e latest out reps
 
 -- the op number of the next entry

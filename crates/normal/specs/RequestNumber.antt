@@ -1,7 +1,7 @@
 -- What a Request calls for, as number and values: refusals 4, 9 and 10 have none; else the number is 0, with 1 or 0 for whether it is answered again, and for whether
 -- it is appended; one that is answered again has the outcome and total of its reply besides. Assumes nothing.
 use Rattle.std.specs.Prelude.{◌≡◌, not, [], ◌∷◌, ℕ, ltb, leb}
-use Rattle.numbers.specs.Words.{if◌then◌else◌, ◌and◌}
+use Rattle.numbers.specs.Words.{when◌then◌else◌, ◌and◌}
 use Rattle.entries.specs.declared.Entry.{Entry}
 use Rattle.fees.specs.declared.Outcome.{Outcome}
 use Rattle.frames.specs.Numbered.{Numbered, numbered}
@@ -27,8 +27,8 @@ request_number Append = numbered 0 (0 ∷ 1 ∷ [])
 -- By the rules. A number that isn't new: the reply that is kept for it, or 10 where the area for replies, of so many bytes, is too short.
 unfoldable pub again_numbers : Entry → (request : ℕ) → Outcome → (room : ℕ) → Numbered
 again_numbers e request o room =
-    if ltb e.request request then passed_over else
-    if ltb room 36 then numbered 10 [] else
+    when ltb e.request request then passed_over else
+    when ltb room 36 then numbered 10 [] else
     numbered 0 (1 ∷ 0 ∷ o.code ∷ o.total ∷ [])
 
 unfoldable pub kept_numbers : Entry → Latest → (room : ℕ) → Numbered
@@ -39,15 +39,15 @@ kept_numbers e (Row.Answered request o) room = again_numbers e request o room
 -- a new one: 4 where the log has L entries, then 9
 unfoldable pub new_numbers : Replica → (out : ℕ) → Numbered
 new_numbers s out =
-    if leb s.setup.room s.op.0 then numbered 4 [] else
-    if ltb out (sends_of s) then numbered 9 [] else
+    when leb s.setup.room s.op.0 then numbered 4 [] else
+    when ltb out (sends_of s) then numbered 9 [] else
     numbered 0 (0 ∷ 1 ∷ [])
 
 -- only a Normal primary looks at it; out and reps are the sizes of the areas
 unfoldable pub request_numbers : Replica → Entry → Latest → (out reps : ℕ) → Numbered
 request_numbers s e latest out reps =
-    if not (leads s and is_normal s.status) then passed_over else
-    if is_new latest e.request then new_numbers s out else
+    when not (leads s and is_normal s.status) then passed_over else
+    when is_new latest e.request then new_numbers s out else
     kept_numbers e latest reps
 
 -- what `request::weigh` promises: the enum, and its number and values

@@ -1,14 +1,13 @@
 -- on_idle in Normal, on the state by value and the bytes of log and area: a primary's heartbeat, then a Prepare for every op that isn't committed;
 -- and a backup's, whose wait isn't over. Assumes nothing.
 use Rattle.std.specs.Prelude.{◌≡◌, true, false, List, [], ◌++◌, ℕ, zero, suc, ◌+◌, ◌-◌, ◌*◌, ◌≤◌, ltb, length}
-use Rattle.numbers.specs.Words.{if◌then◌else◌}
+use Rattle.numbers.specs.Words.{when◌then◌else◌}
 use Rattle.numbers.specs.Numbers.{over}
 use Rattle.entries.specs.Places.{entry_in}
 use Rattle.config.specs.Setup.{setup_ok}
 use Rattle.clock.specs.Clock.{tick_of}
 use Rattle.clock.specs.declared.Clock.{Clock}
 use Rattle.clock.specs.declared.Duty.TheVariants.{Lead}
-use Rattle.frames.specs.declared.Message.{Message}
 use Rattle.frames.specs.declared.Message.TheVariants.{Prepare, Commit}
 use Rattle.writers.specs.Writers.{to_others}
 use Rattle.state.specs.State.{with_clock}
@@ -50,7 +49,7 @@ prepares_of s log (suc k) = prepares_of s log k ++ prepares_to s (s.commit.0 + k
 -- on_idle of a Normal primary
 unfoldable pub primary_tick : Replica → (log out : List ℕ) → Spoke
 primary_tick s log out =
-    if ltb (length out) (heartbeat_length s + prepares_length s (s.op.0 - s.commit.0)) then spoke (refusal 9 s) out else
+    when ltb (length out) (heartbeat_length s + prepares_length s (s.op.0 - s.commit.0)) then spoke (refusal 9 s) out else
     spoke
     (completed
     (with_clock s (tick_of s.setup.timeout Lead s.clock).clock)

@@ -15,7 +15,7 @@ use Prim.Native.Nat.{ℕ, zero, suc, ◌+◌, ◌-◌, ◌*◌, ◌/◌, ◌^◌
 use native.Mathlib.Omega.{arith}
 use lib.ListN.{length, get_or, take, drop, length-drop, drop_of_length-le}
 use lib.Seq.{drop-drop, drop-cons}
-use Rattle.numbers.specs.Words.{if◌then◌else◌}
+use Rattle.numbers.specs.Words.{when◌then◌else◌}
 use Rattle.numbers.specs.Numbers.{be_from, be, num, within}
 use Rattle.numbers.proofs.WordLaws.{split, if-true, if-false}
 use Rattle.numbers.proofs.NumberLaws.{le-or-lt, eq-or-not, num-byte}
@@ -23,13 +23,13 @@ use Rattle.offsets.specs.Rules.{Rule, end, byte, reach, free, between, number_re
 use Rattle.offsets.proofs.RuleLaws.{reach-le}
 
 pub reach-free : (n : ℕ) (r : Rule) (s : List ℕ) → n ≤ length s → reach (free n r) s ≡ n + reach r (drop n s)
-unfolding reach free if◌then◌else◌
+unfolding reach free when◌then◌else◌
 reach-free zero r s h = omega arith
 reach-free (suc n) r [] h = absurd (omega arith)
 reach-free (suc n) r (b ∷ s) h = let e = reach-free n r s (omega arith) in omega (arith, e)
 
 pub reach-free-short : (n : ℕ) (r : Rule) (s : List ℕ) → length s < n → reach (free n r) s ≡ length s
-unfolding reach free if◌then◌else◌
+unfolding reach free when◌then◌else◌
 reach-free-short zero r s h = absurd (omega arith)
 reach-free-short (suc n) r [] h = refl
 reach-free-short (suc n) r (b ∷ s) h = ap suc (reach-free-short n r s (omega arith))
@@ -37,7 +37,7 @@ reach-free-short (suc n) r (b ∷ s) h = ap suc (reach-free-short n r s (omega a
 pub reach-number : (n x low high : ℕ) (next : ℕ → Rule) (s : List ℕ)
     → ((number_reach n x low high s ≡ n) → reach (between n x low high next) s ≡ n + reach (next (be_from x (take n s))) (drop n s))
     × ((number_reach n x low high s < n) → reach (between n x low high next) s ≡ number_reach n x low high s)
-unfolding reach between number_reach if◌then◌else◌
+unfolding reach between number_reach when◌then◌else◌
 reach-number zero x low high next s = (λ e. omega arith, λ l. absurd (omega arith))
 reach-number (suc n) x low high next [] = (λ e. absurd (omega arith), λ l. refl)
 reach-number (suc n) x low high next (b ∷ s) =
@@ -49,13 +49,13 @@ reach-number (suc n) x low high next (b ∷ s) =
     by-test (within (low / 256 ^ n) (high / 256 ^ n) y) k w z n ih.0 ih.1
   where
     by-test : (t : Bool) (k w z n : ℕ) → (k ≡ n → w ≡ n + z) → (k < n → w ≡ k)
-        → (((if t then suc k else 0) ≡ suc n) → (if t then suc w else 0) ≡ suc n + z) × (((if t then suc k else 0) < suc n) → (if t then suc w else 0) ≡ (if t then suc k else 0))
+        → (((when t then suc k else 0) ≡ suc n) → (when t then suc w else 0) ≡ suc n + z) × (((when t then suc k else 0) < suc n) → (when t then suc w else 0) ≡ (when t then suc k else 0))
     by-test true k w z n f g = (λ e. let p = f (omega (arith, e)) in omega (arith, p), λ l. let p = g (omega (arith, l)) in omega (arith, p))
     by-test false k w z n f g = (λ e. absurd (omega (arith, e)), λ l. refl)
 
 -- no more bytes are kept than the number has
 pub number-le : (n x low high : ℕ) (s : List ℕ) → number_reach n x low high s ≤ n
-unfolding number_reach reach between if◌then◌else◌
+unfolding number_reach reach between when◌then◌else◌
 number-le zero x low high s = omega arith
 number-le (suc n) x low high [] = omega arith
 number-le (suc n) x low high (b ∷ s) =
@@ -188,7 +188,7 @@ module _ (a : ℕ) (s : List ℕ) (p : ℕ) where
 -- a number's next byte, at place a
 pub number-next : (m x low high a : ℕ) (s : List ℕ) → a < length s
     → number_reach (suc m) x low high (drop a s)
-    ≡ (if within (low / 256 ^ m) (high / 256 ^ m) (x * 256 + get_or s a 0) then suc (number_reach m (x * 256 + get_or s a 0) low high (drop (suc a) s)) else 0)
+    ≡ (when within (low / 256 ^ m) (high / 256 ^ m) (x * 256 + get_or s a 0) then suc (number_reach m (x * 256 + get_or s a 0) low high (drop (suc a) s)) else 0)
 unfolding number_reach reach between
 number-next m x low high a s h = rw (drop-cons s a 0 h)
 
@@ -206,7 +206,7 @@ module _ (ok : ℕ → Bool) (next : ℕ → Rule) (a : ℕ) (s : List ℕ) wher
   byte-none h = let e : reach (byte ok next) (drop a s) ≡ 0 = rw (drop_of_length-le s {i = a} h) in omega (arith, e)
 
   module _ (h : a < length s) where
-    is : reach (byte ok next) (drop a s) ≡ (if ok (num 1 a s) then suc (reach (next (num 1 a s)) (drop (suc a) s)) else 0)
+    is : reach (byte ok next) (drop a s) ≡ (when ok (num 1 a s) then suc (reach (next (num 1 a s)) (drop (suc a) s)) else 0)
     unfolding reach
     is = rw (drop-cons s a 0 h, num-byte a s h)
 

@@ -12,7 +12,7 @@ use mathlib.Core.List.{List, [], ◌∷◌, ◌++◌}
 use Prim.Native.Nat.{ℕ, zero, suc, ◌≤◌, ◌<◌}
 use native.Mathlib.Omega.{arith}
 use lib.ListN.{length, take}
-use Rattle.numbers.specs.Words.{if◌then◌else◌, ◌and◌}
+use Rattle.numbers.specs.Words.{when◌then◌else◌, ◌and◌}
 use Rattle.numbers.specs.Numbers.{Bytes}
 use Rattle.numbers.proofs.WordLaws.{split, and_both}
 use Rattle.offsets.specs.Rules.{Rule, end, byte, reach, takes}
@@ -65,7 +65,7 @@ reach-bad (byte ok next) (b ∷ s) w h =
 
 -- bytes that are just what the rule asks for all keep it
 pub reach-whole : (r : Rule) (s : List ℕ) → takes r s ≡ true → reach r s ≡ length s
-unfolding reach takes if◌then◌else◌
+unfolding reach takes when◌then◌else◌
 reach-whole end [] h = refl
 reach-whole end (b ∷ s) h = absurd (false≢true h)
 reach-whole (byte ok next) [] h = refl
@@ -74,7 +74,7 @@ reach-whole (byte ok next) (b ∷ s) h =
     rw (p.0, reach-whole (next b) s p.1)
 
 pub reach-front : (r : Rule) (s w : List ℕ) → takes r s ≡ true → reach r (s ++ w) ≡ length s
-unfolding reach takes if◌then◌else◌
+unfolding reach takes when◌then◌else◌
 reach-front end [] w h = refl
 reach-front end (b ∷ s) w h = absurd (false≢true h)
 reach-front (byte ok next) [] w h = absurd (false≢true h)

@@ -1,7 +1,7 @@
 -- What may stand at each place, byte after byte from the left: a rule says which byte may come, and for each such byte the rule for what follows. Who goes
 -- along a rule and stops at the first byte that may not come has found the offset. Assumes nothing.
 use Rattle.std.specs.Prelude.{Bool, true, false, List, [], ◌∷◌, ℕ, zero, suc, ◌+◌, ◌*◌, ◌/◌, ◌^◌}
-use Rattle.numbers.specs.Words.{if◌then◌else◌, ◌and◌}
+use Rattle.numbers.specs.Words.{when◌then◌else◌, ◌and◌}
 use Rattle.numbers.specs.Numbers.{within}
 
 -- nothing more; or a byte that passes a test, and what follows that byte
@@ -13,7 +13,7 @@ pub data Rule : Type 0 where
 unfoldable pub reach : Rule → List ℕ → ℕ
 reach end s = 0
 reach (byte ok next) [] = 0
-reach (byte ok next) (b ∷ s) = if ok b then suc (reach (next b) s) else 0
+reach (byte ok next) (b ∷ s) = when ok b then suc (reach (next b) s) else 0
 
 -- the bytes are just what the rule asks for
 unfoldable pub takes : Rule → List ℕ → Bool

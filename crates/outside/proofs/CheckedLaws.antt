@@ -6,7 +6,7 @@ use mathlib.Core.Bool.{Bool, true, false, not}
 use mathlib.Core.List.{List, []}
 use Prim.Native.Nat.{ℕ}
 use native.Mathlib.Omega.{arith}
-use Rattle.numbers.specs.Words.{if◌then◌else◌}
+use Rattle.numbers.specs.Words.{when◌then◌else◌}
 use Rattle.numbers.proofs.WordLaws.{split}
 use Rattle.offsets.specs.Offsets.{Points}
 use Rattle.frames.specs.Kinds.{well_formed}
@@ -22,8 +22,8 @@ use Rattle.outside.specs.Calls.{checked_of}
 use Rattle.outside.specs.CheckedNumbers.{call_numbers, ChecksCall}
 use Rattle.outside.specs.declared.Lengths.{Lengths}
 
-by-sound : (b : Bool) (r : Checked) (x : Numbered) → checked_number r ≡ x → checked_number (if not b then Refused 1 0 else r) ≡ (if not b then numbered 1 [] else x)
-unfolding if◌then◌else◌
+by-sound : (b : Bool) (r : Checked) (x : Numbered) → checked_number r ≡ x → checked_number (when not b then Refused 1 0 else r) ≡ (when not b then numbered 1 [] else x)
+unfolding when◌then◌else◌
 by-sound false r x e = refl
 by-sound true r x e = e
 

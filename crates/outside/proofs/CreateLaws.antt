@@ -9,7 +9,7 @@ use Prim.Native.Nat.{ℕ, ◌≤◌, ◌<◌}
 use native.Mathlib.Omega.{arith}
 use lib.ListN.{length, replicate}
 use borrow.Author.Tests.{lt-ltb, le-ltb}
-use Rattle.numbers.specs.Words.{if◌then◌else◌}
+use Rattle.numbers.specs.Words.{when◌then◌else◌}
 use Rattle.numbers.specs.Numbers.{over}
 use Rattle.numbers.specs.declared.View.{View}
 use Rattle.numbers.proofs.WordLaws.{split, if-false}
@@ -31,14 +31,14 @@ use Rattle.outside.proofs.SoundLaws.{Long, creatable-is}
 module _ (u : Setup) (lengths : Lengths) (totals acks out : List ℕ) (b : Bool) (e : b ≡ creatable u lengths) where
   pub not-created : not b ≡ true → {a : Returned} (z : Replica) → z ≡ no_replica → a ≡ refusal 1 z
       → started a totals acks out ≡ create_step u lengths totals acks out
-  unfolding create_step if◌then◌else◌
+  unfolding create_step when◌then◌else◌
   not-created h z q p = rw (← e, h, p, q)
 
   module _ (h : not b ≡ false) {totals' acks' : List ℕ} (t : totals' ≡ over (replicate (totals_length u) 0) totals)
       (k : acks' ≡ over (replicate (acks_length u) 0) acks) where
     pub created : {a : Returned} (s : Replica) → s ≡ new_in u Normal (record { 0 = 0 }) 0 → a ≡ completed s 0 0 false
         → started a totals' acks' out ≡ create_step u lengths totals acks out
-    unfolding create_step if◌then◌else◌
+    unfolding create_step when◌then◌else◌
     created s q p = rw (← e, h, p, q, t, k)
 
     module _ (v : View) (nonce : ℕ) (s : Replica) (q : s ≡ new_in u Recovering v nonce) where
@@ -62,12 +62,12 @@ module _ (u : Setup) (lengths : Lengths) (totals acks out : List ℕ) (b : Bool)
 
   pub not-recovered : not b ≡ true → (v : View) (nonce : ℕ) {a : Returned} (z : Replica) → z ≡ no_replica → a ≡ refusal 1 z
       → started a totals acks out ≡ recover_step u v nonce lengths totals acks out
-  unfolding recover_step if◌then◌else◌
+  unfolding recover_step when◌then◌else◌
   not-recovered h v nonce z q p = rw (← e, h, p, q)
 
   pub no_room : not b ≡ false → (v : View) (nonce : ℕ) → length out < recoveries_length (new_in u Recovering v nonce) → {a : Returned} (z : Replica)
       → z ≡ no_replica → a ≡ refusal 9 z → started a totals acks out ≡ recover_step u v nonce lengths totals acks out
-  unfolding recover_step if◌then◌else◌
+  unfolding recover_step when◌then◌else◌
   no_room h v nonce l z q p = rw (← e, h, lt-ltb (length out) (recoveries_length (new_in u Recovering v nonce)) l, p, q)
 
 -- where it isn't refused, the setup is one and each buffer has its length

@@ -8,7 +8,7 @@ use mathlib.Core.Path.{◌≡◌, refl, sym, ◌∙◌}
 use mathlib.Core.Bool.{Bool, true, false, not, false≢true}
 use Prim.Native.Nat.{ℕ, ◌≤◌}
 use borrow.Author.Tests.{ltb-false, le-ltb, eqb-true, eq-eqb, not-false}
-use Rattle.numbers.specs.Words.{if◌then◌else◌}
+use Rattle.numbers.specs.Words.{when◌then◌else◌}
 use Rattle.numbers.proofs.WordLaws.{if-true}
 use Rattle.config.specs.Setup.{setup_ok}
 use Rattle.config.specs.declared.Setup.{Setup}
@@ -22,23 +22,23 @@ use Rattle.outside.specs.declared.Lengths.{Lengths}
 use Rattle.outside.specs.Sound.{lengths_with, lengths_ok, creatable, numbers_sound, sound, state_sound}
 
 -- a test that must pass, and one that must fail
-passes : (a b : Bool) → (if not a then false else b) ≡ true → (a ≡ true) × (b ≡ true)
-unfolding if◌then◌else◌
+passes : (a b : Bool) → (when not a then false else b) ≡ true → (a ≡ true) × (b ≡ true)
+unfolding when◌then◌else◌
 passes true b p = (refl, p)
 passes false b p = absurd (false≢true p)
 
-fails : (a b : Bool) → (if a then false else b) ≡ true → (a ≡ false) × (b ≡ true)
-unfolding if◌then◌else◌
+fails : (a b : Bool) → (when a then false else b) ≡ true → (a ≡ false) × (b ≡ true)
+unfolding when◌then◌else◌
 fails true b p = absurd (false≢true p)
 fails false b p = (refl, p)
 
-passed : (a b : Bool) → a ≡ true → b ≡ true → (if not a then false else b) ≡ true
-unfolding if◌then◌else◌
+passed : (a b : Bool) → a ≡ true → b ≡ true → (when not a then false else b) ≡ true
+unfolding when◌then◌else◌
 passed true b p q = q
 passed false b p q = p
 
-failed : (a b : Bool) → a ≡ false → b ≡ true → (if a then false else b) ≡ true
-unfolding if◌then◌else◌
+failed : (a b : Bool) → a ≡ false → b ≡ true → (when a then false else b) ≡ true
+unfolding when◌then◌else◌
 failed true b p q = absurd (false≢true (sym p))
 failed false b p q = q
 

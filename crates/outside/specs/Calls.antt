@@ -1,7 +1,7 @@
 -- A frame but for the client table, which may have any form: its refusals, whose entry its message carries, and what the table has to follow.
 -- Assumes nothing.
 use Rattle.std.specs.Prelude.{true, false, not, List, ℕ}
-use Rattle.numbers.specs.Words.{if◌then◌else◌}
+use Rattle.numbers.specs.Words.{when◌then◌else◌}
 use Rattle.frames.specs.Refusals.{check_frame}
 use Rattle.frames.specs.declared.Message.{Message}
 use Rattle.frames.specs.declared.Message.TheVariants.{Request, Prepare, PrepareOk, Commit, GetState, NewState, StartViewChange, DoViewChange, StartView, Recovery, RecoveryResponse}
@@ -19,7 +19,7 @@ use Rattle.outside.specs.declared.call.Carrying.{Carrying}
 -- refusal 1, then 2 to 6 on the frame alone
 unfoldable pub checked_of : Replica → Lengths → (frame : List ℕ) → Checked
 checked_of s l frame =
-    if not (sound s l) then Refused 1 0 else
+    when not (sound s l) then Refused 1 0 else
     check_frame s.setup frame
 
 -- whether a message carries an entry, and whose
@@ -44,7 +44,7 @@ carried_by (RecoveryResponse v x r t) = no_entry
 
 -- what the handler is told of a client's latest request: only of him whose entry the message carries
 unfoldable pub told_of : Message → Latest → Latest
-told_of m l = if (carried_by m).carries then l else Nothing
+told_of m l = when (carried_by m).carries then l else Nothing
 
 -- what a call did to the log, s being the state before it
 abbrev pub change_by : Replica → Returned → Change

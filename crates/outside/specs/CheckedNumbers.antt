@@ -1,6 +1,6 @@
 -- A frame's refusals as number and values, by the rules: refusal 1, then what the frame alone earns (`check_numbers`). Assumes nothing.
 use Rattle.std.specs.Prelude.{◌≡◌, not, List, [], ℕ}
-use Rattle.numbers.specs.Words.{if◌then◌else◌}
+use Rattle.numbers.specs.Words.{when◌then◌else◌}
 use Rattle.offsets.specs.Offsets.{Points}
 use Rattle.frames.specs.Kinds.{well_formed}
 use Rattle.frames.specs.Numbered.{Numbered, numbered, checked_number, checked_offset, check_numbers}
@@ -11,7 +11,7 @@ use Rattle.outside.specs.Calls.{checked_of}
 use Rattle.outside.specs.declared.Lengths.{Lengths}
 
 unfoldable pub call_numbers : Replica → Lengths → (frame : List ℕ) → Numbered
-call_numbers s l frame = if not (sound s l) then numbered 1 [] else check_numbers s.setup frame
+call_numbers s l frame = when not (sound s l) then numbered 1 [] else check_numbers s.setup frame
 
 -- what `checked` promises: the enum, its number and values, and where a malformed frame is wrong
 pub record ChecksCall (s : Replica) (l : Lengths) (frame : List ℕ) (r : Checked) : Type 0 where

@@ -1,7 +1,7 @@
 -- Creation, but for the client table: `new`, and `recover` for a replica that is back from a crash. Of the runs that it only measures it has the lengths.
 -- Assumes nothing.
 use Rattle.std.specs.Prelude.{false, not, List, ℕ, ltb, length, replicate}
-use Rattle.numbers.specs.Words.{if◌then◌else◌}
+use Rattle.numbers.specs.Words.{when◌then◌else◌}
 use Rattle.numbers.specs.Numbers.{over}
 use Rattle.numbers.specs.declared.View.{View}
 use Rattle.config.specs.declared.Setup.{Setup}
@@ -36,13 +36,13 @@ zeroed u a totals acks out = started a (over (replicate (totals_length u) 0) tot
 -- new: in Normal, in view 0, with an empty log; it sends nothing
 unfoldable pub create_step : Setup → Lengths → (totals acks out : List ℕ) → Started
 create_step u l totals acks out =
-    if not (creatable u l) then started (refusal 1 no_replica) totals acks out else
+    when not (creatable u l) then started (refusal 1 no_replica) totals acks out else
     zeroed u (quiet (new_in u Normal (record { 0 = 0 }) 0)) totals acks out
 
 -- recover, with the view that was persisted and a nonce: 1, then 9
 unfoldable pub recover_step : Setup → View → (nonce : ℕ) → Lengths → (totals acks out : List ℕ) → Started
 recover_step u v k l totals acks out =
-    if not (creatable u l) then started (refusal 1 no_replica) totals acks out else
-    if ltb (length out) (recoveries_length (new_in u Recovering v k)) then started (refusal 9 no_replica) totals acks out else
+    when not (creatable u l) then started (refusal 1 no_replica) totals acks out else
+    when ltb (length out) (recoveries_length (new_in u Recovering v k)) then started (refusal 9 no_replica) totals acks out else
     zeroed u (completed (new_in u Recovering v k) (recoveries_length (new_in u Recovering v k)) 0 false)
     totals acks (over (recoveries_of (new_in u Recovering v k)) out)

@@ -1,6 +1,6 @@
 -- Refusal 1: setup, state numbers, and the lengths of what is lent. Assumes nothing.
 use Rattle.std.specs.Prelude.{Bool, false, not, ℕ, ltb, eqb, length}
-use Rattle.numbers.specs.Words.{if◌then◌else◌}
+use Rattle.numbers.specs.Words.{when◌then◌else◌}
 use Rattle.config.specs.Setup.{setup_ok}
 use Rattle.config.specs.declared.Setup.{Setup}
 use Rattle.fees.specs.Takings.{most_takings}
@@ -27,33 +27,33 @@ lengths_with m table =
 -- refusal 1 on them: each has its fixed length
 unfoldable pub lengths_ok : Setup → Lengths → Bool
 lengths_ok u l =
-    if not (eqb l.log (log_length u)) then false else
-    if not (eqb l.results (results_length u)) then false else
-    if not (eqb l.totals (totals_length u)) then false else
-    if not (eqb l.acks (acks_length u)) then false else
-    if not (eqb l.stored (stored_length u)) then false else
+    when not (eqb l.log (log_length u)) then false else
+    when not (eqb l.results (results_length u)) then false else
+    when not (eqb l.totals (totals_length u)) then false else
+    when not (eqb l.acks (acks_length u)) then false else
+    when not (eqb l.stored (stored_length u)) then false else
     eqb l.table (table_length u)
 
 -- and on a setup
 unfoldable pub creatable : Setup → Lengths → Bool
-creatable u l = if setup_ok u then lengths_ok u l else false
+creatable u l = when setup_ok u then lengths_ok u l else false
 
 -- and on the numbers of a state: commit ≤ op number ≤ L of our log and of each stored one, takings of at most 4,096,000,000,000, and what is gathered is of
 -- the cluster's replicas
 unfoldable pub numbers_sound : Replica → Bool
 numbers_sound s =
-    if ltb s.op.0 s.commit.0 then false else
-    if ltb s.setup.room s.op.0 then false else
-    if ltb most_takings s.takings then false else
+    when ltb s.op.0 s.commit.0 then false else
+    when ltb s.setup.room s.op.0 then false else
+    when ltb most_takings s.takings then false else
     gathered_ok s.setup s.starts s.reports.rows
 
 -- refusal 1 is given exactly where this is false: setup, lengths, numbers
 unfoldable pub sound : Replica → Lengths → Bool
-sound s l = if creatable s.setup l then numbers_sound s else false
+sound s l = when creatable s.setup l then numbers_sound s else false
 
 -- of a call that is handed the state alone: setup, numbers
 unfoldable pub state_sound : Replica → Bool
-state_sound s = if setup_ok s.setup then numbers_sound s else false
+state_sound s = when setup_ok s.setup then numbers_sound s else false
 
 -- the all-zero state, which a refused creation hands back
 abbrev pub no_replica : Replica

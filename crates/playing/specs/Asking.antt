@@ -1,6 +1,6 @@
 -- FORMAT.md: what a line of a trace asks for, by its first byte and what is due. L and M above 8 have no room in the memory; 0 and 4097 are passed on, since a creation with them is refused. Assumes nothing.
 use Rattle.std.specs.Prelude.{ℕ, Bool, false, not, leb, List, ◌==◌, nat_le, nat_lt}
-use Rattle.numbers.specs.Words.{if◌then◌else◌, ◌and◌, ◌or◌}
+use Rattle.numbers.specs.Words.{when◌then◌else◌, ◌and◌, ◌or◌}
 use Rattle.comparing.specs.Text.{number_at, lesser_of}
 use Rattle.playing.specs.declared.ReplicaCall.{ReplicaCall}
 use Rattle.playing.specs.declared.ReplicaCall.TheVariants.{Create, Recover, Message, Idle}
@@ -20,7 +20,7 @@ fitting n id timeout room members =
 -- a creation with these numbers, and a message area of so many bytes, of 8192 at most
 unfoldable pub creation_of : ReplicaCall → (n id timeout room members area : ℕ) → Asked
 creation_of c n id timeout room members area =
-    if fitting n id timeout room members
+    when fitting n id timeout room members
     then Begin c (record { n = n; id = id; timeout = timeout; room = room; members = members }) (lesser_of area 8192)
     else Larger
 
@@ -32,7 +32,7 @@ creation_in c s =
 -- `R n id t l m view nonce mcap`
 unfoldable pub recovery_in : List ℕ → Asked
 recovery_in line =
-    if nat_le (number_at false 6 line) 4294967295
+    when nat_le (number_at false 6 line) 4294967295
     then creation_in (Recover (record { 0 = number_at false 6 line }) (number_at false 7 line)) line
     else Larger
 
@@ -43,28 +43,28 @@ going_in c line = Go c (lesser_of (number_at false 1 line) 8192) (lesser_of (num
 -- a line of a run that is played: M, T, =, :, + and $
 unfoldable pub within_run : (c : ℕ) → List ℕ → Asked
 within_run c line =
-    if c == 77 then going_in Message line else
-    if c == 84 then going_in Idle line else
-    if c == 61 then Answer else
-    if c == 58 then State else
-    if c == 43 then Further else
-    if c == 36 then Takings else
+    when c == 77 then going_in Message line else
+    when c == 84 then going_in Idle line else
+    when c == 61 then Answer else
+    when c == 58 then State else
+    when c == 43 then Further else
+    when c == 36 then Takings else
     Unknown
 
 -- a line of a run, c its first byte: what is due has to come first
 unfoldable pub of_run : RunState → (c : ℕ) → List ℕ → Asked
 of_run r c line =
-    if not r.live then Nothing else
-    if r.due == 0 then within_run c line else
-    if r.due == c then within_run c line else
+    when not r.live then Nothing else
+    when r.due == 0 then within_run c line else
+    when r.due == c then within_run c line else
     Missing
 
 -- a line, c its first byte, 0: none. N, R and C begin a run; # is a comment
 unfoldable pub asked_by : RunState → (c : ℕ) → List ℕ → Asked
 asked_by r c line =
-    if c == 78 then creation_in Create line else
-    if c == 82 then recovery_in line else
-    if c == 67 then Client else
-    if c == 35 then Nothing else
-    if c == 0 then Nothing else
+    when c == 78 then creation_in Create line else
+    when c == 82 then recovery_in line else
+    when c == 67 then Client else
+    when c == 35 then Nothing else
+    when c == 0 then Nothing else
     of_run r c line

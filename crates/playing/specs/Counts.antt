@@ -1,6 +1,6 @@
 -- What is known of a trace so far, and each change of it. Counts are kept to 64 bits. Assumes nothing.
 use Rattle.std.specs.Prelude.{ℕ, ◌+◌, ◌%◌, ◌^◌, Bool, true, false, not, ◌==◌}
-use Rattle.numbers.specs.Words.{if◌then◌else◌, ◌and◌}
+use Rattle.numbers.specs.Words.{when◌then◌else◌, ◌and◌}
 use Rattle.frames.specs.declared.Status.TheVariants.{Normal}
 use Rattle.state.specs.Answers.{refusal}
 use Rattle.state.specs.State.{new_in}
@@ -69,8 +69,8 @@ called_now p before a =
 -- a state is due, but after a refused creation
 unfoldable pub state_due : Play → ℕ
 state_due p =
-    if not p.run.created then 58 else
-    if p.answer.code == 0 then 58 else
+    when not p.run.created then 58 else
+    when p.answer.code == 0 then 58 else
     0
 
 -- a state is due, or nothing
@@ -85,7 +85,7 @@ call_counted p due =
 
 -- an answer is right; one to a creation isn't counted
 unfoldable pub right : Play → Play
-right p = if p.run.created then with_due p (state_due p) else call_counted p (state_due p)
+right p = when p.run.created then with_due p (state_due p) else call_counted p (state_due p)
 
 -- a state is right: nothing is due
 abbrev pub state_right : Play → Play

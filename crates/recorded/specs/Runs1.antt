@@ -1,6 +1,6 @@
 -- Recorded runs: answers.trace, order02.trace, order04.trace, order06.trace, by tools/model-replay. Assumes nothing.
 use Rattle.std.specs.Prelude.{[], ◌∷◌, ◌++◌}
-use Rattle.against_rust.specs.Shape.{Run, hex, saw_all, saw_sum, saw, run}
+use Rattle.against_rust.specs.Shape.{Run, hex, saw, run}
 use Rattle.against_rust.specs.Shape.Start.{new, back}
 use Rattle.against_rust.specs.Shape.Line.{frame, tick}
 

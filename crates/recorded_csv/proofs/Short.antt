@@ -8,7 +8,7 @@ use mathlib.Core.List.{List, [], ◌∷◌, ◌++◌, map}
 use Prim.Native.Nat.{ℕ, zero, suc, ◌/◌, ◌%◌}
 use borrow.Author.Tests.{lt-ltb, le-ltb}
 use lib.Dec.{ltb}
-use Rattle.numbers.specs.Words.{if◌then◌else◌}
+use Rattle.numbers.specs.Words.{when◌then◌else◌}
 use Rattle.numbers.specs.Cells.{packed}
 use Rattle.entries.specs.Entries.{entries, run_count, run_ok}
 use Rattle.entries.specs.declared.Entry.{Entry}
@@ -21,10 +21,10 @@ use Rattle.recorded_csv.specs.Shape.{lent_area, ToExport, export_of}
 -- k figures of a number from its last on, and the others as `decimal` has them
 unfoldable pub short : (k n : ℕ) → List ℕ
 short zero n = decimal n
-short (suc k) n = if ltb n 10 then figure n ∷ [] else short k (n / 10) ++ figure (n % 10) ∷ []
+short (suc k) n = when ltb n 10 then figure n ∷ [] else short k (n / 10) ++ figure (n % 10) ∷ []
 
 pub short-is : (k n : ℕ) → decimal n ≡ short k n
-unfolding short if◌then◌else◌
+unfolding short when◌then◌else◌
 short-is zero n = refl
 short-is (suc k) n =
     by_size n
@@ -42,7 +42,7 @@ short_rows i (e ∷ es) = short_row (suc i) e ∷ short_rows (suc i) es
 
 unfoldable pub short_export : ToExport → LeftExported
 short_export x =
-    if not (run_ok x.run) then not_exported 2 (lent_area x.room) else
+    when not (run_ok x.run) then not_exported 2 (lent_area x.room) else
     exporting (packed plain_row (header_words ∷ short_rows 0 (entries (run_count x.run) x.run))) (lent_area x.room)
 
 row_is : (op : ℕ) (e : Entry) → entry_fields op e ≡ short_row op e

@@ -1,7 +1,7 @@
 -- What a recorded call on tables is, and what it says of the definitions: that they answer just so, and leave what is lent just so.
 -- The fields are those of ../shared/vectors/orders/FORMAT.md, in its order. Assumes nothing.
 use Rattle.std.specs.Prelude.{List, ◌++◌, ℕ, ◌-◌, eqb, length, replicate}
-use Rattle.numbers.specs.Words.{if◌then◌else◌}
+use Rattle.numbers.specs.Words.{when◌then◌else◌}
 use Rattle.entries.specs.Entries.{run_count}
 use Rattle.csv_table.specs.Calls.{LeftExported, not_exported, export_call, LeftImported, not_imported, import_call}
 
@@ -40,7 +40,7 @@ to_import k file = record { room = k; file = file }
 -- Of a bad row only its number is recorded: its first bad field, what is wrong with that and where it begins are passed over, as 0.
 unfoldable pub as_recorded : LeftImported → LeftImported
 as_recorded d =
-    if eqb d.answer.code 13 then
+    when eqb d.answer.code 13 then
     record {
       answer = record { code = d.answer.code; entries = d.answer.entries; row = d.answer.row; column = 0; fault = 0; offset = 0 };
       area = d.area;

@@ -1,3 +1,5 @@
+#![tactic(auto)]
+
 // Tables as the definitions export and import them, held against ../shared/vectors/orders/order05-csv.txt, under specs/ and proofs/. That list was written by
 // a second reading of document 02. No code. Each statement says the whole answer, and what stands afterwards in what was lent; only of a bad row its first bad
 // field, what is wrong with that and its place are passed over, since they aren't recorded.

@@ -1,3 +1,5 @@
+#![tactic(auto)]
+
 // Journals as the definitions write and read them, held against ../shared/vectors/orders/order03-journal.txt, under specs/ and proofs/. That list was
 // written by a second reading of document 02. No code. Each statement says the whole answer, and what stands afterwards in what was lent. One number of it
 // isn't recorded: what is wrong with a bad frame, which tools/journals.py works out.

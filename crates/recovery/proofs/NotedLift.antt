@@ -9,7 +9,7 @@ use mathlib.Core.Bool.{true}
 use mathlib.Core.List.{List}
 use mathlib.Core.Option.{Option, none, some}
 use lib.ListN.{length, get_or, set, take, length-set}
-use Rattle.numbers.specs.Words.{if◌then◌else◌}
+use Rattle.numbers.specs.Words.{when◌then◌else◌}
 use Rattle.numbers.specs.declared.View.{View}
 use Rattle.numbers.proofs.WordLaws.{if-true, split₂}
 use Rattle.entries.specs.Entries.{entries}
@@ -44,7 +44,7 @@ response-there v (Present o k) = refl
 
 pub response-is : (v : View) (state : RecoveryState) (r : ℕ) (part : List ℕ)
     → record { view = v.0; held = held_in state (entries (response_of v state).op.0 part) } ≡ response_in (λ _. part) r (response_of v state)
-unfolding response_of held_in if◌then◌else◌
+unfolding response_of held_in when◌then◌else◌
 response-is v Absent r part = refl
 response-is v (Present o k) r part = refl
 

@@ -6,7 +6,7 @@ use mathlib.Core.Path.{◌≡◌, refl, sym, ap, ◌∙◌, subst}
 use mathlib.Core.Bool.{true, false}
 use mathlib.Core.List.{List, []}
 use lib.ListN.{length}
-use Rattle.numbers.specs.Words.{if◌then◌else◌}
+use Rattle.numbers.specs.Words.{when◌then◌else◌}
 use Rattle.numbers.specs.Numbers.{over, Bytes}
 use Rattle.numbers.specs.Cells.{packed}
 use Rattle.numbers.specs.declared.View.{View}
@@ -77,7 +77,7 @@ module _ (c : Given) (table : List ClientEntry) (applied : List Entry) (sound : 
 
   -- neither responses nor reports
   new-store : store_of r c.runs.stored ≡ cleared_store u (forgotten u was)
-  unfolding model_of store_of cleared_store forgotten set_store no_reports no_responses is_recovering if◌then◌else◌
+  unfolding model_of store_of cleared_store forgotten set_store no_reports no_responses is_recovering when◌then◌else◌
   new-store = rw (reports-cleared u c.runs.stored (sized u sound.sized).seven)
 
   new-reads : model_of r (with_runs c.runs y) new-book.table applied ≡ enter_normal u (forgotten u was) v.0 new-book was.votes.acks

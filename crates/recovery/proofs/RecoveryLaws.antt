@@ -7,7 +7,7 @@ use native.Mathlib.Omega.{arith}
 use lib.ListN.{length, take}
 use lib.Seq.{length-take-le}
 use borrow.Author.Tests.{lt-ltb, le-ltb}
-use Rattle.numbers.specs.Words.{if◌then◌else◌}
+use Rattle.numbers.specs.Words.{when◌then◌else◌}
 use Rattle.numbers.specs.Numbers.{Wrote}
 use Rattle.numbers.specs.declared.View.{View}
 use Rattle.config.specs.Setup.{setup_ok}
@@ -31,7 +31,7 @@ use Rattle.recovery.specs.Recovery.{recoveries_length, recoveries_of, recovering
 
 module _ (s : Replica) (out : List ℕ) where
   pub ticks-short : (a : Returned) → length out < recoveries_length s → a ≡ refusal 9 s → spoke a out ≡ recovering_tick s out
-  unfolding recovering_tick if◌then◌else◌
+  unfolding recovering_tick when◌then◌else◌
   ticks-short a h p = rw (lt-ltb (length out) (recoveries_length s) h, p)
 
   module _ (ok : setup_ok s.setup ≡ true) (h : recoveries_length s ≤ length out) where
@@ -49,14 +49,14 @@ module _ (s : Replica) (out : List ℕ) where
 
     pub ticks : (a : Returned) (w : ℕ) (o : List ℕ) → Wrote (recoveries_of s) out o w → a ≡ completed s w 0 false
         → spoke a o ≡ recovering_tick s out
-    unfolding recovering_tick if◌then◌else◌
+    unfolding recovering_tick when◌then◌else◌
     ticks a w o q p = rw (le-ltb (length out) (recoveries_length s) h, p, q.bytes, q.count, recoveries-long)
 
 -- ---- the answers to a Recovery
 
 module _ (s : Replica) (r x : ℕ) (log out : List ℕ) where
   pub full-short : (a : Returned) → length out < full_length s → a ≡ refusal 9 s → spoke a out ≡ full_answer s r x log out
-  unfolding full_answer if◌then◌else◌
+  unfolding full_answer when◌then◌else◌
   full-short a h p = rw (lt-ltb (length out) (full_length s) h, p)
 
   module _ (h : LogHeld s (length log)) (l : full_length s ≤ length out) where
@@ -75,12 +75,12 @@ module _ (s : Replica) (r x : ℕ) (log out : List ℕ) where
     pub answers-full : (a : Returned) (w : ℕ) (o : List ℕ)
         → Wrote (encode r (RecoveryResponse s.view x s.setup.id (Present s.op s.commit)) (take (32 * s.op.0) log)) out o w
         → a ≡ completed s w 0 false → spoke a o ≡ full_answer s r x log out
-    unfolding full_answer if◌then◌else◌
+    unfolding full_answer when◌then◌else◌
     answers-full a w o q p = rw (le-ltb (length out) (full_length s) l, p, q.bytes, q.count, full-long)
 
 module _ (s : Replica) (r x : ℕ) (out : List ℕ) where
   pub bare-short : (a : Returned) → length out < 21 → a ≡ refusal 9 s → spoke a out ≡ bare_answer s r x out
-  unfolding bare_answer if◌then◌else◌
+  unfolding bare_answer when◌then◌else◌
   bare-short a h p = rw (lt-ltb (length out) 21 h, p)
 
   bare-answer-long : length (encode r (RecoveryResponse s.view x s.setup.id Absent) []) ≡ 21
@@ -90,26 +90,26 @@ module _ (s : Replica) (r x : ℕ) (out : List ℕ) where
   pub answers-bare : (a : Returned) (w : ℕ) (o : List ℕ) → 21 ≤ length out
       → Wrote (encode r (RecoveryResponse s.view x s.setup.id Absent) []) out o w → a ≡ completed s w 0 false
       → spoke a o ≡ bare_answer s r x out
-  unfolding bare_answer if◌then◌else◌
+  unfolding bare_answer when◌then◌else◌
   answers-bare a w o h q p = rw (le-ltb (length out) 21 h, p, q.bytes, q.count, bare-answer-long)
 
 -- ---- on_recovery
 
 module _ (s : Replica) (r x : ℕ) (v : View) (log out : List ℕ) where
   pub starts-change : (d : Spoke) → s.view.0 < v.0 → d ≡ started_change s s v out → d ≡ recovery_step s r x v log out
-  unfolding recovery_step if◌then◌else◌
+  unfolding recovery_step when◌then◌else◌
   starts-change d h p = rw (lt-ltb s.view.0 v.0 h, p)
 
   module _ (h : v.0 ≤ s.view.0) where
     pub silent : (a : Returned) → not (is_normal s.status) ≡ true → a ≡ quiet s → spoke a out ≡ recovery_step s r x v log out
-    unfolding recovery_step if◌then◌else◌
+    unfolding recovery_step when◌then◌else◌
     silent a n p = rw (le-ltb s.view.0 v.0 h, n, p)
 
     module _ (n : not (is_normal s.status) ≡ false) where
       pub leader-answers : (d : Spoke) → leads s ≡ true → d ≡ full_answer s r x log out → d ≡ recovery_step s r x v log out
-      unfolding recovery_step if◌then◌else◌
+      unfolding recovery_step when◌then◌else◌
       leader-answers d l p = rw (le-ltb s.view.0 v.0 h, n, l, p)
 
       pub backup-answers : (d : Spoke) → leads s ≡ false → d ≡ bare_answer s r x out → d ≡ recovery_step s r x v log out
-      unfolding recovery_step if◌then◌else◌
+      unfolding recovery_step when◌then◌else◌
       backup-answers d l p = rw (le-ltb s.view.0 v.0 h, n, l, p)

@@ -14,7 +14,7 @@ use lib.Dec.{ltb, eqb}
 use lib.ListN.{length, get_or, set, take}
 use lib.Seq.{length-take-le, get_or-set_same, get_or-set_other}
 use borrow.Author.Tests.{ltb-false, le-ltb, eqb-true, not-false}
-use Rattle.numbers.specs.Words.{if◌then◌else◌}
+use Rattle.numbers.specs.Words.{when◌then◌else◌}
 use Rattle.numbers.specs.Numbers.{over, Bytes}
 use Rattle.numbers.specs.Cells.{packed}
 use Rattle.numbers.specs.declared.View.{View}
@@ -97,19 +97,19 @@ of_collected c d =
 
 -- what the model does with a place that may be empty, and with a response that may carry no state
 from_row : (u : Setup) (m : State) (w : ℕ) (b : Bool) (a : Response)
-    → recover_from u m w (if b then some a else none) ≡ (if not b then ignored m else recover_with u m w a.view a.held)
-unfolding recover_from if◌then◌else◌
+    → recover_from u m w (when b then some a else none) ≡ (when not b then ignored m else recover_with u m w a.view a.held)
+unfolding recover_from when◌then◌else◌
 from_row u m w true a = refl
 from_row u m w false a = refl
 
 with_row : (u : Setup) (m : State) (w v : ℕ) (b : Bool) (h : Held)
-    → recover_with u m w v (if b then some h else none)
-    ≡ (if not b then ignored m else
-    if not (eqb v w) then ignored m else
-    if not (agree m.book.commit h.log m.book.log) then refused 7 else
-    if ltb w m.place.view then refused 7 else
+    → recover_with u m w v (when b then some h else none)
+    ≡ (when not b then ignored m else
+    when not (eqb v w) then ignored m else
+    when not (agree m.book.commit h.log m.book.log) then refused 7 else
+    when ltb w m.place.view then refused 7 else
     done (recovered u m w h) [] [])
-unfolding recover_with if◌then◌else◌
+unfolding recover_with when◌then◌else◌
 with_row u m w v true h = refl
 with_row u m w v false h = refl
 
@@ -189,7 +189,7 @@ module _ (c : Given) (table : List ClientEntry) (applied : List Entry) where
       abbrev Agree : Spoke → Answer → Type 0
       Agree d a = Shown c (of_spoke c d) m.book (fitted (length c.out) (length c.reps) a)
 
-      response-sent : Agree (if leads s then full_answer s r x c.runs.log c.out else bare_answer s r x c.out)
+      response-sent : Agree (when leads s then full_answer s r x c.runs.log c.out else bare_answer s r x c.out)
           (done m (send_recovery_response s.setup m r x) [])
       unfolding send_recovery_response is_primary primary leads model_of
       response-sent =
@@ -312,8 +312,8 @@ module _ (c : Given) (table : List ClientEntry) (applied : List Entry) where
 
       abbrev ends : Answer
       ends =
-          if not (agree next.book.commit carried.log next.book.log) then refused 7 else
-          if ltb w next.place.view then refused 7 else
+          when not (agree next.book.commit carried.log next.book.log) then refused 7 else
+          when ltb w next.place.view then refused 7 else
           done (recovered u next w carried) [] []
 
       below : best.id < u.n
@@ -355,7 +355,7 @@ module _ (c : Given) (table : List ClientEntry) (applied : List Entry) where
             (sym (silent (length c.out) (length c.reps) (recovered u next best.report.view.0 carried))) (begin-did k))
 
         -- the first cause of refusal 7, a commit number past the log, never holds
-        weigh-is : weighs ≡ (if not keep then Refuse else Begin best best.report.commit)
+        weigh-is : weighs ≡ (when not keep then Refuse else Begin best best.report.commit)
         unfolding weighed
         weigh-is =
             if-false _ _ _ (le-ltb o.0 best.report.commit.0 numbers.commit-le)
@@ -372,23 +372,23 @@ module _ (c : Given) (table : List ClientEntry) (applied : List Entry) where
 
       -- where its sender was in view w
       stated-shown : best.report.there ≡ true
-          → Gives (if eqb best.report.view.0 w then weighs else Wait) (if not (eqb best.report.view.0 w) then ignored next else ends)
+          → Gives (when eqb best.report.view.0 w then weighs else Wait) (when not (eqb best.report.view.0 w) then ignored next else ends)
       stated-shown answers =
-          subst (λ (j : Judged). Gives j (if not (eqb best.report.view.0 w) then ignored next else ends))
+          subst (λ (j : Judged). Gives j (when not (eqb best.report.view.0 w) then ignored next else ends))
           (sym (by-not (eqb best.report.view.0 w) weighs Wait))
           (split₂ Gives _ _ _ _ _ _ refl (λ _. wait-shown)
           (λ f. weigh-shown answers (eqb-true best.report.view.0 w (not-false (eqb best.report.view.0 w) f))))
 
       answered-is : recover_from u next w (get_or next.store.responses (primary u w) none)
-          ≡ (if not best.report.there then ignored next else
-          if not best.report.full then ignored next else
-          if not (eqb best.report.view.0 w) then ignored next else
+          ≡ (when not best.report.there then ignored next else
+          when not best.report.full then ignored next else
+          when not (eqb best.report.view.0 w) then ignored next else
           ends)
       unfolding primary
       answered-is =
           ap (recover_from u next w) (noted-place s c.runs table applied recovering r d part told.sender few there best.id below)
           ∙ from_row u next w best.report.there (response_in run best.id best.report)
-          ∙ ap (λ (a : Answer). if not best.report.there then ignored next else a)
+          ∙ ap (λ (a : Answer). when not best.report.there then ignored next else a)
           (with_row u next w best.report.view.0 best.report.full carried)
 
       answered-shown : Gives (answered_by_primary best w r u.room s.commit.0 c.runs.log stored part)

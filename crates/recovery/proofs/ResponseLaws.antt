@@ -8,7 +8,7 @@ use native.Mathlib.Omega.{arith}
 use lib.ListN.{length, get_or, set}
 use lib.Seq.{get_or-set_same, get_or-set_other}
 use borrow.Author.Tests.{eq-eqb, ne_eqb}
-use Rattle.numbers.specs.Words.{if◌then◌else◌}
+use Rattle.numbers.specs.Words.{when◌then◌else◌}
 use Rattle.numbers.specs.declared.View.{View}
 use Rattle.numbers.specs.declared.Op.{Op}
 use Rattle.numbers.proofs.NumberLaws.{eq-or-not}
@@ -184,13 +184,13 @@ module _ (s : Replica) (r : ℕ) (d : Report) (fresh log results totals stored :
 module _ (s : Replica) (v : View) (x r : ℕ) (state : RecoveryState) (part log results totals stored : List ℕ) where
   pub other-nonce : (a : Returned) → (x ≡ s.nonce → ⊥) → a ≡ quiet s
       → collected a (runs log results totals) stored ≡ response_step s v x r state part (runs log results totals) stored
-  unfolding response_step if◌then◌else◌
+  unfolding response_step when◌then◌else◌
   other-nonce a h p = rw (ne_eqb x s.nonce h, p)
 
   pub our-nonce : (y : Collected) (d : Report) → x ≡ s.nonce → d ≡ response_of v state
       → y ≡ collected_by s r d part (runs log results totals) stored
       → y ≡ response_step s v x r state part (runs log results totals) stored
-  unfolding response_step if◌then◌else◌
+  unfolding response_step when◌then◌else◌
   our-nonce y d h e p =
       p
       ∙ (λ i. collected_by s r (e i) part (runs log results totals) stored)

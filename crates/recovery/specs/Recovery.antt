@@ -1,7 +1,7 @@
 -- send_recovery, on_recovery and on_recovery_response, on the state by value and the bytes of the lent runs. A quorum of responses is judged before
 -- anything is stored; the response that ends the recovery is not stored. Assumes nothing.
-use Rattle.std.specs.Prelude.{◌≡◌, Bool, true, false, not, List, [], ℕ, ◌+◌, ◌-◌, ◌*◌, ◌≤◌, ◌<◌, ltb, eqb, length, take}
-use Rattle.numbers.specs.Words.{if◌then◌else◌}
+use Rattle.std.specs.Prelude.{◌≡◌, true, false, not, List, [], ℕ, ◌+◌, ◌-◌, ◌*◌, ◌≤◌, ◌<◌, ltb, eqb, length, take}
+use Rattle.numbers.specs.Words.{when◌then◌else◌}
 use Rattle.numbers.specs.Numbers.{over}
 use Rattle.numbers.specs.declared.View.{View}
 use Rattle.numbers.specs.declared.Op.{Op}
@@ -39,7 +39,7 @@ recoveries_of s = to_others s.setup.n s.setup.id (Recovery s.setup.id s.nonce s.
 -- send_recovery, of on_idle in Recovering: the clock is left alone
 unfoldable pub recovering_tick : Replica → List ℕ → Spoke
 recovering_tick s out =
-    if ltb (length out) (recoveries_length s) then spoke (refusal 9 s) out else
+    when ltb (length out) (recoveries_length s) then spoke (refusal 9 s) out else
     spoke (completed s (recoveries_length s) 0 false) (over (recoveries_of s) out)
 
 -- on_recovery, its answer: a primary's with its log
@@ -48,7 +48,7 @@ full_length s = 29 + 32 * s.op.0
 
 unfoldable pub full_answer : Replica → (r x : ℕ) (log out : List ℕ) → Spoke
 full_answer s r x log out =
-    if ltb (length out) (full_length s) then spoke (refusal 9 s) out else
+    when ltb (length out) (full_length s) then spoke (refusal 9 s) out else
     spoke
     (completed s (full_length s) 0 false)
     (over (encode r (RecoveryResponse s.view x s.setup.id (Present s.op s.commit)) (take (32 * s.op.0) log)) out)
@@ -56,15 +56,15 @@ full_answer s r x log out =
 -- a backup's without
 unfoldable pub bare_answer : Replica → (r x : ℕ) → List ℕ → Spoke
 bare_answer s r x out =
-    if ltb (length out) 21 then spoke (refusal 9 s) out else
+    when ltb (length out) 21 then spoke (refusal 9 s) out else
     spoke (completed s 21 0 false) (over (encode r (RecoveryResponse s.view x s.setup.id Absent) []) out)
 
 -- on_recovery of replica r, with its nonce and view: one of a later view starts the view change, and isn't answered
 unfoldable pub recovery_step : Replica → (r x : ℕ) → View → (log out : List ℕ) → Spoke
 recovery_step s r x v log out =
-    if ltb s.view.0 v.0 then started_change s s v out else
-    if not (is_normal s.status) then spoke (quiet s) out else
-    if leads s then full_answer s r x log out else
+    when ltb s.view.0 v.0 then started_change s s v out else
+    when not (is_normal s.status) then spoke (quiet s) out else
+    when leads s then full_answer s r x log out else
     bare_answer s r x out
 
 -- what is held of a RecoveryResponse of view v
@@ -131,5 +131,5 @@ collected_by s r d fresh x stored =
 -- on_recovery_response of view v, to the nonce x, from replica r; `part` begins with the log that it carries
 unfoldable pub response_step : Replica → View → (x r : ℕ) → RecoveryState → (part : List ℕ) → Runs → (stored : List ℕ) → Collected
 response_step s v x r state part y stored =
-    if not (eqb x s.nonce) then collected (quiet s) y stored else
+    when not (eqb x s.nonce) then collected (quiet s) y stored else
     collected_by s r (response_of v state) part y stored

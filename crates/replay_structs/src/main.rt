@@ -4,7 +4,7 @@
 // Here are the input, and one call with runs of the setup's lengths, which `trace` makes.
 #![tactic(auto)]
 
-ghost use Rattle.std.specs.Prelude.{◌≡◌, ◌≤◌, IfOk, length};
+ghost use Rattle.std.specs.Prelude.{◌≡◌, ◌≤◌, length};
 
 use crate::held::Left;
 use client_table_structs::Row;
@@ -12,7 +12,6 @@ use comparing::memory;
 use config::Setup;
 use playing::ReplicaCall;
 use state::{Replica, Returned};
-use std::alloc::{AllocError, Global};
 use std::io;
 use std::io::{BufWriter, Write};
 
@@ -187,10 +186,10 @@ fn make(g: Given, frame: &[u8], mem: &mut [u8], out: &mut [u8], reps: &mut [u8])
 }
 
 // Room for the whole input.
-fn room(alloc: Global) -> Result<Vec<u8>, AllocError>
-    ensures { IfOk result (λ v. 1048576 ≡ length v.items) }
+fn room() -> [u8; 1048576]
+    ensures { 1048576 ≡ length result }
 {
-    vec![in alloc; 0; 1048576]
+    [0; 1048576]
 }
 
 // What is beyond the room isn't played.
@@ -206,7 +205,7 @@ fn say_rest<R: io::Read, W: io::Write>(reader: &mut R, writer: &mut W) -> io::Re
 }
 
 fn main(rt: HostRuntime) -> io::Result<()> {
-    let mut input = room(rt.alloc())?;
+    let mut input = room();
     let mut reader = rt.reader();
     let n = text::read_full(&mut reader, &mut input)?;
     let mut writer = BufWriter::new(rt.alloc(), io::writer(&rt))?;

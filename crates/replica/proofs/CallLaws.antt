@@ -11,7 +11,7 @@ use mathlib.Core.List.{List}
 use Prim.Native.Nat.{ℕ}
 use lib.ListN.{length, replicate}
 use borrow.Author.Tests.{eq-eqb, ne_eqb}
-use Rattle.numbers.specs.Words.{if◌then◌else◌}
+use Rattle.numbers.specs.Words.{when◌then◌else◌}
 use Rattle.numbers.specs.Numbers.{over}
 use Rattle.entries.specs.Entries.{entries}
 use Rattle.config.specs.Setup.{setup_ok}
@@ -43,14 +43,14 @@ use Rattle.replica.specs.Lent.{Lent, lent, Called, called, lengths_of}
 
 module _ (s : Replica) (a : Returned) (log results table : List ℕ) where
   pub follow-refused : (a.code ≡ 0 → ⊥) → tabled a table ≡ followed_by s a log results table
-  unfolding followed_by if◌then◌else◌
+  unfolding followed_by when◌then◌else◌
   follow-refused h = rw (ne_eqb a.code 0 h)
 
   pub follow-done : a.code ≡ 0 → (k : Change) → k ≡ change_by s a → {table' : List ℕ}
       → RowsLeft s.setup.room table table'
       (followed byte_row k (rows_of s.setup.room table) (entries k.to.0 log) (outcomes k.done.0 results))
       → tabled a table' ≡ followed_by s a log results table
-  unfolding followed_by table_after if◌then◌else◌
+  unfolding followed_by table_after when◌then◌else◌
   follow-done h k e l = rw (eq-eqb a.code 0 h, l.bytes, e)
 
 -- what the core left is what the table needs
@@ -99,11 +99,11 @@ taken s m frame x l e p = p ∙ ap (λ (y : Latest). following s x.table (messag
 
 module _ (s : Replica) (x : Lent) (b : Bool) (e : b ≡ sound s (lengths_of x)) where
   pub idle-unsound : not b ≡ true → {a : Returned} → a ≡ refusal 1 s → called a x ≡ idle_call s x
-  unfolding idle_call if◌then◌else◌
+  unfolding idle_call when◌then◌else◌
   idle-unsound h p = rw (← e, h, p)
 
   pub idle-done : not b ≡ false → {d : Called} → d ≡ following s x.table (idle_step s x.core) → d ≡ idle_call s x
-  unfolding idle_call if◌then◌else◌
+  unfolding idle_call when◌then◌else◌
   idle-done h p = rw (← e, h) p
 
 -- ---- creation
@@ -114,9 +114,9 @@ module _ (u : Setup) (x : Lent) {a : Returned} {totals acks out : List ℕ} {d :
       called a (lent x.core.runs.log x.core.runs.money.results totals acks x.core.stored table out x.core.reps)
 
   pub stays-cleared : (a.code ≡ 0 → ⊥) → left x.table ≡ cleared u x d
-  unfolding cleared if◌then◌else◌
+  unfolding cleared when◌then◌else◌
   stays-cleared h = rw (← e, ne_eqb a.code 0 h)
 
   pub is-cleared : a.code ≡ 0 → {table : List ℕ} → table ≡ over (replicate (table_length u) 0) x.table → left table ≡ cleared u x d
-  unfolding cleared if◌then◌else◌
+  unfolding cleared when◌then◌else◌
   is-cleared h t = rw (← e, eq-eqb a.code 0 h, t)

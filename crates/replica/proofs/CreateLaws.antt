@@ -7,7 +7,7 @@ use Prim.Native.Nat.{ℕ, zero, suc, ◌+◌, ◌*◌, ◌<◌}
 use native.Mathlib.Omega.{arith}
 use lib.ListN.{length, get_or, replicate, length-replicate, get_or-replicate, replicate-append-replicate}
 use borrow.Author.Tests.{eq-eqb, ne_eqb}
-use Rattle.numbers.specs.Words.{if◌then◌else◌}
+use Rattle.numbers.specs.Words.{when◌then◌else◌}
 use Rattle.numbers.specs.Numbers.{num, over}
 use Rattle.numbers.specs.Cells.{cells}
 use Rattle.numbers.specs.declared.View.{View}
@@ -59,12 +59,12 @@ emptied u x out =
 module _ (u : Setup) (x : Lent) where
   pub cleared-refused : (k : ℕ) (z : Replica) → (k ≡ 0 → ⊥)
       → cleared u x (started (refusal k z) x.core.runs.money.totals x.core.acks x.core.out) ≡ called (refusal k z) x
-  unfolding cleared if◌then◌else◌
+  unfolding cleared when◌then◌else◌
   cleared-refused k z h = rw (ne_eqb k 0 h)
 
   pub cleared-done : (a : Returned) (out : List ℕ) → a.code ≡ 0
       → cleared u x (zeroed u a x.core.runs.money.totals x.core.acks out) ≡ called a (emptied u x out)
-  unfolding cleared emptied if◌then◌else◌
+  unfolding cleared emptied when◌then◌else◌
   cleared-done a out h = rw (eq-eqb a.code 0 h)
 
 zero-totals : (k : ℕ) (rest : List ℕ) → cells 8 total_of k (replicate (8 * k) 0 ++ rest) ≡ replicate k 0

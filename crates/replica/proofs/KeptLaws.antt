@@ -12,7 +12,7 @@ use Prim.Native.Nat.{ℕ, ◌≤◌}
 use native.Mathlib.Omega.{arith}
 use lib.ListN.{length}
 use borrow.Author.Tests.{leb-true}
-use Rattle.numbers.specs.Words.{if◌then◌else◌}
+use Rattle.numbers.specs.Words.{when◌then◌else◌}
 use Rattle.numbers.proofs.CellLaws.{cells-length}
 use Rattle.numbers.proofs.WordLaws.{and_left, and_right}
 use Rattle.entries.specs.Entries.{entry_of, entries}
@@ -123,11 +123,11 @@ module _ (s : Replica) (x : Lent) (applied : List Entry) (o : Owned x) (k : Kept
       }
 
   tells : (e : Entry) → RowTells rows (Request e) (latest_for (Request e) s.setup.room x.table)
-  unfolding latest_for told_of carried_by if◌then◌else◌
+  unfolding latest_for told_of carried_by when◌then◌else◌
   tells e = found-tells (rows_of s.setup.room x.table) e.client k.ordered
 
   pub row-tells : (y : Message) → RowTells rows y (latest_for y s.setup.room x.table)
-  unfolding latest_for told_of carried_by if◌then◌else◌
+  unfolding latest_for told_of carried_by when◌then◌else◌
   row-tells (Request e) = tells e
   row-tells (Prepare v a c e) = tells e
   row-tells (PrepareOk v a r) = tt

@@ -9,7 +9,7 @@ use native.Mathlib.Omega.{arith}
 use lib.Dec.{ltb}
 use lib.ListN.{length}
 use borrow.Author.Tests.{not-false}
-use Rattle.numbers.specs.Words.{if◌then◌else◌}
+use Rattle.numbers.specs.Words.{when◌then◌else◌}
 use Rattle.numbers.specs.Numbers.{over}
 use Rattle.numbers.specs.Cells.{packed}
 use Rattle.numbers.specs.declared.View.{View}
@@ -45,10 +45,10 @@ use Rattle.replica.proofs.CreateLaws.{emptied, cleared-refused, cleared-done, ne
 module _ (u : Setup) (x : Lent) where
   -- where the buffers have their lengths, the setup decides
   by-setup : lengths_ok u (lengths_of x) ≡ true → creatable u (lengths_of x) ≡ setup_ok u
-  unfolding creatable if◌then◌else◌
-  by-setup l = ap (λ (b : Bool). if setup_ok u then b else false) l ∙ same (setup_ok u)
+  unfolding creatable when◌then◌else◌
+  by-setup l = ap (λ (b : Bool). when setup_ok u then b else false) l ∙ same (setup_ok u)
     where
-      same : (b : Bool) → (if b then true else false) ≡ b
+      same : (b : Bool) → (when b then true else false) ≡ b
       same true = refl
       same false = refl
 
@@ -129,12 +129,12 @@ module _ (u : Setup) (v : View) (nonce : ℕ) (x : Lent) where
 
   -- the model's answer, by the same tests
   answer-is : recover u v.0 nonce (length x.core.out)
-      ≡ (if not (setup_ok u) then refused 1 else
-      if ltb (length x.core.out) (length (messages_out (send_recovery u m₀))) then refused 9 else
+      ≡ (when not (setup_ok u) then refused 1 else
+      when ltb (length x.core.out) (length (messages_out (send_recovery u m₀))) then refused 9 else
       sent)
   unfolding recover
   answer-is =
-      ap (λ (a : Answer). if setup_ok u then a else refused 1) (sends-only (length x.core.out) 0 m₀ (send_recovery u m₀))
+      ap (λ (a : Answer). when setup_ok u then a else refused 1) (sends-only (length x.core.out) 0 m₀ (send_recovery u m₀))
       ∙ by-not (setup_ok u) _ (refused 1)
 
   recovering-done : setup_ok u ≡ true → Long u (lengths_of x)

@@ -10,7 +10,7 @@ use Prim.Native.Nat.{ℕ, ◌*◌}
 use native.Mathlib.Omega.{arith}
 use lib.Dec.{eqb}
 use lib.ListN.{length, drop, drop_of_length-le}
-use Rattle.numbers.specs.Words.{if◌then◌else◌}
+use Rattle.numbers.specs.Words.{when◌then◌else◌}
 use Rattle.numbers.specs.Numbers.{Bytes}
 use Rattle.numbers.specs.Cells.{packed}
 use Rattle.numbers.proofs.WordLaws.{split, if-false}
@@ -48,7 +48,7 @@ module _ (s : Replica) (i : ℕ) where
 
   same_rows : (xs : List MarkedRow) (log results : List ℕ)
       → followed byte_row still xs (entries s.op.0 log) (outcomes s.commit.0 results) ≡ xs
-  unfolding followed appended if◌then◌else◌
+  unfolding followed appended when◌then◌else◌
   same_rows xs log results =
       let p : drop s.op.0 (entries s.op.0 log) ≡ [] =
       drop_of_length-le (entries s.op.0 log) {i = s.op.0} (omega (arith, cells-length 32 entry_of s.op.0 log)) in
@@ -65,7 +65,7 @@ module _ (s : Replica) (i : ℕ) where
 
     pub refused-follows : (m : Memory)
         → following s table (recorded (refusal i s) m) ≡ called (refusal i s) (record { core = m; table = table })
-    unfolding following followed_by if◌then◌else◌
+    unfolding following followed_by when◌then◌else◌
     refused-follows m =
         split (λ (t : Tabled). with_table m t ≡ called (refusal i s) (record { core = m; table = table })) (not (eqb i 0)) _ _ (λ _. refl)
         (λ _.

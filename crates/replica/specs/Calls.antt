@@ -2,7 +2,7 @@
 -- everything that is lent. Refusals in document 01's order: 1; 2 to 6 on the frame alone; the Rust's early returns and the later causes in the
 -- handlers; 9, 10. Assumes nothing.
 use Rattle.std.specs.Prelude.{◌≡◌, true, not, List, ◌++◌, ℕ, ◌*◌, ◌≤◌, eqb, drop, replicate}
-use Rattle.numbers.specs.Words.{if◌then◌else◌}
+use Rattle.numbers.specs.Words.{when◌then◌else◌}
 use Rattle.numbers.specs.Numbers.{over}
 use Rattle.numbers.specs.Cells.{packed}
 use Rattle.numbers.specs.declared.View.{View}
@@ -57,7 +57,7 @@ tabled a table = record { answer = a; table = table }
 -- the table follows what the core did, s being the state before it; a refused call leaves it
 unfoldable pub followed_by : Replica → Returned → (log results table : List ℕ) → Tabled
 followed_by s a log results table =
-    if not (eqb a.code 0) then tabled a table else
+    when not (eqb a.code 0) then tabled a table else
     tabled a (table_after s.setup.room (change_by s a) table log results)
 
 -- what its code needs: the state and the runs that the core left are sound
@@ -90,7 +90,7 @@ message_call s frame x = checked_call (checked_of s (lengths_of x) frame) s fram
 -- on_idle
 unfoldable pub idle_call : Replica → Lent → Called
 idle_call s x =
-    if not (sound s (lengths_of x)) then called (refusal 1 s) x else
+    when not (sound s (lengths_of x)) then called (refusal 1 s) x else
     following s x.table (idle_step s x.core)
 
 -- after a creation the table is zeroed; a refused one leaves it
@@ -99,7 +99,7 @@ cleared u x d =
     called d.answer
     (record {
       core = started_memory x.core d;
-      table = if eqb d.answer.code 0 then over (replicate (table_length u) 0) x.table else x.table;
+      table = when eqb d.answer.code 0 then over (replicate (table_length u) 0) x.table else x.table;
     })
 
 -- new

@@ -10,7 +10,7 @@ use Rattle.std.specs.Prelude.{◌≡◌, ℕ, ◌*◌, ◌<◌, ◌≤◌, Bool,
 use mathlib.Core.Path.{refl, sym, ap, ◌∙◌, subst}
 use native.Mathlib.Omega.{arith}
 use borrow.Author.Tests.{ltb-true, ne_eqb, not-false}
-use Rattle.numbers.specs.Words.{if◌then◌else◌}
+use Rattle.numbers.specs.Words.{when◌then◌else◌}
 use Rattle.numbers.proofs.WordLaws.{split, split₂}
 use Rattle.numbers.specs.declared.View.{View}
 use Rattle.config.specs.Setup.{setup_ok}
@@ -73,7 +73,7 @@ module _ (log results totals acks stored table : ℕ) {t : ℕ} (p : t ≡ row_b
       → checked_of s (record { log = log; results = results; totals = totals; acks = acks; stored = stored; table = t }) frame
       ≡ checked_of s (lengths_by log results totals acks stored table) frame
   unfolding checked_of
-  checked-by s frame = ap (λ (b : Bool). if not b then Refused 1 0 else check_frame s.setup frame) (sound-by s)
+  checked-by s frame = ap (λ (b : Bool). when not b then Refused 1 0 else check_frame s.setup frame) (sound-by s)
 
 module _ (m : Memory) (table : ℕ) {t : ℕ} (p : t ≡ row_bytes table) where
   pub sound-counted : (s : Replica) → sound s (lengths_with m t) ≡ sound s (lengths_in m table)
@@ -130,7 +130,7 @@ module _ (s : Replica) where
   ReadyBy d = Ready (length d.memory.runs.log) (length d.memory.runs.money.results) (change_after s d.answer)
 
   refused-ready : (m : Memory) → ReadyBy (recorded (refusal 1 s) m)
-  unfolding change_after if◌then◌else◌
+  unfolding change_after when◌then◌else◌
   refused-ready m = nothing-ready (length m.runs.log) (length m.runs.money.results)
 
   stays-ready : (d : Recorded) → Gathering d.answer.state d.memory → ReadyBy d
@@ -181,9 +181,9 @@ module _ (c : Checked) (s : Replica) (l : Latest) (frame : List ℕ) (m : Memory
 
 module _ (s : Replica) (table : ℕ) (m : Memory) (b : Bool) (e : b ≡ sound s (lengths_in m table)) where
   pub idle-unsound : b ≡ false → {a : Returned} → a ≡ refusal 1 s → recorded a m ≡ idle_core s table m
-  unfolding idle_core if◌then◌else◌
+  unfolding idle_core when◌then◌else◌
   idle-unsound h p = rw (← e, h, p)
 
   pub idle-done : b ≡ true → {d : Recorded} → d ≡ idle_step s m → d ≡ idle_core s table m
-  unfolding idle_core if◌then◌else◌
+  unfolding idle_core when◌then◌else◌
   idle-done h p = rw (← e, h) p

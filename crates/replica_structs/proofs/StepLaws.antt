@@ -10,7 +10,7 @@ use mathlib.Core.List.{append-nil}
 use native.Mathlib.Omega.{arith}
 use lib.ListN.{drop_of_length-le}
 use borrow.Author.Tests.{eq-eqb}
-use Rattle.numbers.specs.Words.{if◌then◌else◌}
+use Rattle.numbers.specs.Words.{when◌then◌else◌}
 use Rattle.numbers.specs.Cells.{packed}
 use Rattle.numbers.proofs.WordLaws.{split, if-true}
 use Rattle.numbers.proofs.CellLaws.{cells-length}
@@ -44,7 +44,7 @@ use Rattle.replica.specs.Lent.{Lent, Called, called}
 use Rattle.replica.specs.Meaning.{meaning_of, Owned}
 use Rattle.replica.proofs.RowLaws.{results_fit}
 use Rattle.replica.proofs.TableLaws.{refused-follows, done-follows}
-use Rattle.replica.proofs.KeptLaws.{given, rows, whole, reached-settled}
+use Rattle.replica.proofs.KeptLaws.{given, whole, reached-settled}
 use Rattle.replica_structs.specs.Core.{no_change, change_after}
 use Rattle.replica_structs.specs.Calls.{LentRows, CalledRows, called_rows, rows_after, following_rows}
 use Rattle.replica_structs.specs.Promise.{byte_of, table_bytes, in_bytes, called_bytes, RowsOk, KeptRows}
@@ -66,7 +66,7 @@ still k xs m i t d =
 
 pub refused-rows : (s : Replica) (table : List Row) (i : ℕ) (m : Memory)
     → following_rows s table (recorded (refusal i s) m) ≡ called_rows (refusal i s) (record { core = m; table = table })
-unfolding following_rows change_after if◌then◌else◌
+unfolding following_rows change_after when◌then◌else◌
 refused-rows s table i m =
     split
     (λ (k : Change). called_rows (refusal i s) (record { core = m; table = rows_after k table m })

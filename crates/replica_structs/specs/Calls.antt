@@ -1,6 +1,6 @@
 -- The outside calls with the client table as a slice of row structs. Assumes nothing.
 use Rattle.std.specs.Prelude.{ℕ, List, length, replicate, ◌==◌}
-use Rattle.numbers.specs.Words.{if◌then◌else◌}
+use Rattle.numbers.specs.Words.{when◌then◌else◌}
 use Rattle.numbers.specs.declared.View.{View}
 use Rattle.entries.specs.Entries.{entries}
 use Rattle.config.specs.declared.Setup.{Setup}
@@ -65,7 +65,7 @@ idle_rows s x = following_rows s x.table (idle_core s (length x.table) x.core)
 unfoldable pub cleared_rows : (table : List Row) → Recorded → CalledRows
 cleared_rows table d =
     called_rows d.answer
-    (record { core = d.memory; table = if d.answer.code == 0 then replicate (length table) unused_row else table })
+    (record { core = d.memory; table = when d.answer.code == 0 then replicate (length table) unused_row else table })
 
 -- new, recover
 unfoldable pub create_rows : Setup → LentRows → CalledRows

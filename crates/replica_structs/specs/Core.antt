@@ -1,7 +1,7 @@
 -- The outside calls but for the client table, of which they are told its length and a client's latest request: so the table may have any form. In refusal 1 a
 -- row counts as its 25 bytes. Assumes nothing.
 use Rattle.std.specs.Prelude.{◌≡◌, ℕ, ◌*◌, false, not, List, ◌==◌, nat_lt}
-use Rattle.numbers.specs.Words.{if◌then◌else◌}
+use Rattle.numbers.specs.Words.{when◌then◌else◌}
 use Rattle.numbers.specs.declared.View.{View}
 use Rattle.config.specs.declared.Setup.{Setup}
 use Rattle.frames.specs.Refusals.{check_frame}
@@ -46,7 +46,7 @@ Passes c s frame m = (y : Message) → c ≡ Passed y → Gathering s m × (chec
 -- on_idle
 unfoldable pub idle_core : Replica → (table : ℕ) → Memory → Recorded
 idle_core s table m =
-    if not (sound s (lengths_in m table)) then recorded (refusal 1 s) m else
+    when not (sound s (lengths_in m table)) then recorded (refusal 1 s) m else
     idle_step s m
 
 -- new, recover
@@ -66,8 +66,8 @@ no_change =
     record { installed = false; op = record { 0 = 0 }; commit = record { 0 = 0 }; to = record { 0 = 0 }; done = record { 0 = 0 } }
 
 unfoldable pub change_after : Replica → Returned → Change
-change_after s a = if a.code == 0 then change_by s a else no_change
+change_after s a = when a.code == 0 then change_by s a else no_change
 
 -- the bytes of so many rows, as the code counts them: of more rows than any table has, none
 unfoldable pub row_bytes : ℕ → ℕ
-row_bytes n = if nat_lt 4096 n then 0 else 25 * n
+row_bytes n = when nat_lt 4096 n then 0 else 25 * n

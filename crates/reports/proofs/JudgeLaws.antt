@@ -16,7 +16,7 @@ use lib.Dec.{eqb}
 use lib.ListN.{length, get_or, take, drop, length-take, length-drop}
 use lib.Seq.{get_or-take, length-take-le}
 use borrow.Author.Tests.{lt-ltb, le-ltb, ltb-false, eq-eqb, ne_eqb, eqb-true, not-false}
-use Rattle.numbers.specs.Words.{if◌then◌else◌}
+use Rattle.numbers.specs.Words.{when◌then◌else◌}
 use Rattle.numbers.specs.declared.View.{View}
 use Rattle.numbers.specs.declared.Op.{Op}
 use Rattle.numbers.proofs.WordLaws.{if-true, if-false, split}
@@ -109,20 +109,20 @@ module _ (b : Best) (g : Op) (id room c : ℕ) (ours stored fresh : List ℕ) wh
   unfolding weighed
   passes h = sym (if-true _ _ _ (lt-ltb b.report.op.0 g.0 h))
 
-  long-enough : (y : Bool) → g.0 ≤ b.report.op.0 → keep ≡ y → weighed b g id room c ours stored fresh ≡ (if y then Begin b g else Refuse)
+  long-enough : (y : Bool) → g.0 ≤ b.report.op.0 → keep ≡ y → weighed b g id room c ours stored fresh ≡ (when y then Begin b g else Refuse)
   unfolding weighed
   long-enough y h e =
-      if-false _ _ _ (le-ltb b.report.op.0 g.0 h) ∙ ap (λ (x : Bool). if x then Begin b g else Refuse) e
+      if-false _ _ _ (le-ltb b.report.op.0 g.0 h) ∙ ap (λ (x : Bool). when x then Begin b g else Refuse) e
 
   pub alters : g.0 ≤ b.report.op.0 → keep ≡ false → Refuse ≡ weighed b g id room c ours stored fresh
-  unfolding if◌then◌else◌
+  unfolding when◌then◌else◌
   alters h e = sym (long-enough false h e)
 
   pub shortens : g.0 ≤ b.report.op.0 → b.report.op.0 < c → Refuse ≡ weighed b g id room c ours stored fresh
   shortens h k = alters h (keeps-short c ours b.report.op.0 (chosen_log b id room stored fresh) k)
 
   pub begins : g.0 ≤ b.report.op.0 → keep ≡ true → Begin b g ≡ weighed b g id room c ours stored fresh
-  unfolding if◌then◌else◌
+  unfolding when◌then◌else◌
   begins h e = sym (long-enough true h e)
 
   -- what a view begins with: the report and the commit number that were weighed, which passed

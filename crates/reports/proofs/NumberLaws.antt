@@ -6,7 +6,7 @@ use mathlib.Core.List.{List, []}
 use Prim.Native.Nat.{ℕ}
 use lib.Dec.{ltb, eqb}
 use lib.ListN.{take}
-use Rattle.numbers.specs.Words.{if◌then◌else◌, ◌and◌, ◌or◌}
+use Rattle.numbers.specs.Words.{when◌then◌else◌, ◌and◌, ◌or◌}
 use Rattle.numbers.specs.declared.Op.{Op}
 use Rattle.config.specs.Replicas.{quorum_of}
 use Rattle.frames.specs.Numbered.{Numbered, numbered}
@@ -21,22 +21,22 @@ use Rattle.reports.specs.declared.Judged.TheVariants.{Wait, Refuse, Begin}
 
 -- refusal 7 has two causes
 refused-by : (b : Best) (g : Op) (past keeps : Bool)
-    → judged_number (if past then Refuse else if keeps then Begin b g else Refuse) ≡ (if past or not keeps then numbered 7 [] else numbered 0 (best_values b g.0))
-unfolding if◌then◌else◌ ◌or◌
+    → judged_number (when past then Refuse else when keeps then Begin b g else Refuse) ≡ (when past or not keeps then numbered 7 [] else numbered 0 (best_values b g.0))
+unfolding when◌then◌else◌ ◌or◌
 refused-by b g true k = refl
 refused-by b g false true = refl
 refused-by b g false false = refl
 
 -- what is waited for has one, or several
-waited : (few : Bool) (j : Judged) (x : Numbered) → judged_number j ≡ x → judged_number (if few then Wait else j) ≡ (if few then numbered 0 [] else x)
-unfolding if◌then◌else◌
+waited : (few : Bool) (j : Judged) (x : Numbered) → judged_number j ≡ x → judged_number (when few then Wait else j) ≡ (when few then numbered 0 [] else x)
+unfolding when◌then◌else◌
 waited true j x e = refl
 waited false j x e = e
 
 waited-more : (few old there full same : Bool) (j : Judged) (x : Numbered) → judged_number j ≡ x
-    → judged_number (if few then Wait else if old then Wait else if not there then Wait else if not full then Wait else if same then j else Wait)
-    ≡ (if few or old or not (there and full and same) then numbered 0 [] else x)
-unfolding if◌then◌else◌ ◌or◌ ◌and◌
+    → judged_number (when few then Wait else when old then Wait else when not there then Wait else when not full then Wait else when same then j else Wait)
+    ≡ (when few or old or not (there and full and same) then numbered 0 [] else x)
+unfolding when◌then◌else◌ ◌or◌ ◌and◌
 waited-more true old there full same j x e = refl
 waited-more false true there full same j x e = refl
 waited-more false false false full same j x e = refl

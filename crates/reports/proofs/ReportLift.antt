@@ -16,7 +16,7 @@ use lib.Dec.{ltb, eqb}
 use lib.ListN.{length, get_or, set, take, length-take, length-drop}
 use lib.Seq.{get_or-take}
 use borrow.Author.Tests.{ltb-true, ltb-false, lt-ltb, le-ltb, eq-eqb, ne_eqb, not-true, not-false}
-use Rattle.numbers.specs.Words.{if◌then◌else◌}
+use Rattle.numbers.specs.Words.{when◌then◌else◌}
 use Rattle.numbers.proofs.WordLaws.{if-true, if-false, split, split₂, and-true, and-false}
 use Rattle.numbers.proofs.CellLaws.{cells-length, cells-taken}
 use Rattle.entries.specs.Entries.{entry_of, encode_entry, entries, EntryFits}
@@ -94,11 +94,11 @@ placed-other f f' k l x h = other_from f f' 0 l k x (λ j d q. h j d (λ e. q (o
 -- ---- a reading g of the rows that are there
 
 abbrev pub if_there : {A : Type 0} → (ℕ → Report → A) → ℕ → Report → Option A
-if_there g i d = if d.there then some (g i d) else none
+if_there g i d = when d.there then some (g i d) else none
 
 filled-turn : {A : Type 0} (b : Bool) (x : A) (xs : List (Option A)) (k : ℕ) → filled xs ≡ k
-    → filled ((if b then some x else none) ∷ xs) ≡ (if b then k + 1 else k)
-unfolding filled if◌then◌else◌
+    → filled ((when b then some x else none) ∷ xs) ≡ (when b then k + 1 else k)
+unfolding filled when◌then◌else◌
 filled-turn true x xs k e = rw (e, add-one)
 filled-turn false x xs k e = e
 
@@ -108,7 +108,7 @@ filled_is g i [] = refl
 filled_is g i (d ∷ ds) = filled-turn d.there (g i d) (placed (if_there g) (suc i) ds) (filled_in ds) (filled_is g (suc i) ds)
 
 -- the greater of two, by a test
-greater-max : (c k : ℕ) → max c k ≡ (if ltb k c then c else k)
+greater-max : (c k : ℕ) → max c k ≡ (when ltb k c then c else k)
 greater-max c k =
     split (λ (z : ℕ). max c k ≡ z) (ltb k c) c k (λ e. omega (arith, ltb-true k c e)) (λ e. omega (arith, ltb-false k c e))
 
@@ -118,8 +118,8 @@ module _ (g : ℕ → Report → M.Reported) (view : (i : ℕ) (d : Report) → 
     (long : (i : ℕ) (d : Report) → length (g i d).held.log ≡ d.op.0)
     (commit : (i : ℕ) (d : Report) → (g i d).held.commit ≡ d.commit.0) where
   greatest-turn : (b : Bool) (x : M.Reported) (xs : List (Option M.Reported)) (c k : ℕ) → x.held.commit ≡ c → greatest_commit xs ≡ k
-      → greatest_commit ((if b then some x else none) ∷ xs) ≡ (if not b then k else if ltb k c then c else k)
-  unfolding greatest_commit if◌then◌else◌
+      → greatest_commit ((when b then some x else none) ∷ xs) ≡ (when not b then k else when ltb k c then c else k)
+  unfolding greatest_commit when◌then◌else◌
   greatest-turn true x xs c k p e = rw (p, e) (greater-max c k)
   greatest-turn false x xs c k p e = e
 
@@ -209,7 +209,7 @@ module _ (g : ℕ → Report → M.Reported) (view : (i : ℕ) (d : Report) → 
         leaves here there (no_longer i b.id d b.report q (ltb-false _ _ o))
 
   pub chosen_is : (i : ℕ) (l : List Report) → chosen (placed (if_there g) i l) ≡ best_of (chosen_from i l)
-  unfolding chosen placed chosen_from if◌then◌else◌
+  unfolding chosen placed chosen_from when◌then◌else◌
   chosen_is i [] = refl
   chosen_is i (d ∷ ds) = chosen-turn d i (chosen_from (suc i) ds) (placed (if_there g) (suc i) ds) (chosen_is (suc i) ds)
 
@@ -222,8 +222,8 @@ module _ (g : ℕ → Report → M.Reported) (view : (i : ℕ) (d : Report) → 
 
 module _ (g : ℕ → Report → M.Response) (view : (i : ℕ) (d : Report) → (g i d).view ≡ d.view.0) where
   latest-turn : (b : Bool) (x : M.Response) (xs : List (Option M.Response)) (v k : ℕ) → x.view ≡ v → latest_view xs ≡ k
-      → latest_view ((if b then some x else none) ∷ xs) ≡ (if not b then k else if ltb k v then v else k)
-  unfolding latest_view if◌then◌else◌
+      → latest_view ((when b then some x else none) ∷ xs) ≡ (when not b then k else when ltb k v then v else k)
+  unfolding latest_view when◌then◌else◌
   latest-turn true x xs v k p e = rw (p, e) (greater-max v k)
   latest-turn false x xs v k p e = e
 
@@ -243,7 +243,7 @@ module _ (run : ℕ → List ℕ) where
   report_in i d = record { last_normal = d.view.0; held = held_in i d }
 
   abbrev pub response_in : ℕ → Report → M.Response
-  response_in i d = record { view = d.view.0; held = if d.full then some (held_in i d) else none }
+  response_in i d = record { view = d.view.0; held = when d.full then some (held_in i d) else none }
 
   long-in : (i : ℕ) (d : Report) → length (entries d.op.0 (run i)) ≡ d.op.0
   long-in i d = cells-length 32 entry_of d.op.0 (run i)

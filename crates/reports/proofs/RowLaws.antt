@@ -14,7 +14,7 @@ use native.Mathlib.Omega.{arith}
 use lib.ListN.{length, get_or, take, drop, length-take, drop_of_length-le}
 use lib.Seq.{drop-cons, get_or-take}
 use borrow.Author.Tests.{le-leb, lt-leb, not-true, not-false}
-use Rattle.numbers.specs.Words.{if◌then◌else◌}
+use Rattle.numbers.specs.Words.{when◌then◌else◌}
 use Rattle.numbers.proofs.WordLaws.{if-true, if-false, split}
 use Rattle.numbers.proofs.NumberLaws.{le-or-lt}
 use Rattle.state.specs.Statuses.{no_report}
@@ -70,7 +70,7 @@ sub-some n i h = omega arith
 
 -- one turn of the look over all seven rows, from the first up
 module _ (room : ℕ) (l : List Report) (n i : ℕ) (lt : i < 7) (seven : length l ≡ 7) (b : Bool) (e : b ≡ row_ok room n i l) where
-  row-turn : reports_ok room (n - i) (drop i l) ≡ (if b then reports_ok room (n - (i + 1)) (drop (i + 1) l) else false)
+  row-turn : reports_ok room (n - i) (drop i l) ≡ (when b then reports_ok room (n - (i + 1)) (drop (i + 1) l) else false)
   unfolding row_ok reports_ok
   row-turn =
       ⊎_elim

@@ -15,7 +15,7 @@ use lib.Dec.{eqb}
 use lib.ListN.{length, get_or, set, take, drop, length-take, length-drop}
 use lib.Seq.{get_or-take, get_or-set_same, get_or-set_other}
 use borrow.Author.Tests.{eq-eqb, ne_eqb}
-use Rattle.numbers.specs.Words.{if◌then◌else◌}
+use Rattle.numbers.specs.Words.{when◌then◌else◌}
 use Rattle.numbers.proofs.NumberLaws.{eq-or-not}
 use Rattle.numbers.proofs.WordLaws.{if-true, if-false, split₂}
 use Rattle.entries.specs.Entries.{entries_ok}
@@ -40,7 +40,7 @@ stored_run u stored i = drop (stored_place u.room i) stored
 module _ (u : Setup) (stored : List ℕ) (r : ℕ) (fresh : List ℕ) where
   -- all but the new one's
   abbrev pub run_of : ℕ → List ℕ
-  run_of i = if eqb i r then fresh else stored_run u stored i
+  run_of i = when eqb i r then fresh else stored_run u stored i
 
   pub own-run : run_of r ≡ fresh
   own-run = if-true _ fresh (stored_run u stored r) (eq-eqb r r refl)

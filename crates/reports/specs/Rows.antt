@@ -1,7 +1,7 @@
 -- Reports of replicas, a row for each id: what is counted, chosen and greatest among the first n. A row that isn't there is passed over;
 -- rows from n on are never read. Assumes nothing.
 use Rattle.std.specs.Prelude.{not, List, [], ◌∷◌, ℕ, suc, ◌+◌, ltb, set}
-use Rattle.numbers.specs.Words.{if◌then◌else◌}
+use Rattle.numbers.specs.Words.{when◌then◌else◌}
 use Rattle.state.specs.Statuses.{no_report}
 use Rattle.state.specs.declared.Report.{Report}
 use Rattle.state.specs.declared.Reports.{Reports}
@@ -17,31 +17,31 @@ no_best = record { id = 0; report = no_report }
 
 -- one report more
 unfoldable pub count_one : Report → ℕ → ℕ
-count_one d k = if d.there then k + 1 else k
+count_one d k = when d.there then k + 1 else k
 
 -- one commit number more
 unfoldable pub greater_commit : Report → ℕ → ℕ
 greater_commit d g =
-    if not d.there then g else
-    if ltb g d.commit.0 then d.commit.0 else
+    when not d.there then g else
+    when ltb g d.commit.0 then d.commit.0 else
     g
 
 -- one view more
 unfoldable pub later_view : Report → ℕ → ℕ
 later_view d v =
-    if not d.there then v else
-    if ltb v d.view.0 then d.view.0 else
+    when not d.there then v else
+    when ltb v d.view.0 then d.view.0 else
     v
 
 -- Document 01, the chosen log: "greatest (last normal view, length); on a tie the highest replica id". The report of id i, against the
 -- best of those with higher ids, as the Rust's `max_by_key` keeps the last of equals.
 unfoldable pub better_of : Report → (id : ℕ) → Best → Best
 better_of d i b =
-    if not d.there then b else
-    if not b.report.there then record { id = i; report = d } else
-    if ltb b.report.view.0 d.view.0 then record { id = i; report = d } else
-    if ltb d.view.0 b.report.view.0 then b else
-    if ltb b.report.op.0 d.op.0 then record { id = i; report = d } else
+    when not d.there then b else
+    when not b.report.there then record { id = i; report = d } else
+    when ltb b.report.view.0 d.view.0 then record { id = i; report = d } else
+    when ltb d.view.0 b.report.view.0 then b else
+    when ltb b.report.op.0 d.op.0 then record { id = i; report = d } else
     b
 
 -- how many are there: the `len` of the Rust's map

@@ -9,7 +9,7 @@ use mathlib.Core.Option.{Option, none, some}
 use lib.Dec.{ltb, leb, eqb}
 use lib.ListN.{length, drop, get_or, set, replicate, length-drop}
 use borrow.Author.Tests.{ltb-true, ltb-false, leb-false, eqb-true, not-false}
-use Rattle.numbers.specs.Words.{if◌then◌else◌, ◌or◌}
+use Rattle.numbers.specs.Words.{when◌then◌else◌, ◌or◌}
 use Rattle.numbers.proofs.WordLaws.{split, or_left, or_right}
 use Rattle.entries.specs.Rising.{rising}
 use Rattle.entries.specs.declared.Entry.{Entry}
@@ -82,7 +82,7 @@ pub data Good (u : Setup) (m : State) : Answer → Type 0 where
   moved : {m' : State} (out : List Sent) (rs : List Reply) → Next u m m' → Good u m (done m' out rs)
 
 module _ (u : Setup) where
-  pub cases : {m : State} (b : Bool) (x y : Answer) → (b ≡ true → Good u m x) → (b ≡ false → Good u m y) → Good u m (if b then x else y)
+  pub cases : {m : State} (b : Bool) (x y : Answer) → (b ≡ true → Good u m x) → (b ≡ false → Good u m y) → Good u m (when b then x else y)
   cases {m} = split (Good u m)
 
   -- the same view or a later one, and the same book and store

@@ -7,7 +7,7 @@ use mathlib.Core.List.{List}
 use mathlib.Core.Option.{none, some}
 use lib.ListN.{length, drop}
 use borrow.Author.Tests.{leb-true}
-use Rattle.numbers.specs.Words.{if◌then◌else◌}
+use Rattle.numbers.specs.Words.{when◌then◌else◌}
 use Rattle.numbers.specs.Numbers.{num, op_at}
 use Rattle.numbers.specs.declared.View.{View}
 use Rattle.numbers.specs.declared.Op.{Op}
@@ -36,7 +36,7 @@ use Rattle.safety.proofs.Handlers.Good.{refusal}
 
 -- a NewState that is well formed starts at or before its end
 starts_first : (s : List ℕ) (to : ℕ) (v : View) (a z c : Op) → Said s to (NewState v a z c) → a.0 ≤ z.0
-unfolding carried_of fields_ok message_of if◌then◌else◌
+unfolding carried_of fields_ok message_of when◌then◌else◌
 starts_first s to v a z c t =
     let k : num 1 5 s ≡ 6 = sym t.kind in
     let f : fields_ok 6 s ≡ true = rw k at t.form.fields in

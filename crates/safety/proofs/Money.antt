@@ -8,7 +8,7 @@ use lib.Dec.{ltb, eqb}
 use lib.ListN.{length, get_or, set, replicate}
 use lib.Seq.{get_or-set_same, get_or-set_other}
 use borrow.Author.Tests.{ltb-true, ltb-false, eqb-true, eqb-false}
-use Rattle.numbers.specs.Words.{if◌then◌else◌}
+use Rattle.numbers.specs.Words.{when◌then◌else◌}
 use Rattle.numbers.proofs.WordLaws.{split, if-true, if-false}
 use Rattle.entries.specs.Entries.{operation_of}
 use Rattle.entries.specs.declared.Entry.{Entry}
@@ -21,10 +21,10 @@ use Rattle.safety.specs.Money.{fee_taken, refund_paid, fees_of, refunds_of, all_
 
 -- the rules on one total: what it was, with the fee, is what it is, with the refund
 balanced : ℕ → ℕ → Outcome → Type 0
-balanced t cents o = o.total + (if eqb o.code 2 then cents else 0) ≡ t + (if eqb o.code 1 then cents else 0)
+balanced t cents o = o.total + (when eqb o.code 2 then cents else 0) ≡ t + (when eqb o.code 1 then cents else 0)
 
 rule-balanced : (t : ℕ) (op : Operation) (cents : ℕ) → balanced t cents (rule t op cents)
-unfolding rule balanced if◌then◌else◌
+unfolding rule balanced when◌then◌else◌
 rule-balanced t Fee cents =
     split (balanced t cents) (ltb 1000000000 (t + cents)) (gives 5 t) (gives 1 (t + cents)) (λ _. refl) (λ _. omega arith)
 rule-balanced t Refund cents =
@@ -48,7 +48,7 @@ module _ (ts : List ℕ) (e : Entry) where
   outside-after h = if-false _ _ _ h
 
   outside : ltb e.member (length ts) ≡ false → (refund_paid ts e ≡ 0) × (fee_taken ts e ≡ 0)
-  unfolding outcome refund_paid fee_taken if◌then◌else◌
+  unfolding outcome refund_paid fee_taken when◌then◌else◌
   outside h = rw h (refl, refl)
 
 -- one entry, at any member
@@ -69,13 +69,13 @@ module _ (k : ℕ) (ts : List ℕ) (e : Entry) where
       go true h = rw (inside-after ts e h) (get_or-set_other ts e.member k _ 0 (eqb-false _ _ p))
       go false h = rw (outside-after ts e h)
 
-  one : get_or (totals_after ts e) k 0 + (if eqb k e.member then refund_paid ts e else 0)
-      ≡ get_or ts k 0 + (if eqb k e.member then fee_taken ts e else 0)
+  one : get_or (totals_after ts e) k 0 + (when eqb k e.member then refund_paid ts e else 0)
+      ≡ get_or ts k 0 + (when eqb k e.member then fee_taken ts e else 0)
   one = go _ refl
     where
       go : (b : Bool) → eqb k e.member ≡ b
-          → get_or (totals_after ts e) k 0 + (if eqb k e.member then refund_paid ts e else 0)
-          ≡ get_or ts k 0 + (if eqb k e.member then fee_taken ts e else 0)
+          → get_or (totals_after ts e) k 0 + (when eqb k e.member then refund_paid ts e else 0)
+          ≡ get_or ts k 0 + (when eqb k e.member then fee_taken ts e else 0)
       go true p = rw (if-true _ (refund_paid ts e) 0 p, if-true _ (fee_taken ts e) 0 p) (own p)
       go false p = rw (if-false _ (refund_paid ts e) 0 p, if-false _ (fee_taken ts e) 0 p) (ap (λ (x : ℕ). x + 0) (other p))
 

@@ -8,7 +8,7 @@ use mathlib.Core.List.{List, [], ◌∷◌}
 use mathlib.Core.Option.{Option, none, some}
 use lib.ListN.{length, take, drop}
 use borrow.Author.Tests.{ltb-true, ltb-false, leb-false}
-use Rattle.numbers.specs.Words.{if◌then◌else◌, All}
+use Rattle.numbers.specs.Words.{when◌then◌else◌, All}
 use Rattle.numbers.specs.Numbers.{num, Bytes}
 use Rattle.numbers.specs.Cells.{cells}
 use Rattle.numbers.proofs.WordLaws.{split, or_left, and_left}
@@ -60,7 +60,7 @@ data Fine (u : Setup) (m : State) : Answer → Type 0 where
   moved : {m' : State} (out : List Sent) (rs : List Reply) → (Safe u m' → In u m → In u m') → Fine u m (done m' out rs)
 
 module _ (u : Setup) (own : u.id < u.n) where
-  cases : {m : State} (b : Bool) (x y : Answer) → (b ≡ true → Fine u m x) → (b ≡ false → Fine u m y) → Fine u m (if b then x else y)
+  cases : {m : State} (b : Bool) (x y : Answer) → (b ≡ true → Fine u m x) → (b ≡ false → Fine u m y) → Fine u m (when b then x else y)
   cases {m} = split (Fine u m)
 
   -- a change that needs no safety, and the same state

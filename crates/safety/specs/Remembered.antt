@@ -3,7 +3,7 @@
 -- Assumes nothing.
 use Rattle.std.specs.Prelude.{ℕ, ◌<◌, ◌≡◌, true, List, [], ltb, length, get_or}
 use Rattle.std.proofs.Math.Option.{Option, none, some}
-use Rattle.numbers.specs.Words.{if◌then◌else◌}
+use Rattle.numbers.specs.Words.{when◌then◌else◌}
 use Rattle.entries.specs.declared.Entry.{Entry}
 use Rattle.fees.specs.declared.Outcome.{Outcome}
 use Rattle.model.specs.State.{Book}
@@ -20,7 +20,7 @@ NoneOf log c = (d : Entry) (j : ℕ) → j < length log → (get_or log j d).cli
 
 -- what the entry at place i gave, if it is committed
 unfoldable pub gave_at : List Outcome → (commit i : ℕ) → Outcome → Option Outcome
-gave_at results commit i o = if ltb i commit then some (get_or results i o) else none
+gave_at results commit i o = when ltb i commit then some (get_or results i o) else none
 
 -- the sentence
 pub record Remembers (b : Book) : Type 0 where

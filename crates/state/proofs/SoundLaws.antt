@@ -15,7 +15,7 @@ use lib.Dec.{leb}
 use lib.Pow.{pow_pos}
 use lib.ListN.{get_or, set, replicate}
 use borrow.Author.Tests.{leb-true, ltb-true, lt-ltb}
-use Rattle.numbers.specs.Words.{if◌then◌else◌}
+use Rattle.numbers.specs.Words.{when◌then◌else◌}
 use Rattle.numbers.proofs.WordLaws.{if-true, if-false}
 use Rattle.config.specs.Replicas.{with_another}
 use Rattle.config.specs.declared.Setup.{Setup}
@@ -24,8 +24,8 @@ use Rattle.state.specs.Statuses.{no_report, no_reports}
 use Rattle.state.specs.declared.Report.{Report}
 use Rattle.state.specs.Sound.{is_none, report_ok, reports_ok, gathered_ok}
 
-pub both : (a b : Bool) → (if a then b else false) ≡ true → (a ≡ true) × (b ≡ true)
-unfolding if◌then◌else◌
+pub both : (a b : Bool) → (when a then b else false) ≡ true → (a ≡ true) × (b ≡ true)
+unfolding when◌then◌else◌
 both true b h = (refl, h)
 both false b h = absurd (false≢true h)
 
@@ -60,7 +60,7 @@ unfolding gathered_ok
 is-gathered u starts rows h g = if-true _ _ _ (lt-ltb starts (2 ^ u.n) h) ∙ g
 
 none_of : (room n k : ℕ) → reports_ok room n (replicate k no_report) ≡ true
-unfolding reports_ok report_ok is_none if◌then◌else◌
+unfolding reports_ok report_ok is_none when◌then◌else◌
 none_of room n zero = refl
 none_of room zero (suc k) = none_of room zero k
 none_of room (suc n) (suc k) = none_of room n k

@@ -16,7 +16,7 @@ use lib.ListN.{length, get_or, take, drop, drop_of_length-le, length-append}
 use lib.Seq.{drop_at, take-suc, take_all, length-take-le}
 use borrow.Author.Tests.{eq-eqb}
 use mir.Val.{bool_byte}
-use Rattle.numbers.specs.Words.{if◌then◌else◌}
+use Rattle.numbers.specs.Words.{when◌then◌else◌}
 use Rattle.numbers.specs.Numbers.{big, num, over}
 use Rattle.numbers.specs.Cells.{cells, packed, Codec}
 use Rattle.numbers.proofs.WordLaws.{if-false, and-true}
@@ -136,7 +136,7 @@ status-passes ViewChange = refl
 status-passes Recovering = refl
 
 status-back : (x : Status) → status_of (num 1 0 (big 1 (status_number x))) ≡ x
-unfolding status_of num big if◌then◌else◌
+unfolding status_of num big when◌then◌else◌
 status-back Normal = refl
 status-back StateTransfer = refl
 status-back ViewChange = refl

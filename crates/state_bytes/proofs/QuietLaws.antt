@@ -14,7 +14,7 @@ use lib.Dec.{eqb, leb}
 use lib.ListN.{length, take, drop, replicate, length-drop}
 use lib.Seq.{drop-drop, take-add, length-take-le}
 use borrow.Author.Tests.{eqb-true, eq-eqb, ne_eqb, not-true, not-false}
-use Rattle.numbers.specs.Words.{if◌then◌else◌, ◌and◌}
+use Rattle.numbers.specs.Words.{when◌then◌else◌, ◌and◌}
 use Rattle.numbers.specs.Numbers.{be_from, num}
 use Rattle.numbers.specs.Cells.{cells}
 use Rattle.numbers.proofs.WordLaws.{if-true, if-false, and-true}
@@ -44,22 +44,22 @@ num-zero k a s = be-zero (take k (drop a s))
 
 -- ---- the look by eight bytes
 
-one_more : (b p q r : Bool) → q ≡ (if p then r else false) → (if b then q else false) ≡ (if if b then p else false then r else false)
-unfolding if◌then◌else◌
+one_more : (b p q r : Bool) → q ≡ (when p then r else false) → (when b then q else false) ≡ (when when b then p else false then r else false)
+unfolding when◌then◌else◌
 one_more true p q r e = e
 one_more false p q r e = refl
 
-zero-append : (xs ys : List ℕ) → all_zero (xs ++ ys) ≡ (if all_zero xs then all_zero ys else false)
+zero-append : (xs ys : List ℕ) → all_zero (xs ++ ys) ≡ (when all_zero xs then all_zero ys else false)
 unfolding all_zero
 zero-append [] ys = sym (if-true true _ _ refl)
 zero-append (x ∷ xs) ys = one_more (eqb x 0) (all_zero xs) (all_zero (xs ++ ys)) (all_zero ys) (zero-append xs ys)
 
 module _ (s : List ℕ) (p k : ℕ) where
-  zero-split : all_zero (take (8 + k) (drop p s)) ≡ (if eqb (num 8 p s) 0 then all_zero (take k (drop (p + 8) s)) else false)
+  zero-split : all_zero (take (8 + k) (drop p s)) ≡ (when eqb (num 8 p s) 0 then all_zero (take k (drop (p + 8) s)) else false)
   zero-split =
       ap all_zero (take-add 8 k (drop p s)) ∙ zero-append (take 8 (drop p s)) (take k (drop 8 (drop p s)))
-      ∙ ap (λ (b : Bool). if b then all_zero (take k (drop 8 (drop p s))) else false) (sym (num-zero 8 p s))
-      ∙ ap (λ (r : List ℕ). if eqb (num 8 p s) 0 then all_zero (take k r) else false) (drop-drop 8 p s)
+      ∙ ap (λ (b : Bool). when b then all_zero (take k (drop 8 (drop p s))) else false) (sym (num-zero 8 p s))
+      ∙ ap (λ (r : List ℕ). when eqb (num 8 p s) 0 then all_zero (take k r) else false) (drop-drop 8 p s)
 
   pub zero_turn : num 8 p s ≡ 0 → all_zero (take (8 + k) (drop p s)) ≡ all_zero (take k (drop (p + 8) s))
   zero_turn e = zero-split ∙ if-true _ _ _ (ap (λ (x : ℕ). eqb x 0) e)

@@ -13,7 +13,7 @@ use native.Mathlib.Nat.{add-zero}
 use lib.ListN.{length, drop}
 use lib.Seq.{drop-drop}
 use borrow.Author.Tests.{not-true, not-false, le-leb, lt-leb, ne_eqb}
-use Rattle.numbers.specs.Words.{if◌then◌else◌, ◌and◌}
+use Rattle.numbers.specs.Words.{when◌then◌else◌, ◌and◌}
 use Rattle.numbers.specs.Numbers.{num, view_at, op_at}
 use Rattle.numbers.specs.Cells.{cells}
 use Rattle.numbers.proofs.WordLaws.{and_both}
@@ -164,26 +164,26 @@ module _ (s : List ℕ) (p m : ℕ) where
 
 module _ (s : List ℕ) where
   pub not-long : (length s ≡ 154 → ⊥) → false ≡ front_ok s
-  unfolding front_ok if◌then◌else◌
+  unfolding front_ok when◌then◌else◌
   not-long h = rw (ne_eqb (length s) 154 h)
 
   module _ (l : length s ≡ 154) {k : ℕ} (p : k ≡ num 1 12 s) where
     pub no-status : 3 < k → false ≡ front_ok s
-    unfolding front_ok if◌then◌else◌ ◌and◌
+    unfolding front_ok when◌then◌else◌ ◌and◌
     no-status h = rw (l, ← p, lt-leb k 3 h)
 
     module _ (h : k ≤ 3) {a : Bool} (q : a ≡ flag_ok (num 1 21 s)) where
       pub no-catching : not a ≡ true → false ≡ front_ok s
-      unfolding front_ok if◌then◌else◌ ◌and◌
+      unfolding front_ok when◌then◌else◌ ◌and◌
       no-catching e = rw (l, ← p, le-leb k 3 h, ← q, not-true a e)
 
       module _ (e : not a ≡ false) {b : Bool} (r : b ≡ flag_ok (num 1 30 s)) where
         pub no-heard : not b ≡ true → false ≡ front_ok s
-        unfolding front_ok if◌then◌else◌ ◌and◌
+        unfolding front_ok when◌then◌else◌ ◌and◌
         no-heard f = rw (l, ← p, le-leb k 3 h, ← q, not-false a e, ← r, not-true b f)
 
         pub by-sent : not b ≡ false → {d : Bool} → d ≡ flag_ok (num 1 39 s) → d ≡ front_ok s
-        unfolding front_ok if◌then◌else◌ ◌and◌
+        unfolding front_ok when◌then◌else◌ ◌and◌
         by-sent f t = rw (l, ← p, le-leb k 3 h, ← q, not-false a e, ← r, not-false b f, t)
 
 pub front_long : (s : List ℕ) → front_ok s ≡ true → length s ≡ 154

@@ -10,7 +10,7 @@ use lib.Dec.{leb, eqb}
 use lib.ListN.{length, take, drop, length-drop}
 use lib.Seq.{drop-drop, take-add, take_all}
 use borrow.Author.Tests.{leb-true, eq-eqb}
-use Rattle.numbers.specs.Words.{if◌then◌else◌, ◌and◌}
+use Rattle.numbers.specs.Words.{when◌then◌else◌, ◌and◌}
 use Rattle.numbers.specs.Numbers.{num, big, Bytes}
 use Rattle.numbers.specs.Cells.{cells, packed}
 use Rattle.numbers.proofs.WordLaws.{if-false, and_both}
@@ -30,7 +30,7 @@ flag-kept (suc zero) h = refl
 flag-kept (suc (suc k)) h = absurd (omega (arith, leb-true (suc (suc k)) 1 h))
 
 status-kept : (k : ℕ) → leb k 3 ≡ true → status_number (status_of k) ≡ k
-unfolding status_of if◌then◌else◌
+unfolding status_of when◌then◌else◌
 status-kept zero h = refl
 status-kept (suc zero) h = refl
 status-kept (suc (suc zero)) h = refl

@@ -3,7 +3,7 @@
 -- seven replica ids a report, 14: there 1, with a log 1, view 4, op number 4, commit number 4; takings 8. A status is 0 Normal, 1 StateTransfer, 2 ViewChange,
 -- 3 Recovering; a flag is 0 or 1. Any other number there is a byte without meaning, and refusal 1. Assumes nothing.
 use Rattle.std.specs.Prelude.{◌≡◌, Bool, true, false, not, List, [], ◌∷◌, ◌++◌, ℕ, zero, suc, ◌^◌, ◌<◌, eqb, leb, length, get_or, take, drop}
-use Rattle.numbers.specs.Words.{if◌then◌else◌, ◌and◌}
+use Rattle.numbers.specs.Words.{when◌then◌else◌, ◌and◌}
 use Rattle.numbers.specs.Numbers.{big, num, view_at, op_at}
 use Rattle.numbers.specs.Cells.{cells, packed}
 use Rattle.numbers.specs.declared.Op.{Op}
@@ -33,9 +33,9 @@ flag_number false = 0
 -- the status of a number; its number is `status_number`
 unfoldable pub status_of : ℕ → Status
 status_of k =
-    if eqb k 0 then Normal else
-    if eqb k 1 then StateTransfer else
-    if eqb k 2 then ViewChange else
+    when eqb k 0 then Normal else
+    when eqb k 1 then StateTransfer else
+    when eqb k 2 then ViewChange else
     Recovering
 
 -- the setup
@@ -87,7 +87,7 @@ all_reports_ok (suc k) s = flag_ok (num 1 0 s) and flag_ok (num 1 1 s) and all_r
 -- bytes that are all zero
 unfoldable pub all_zero : List ℕ → Bool
 all_zero [] = true
-all_zero (b ∷ bs) = if eqb b 0 then all_zero bs else false
+all_zero (b ∷ bs) = when eqb b 0 then all_zero bs else false
 
 -- no report is there and nothing stands in its place, as outside of a view change and a recovery
 unfoldable pub is_quiet : List ℕ → Bool
@@ -178,7 +178,7 @@ Clocked s t = t ≡ with_clock s t.clock
 -- a run is 154 bytes long, and its status and flags have a meaning, those of the reports left aside
 unfoldable pub front_ok : List ℕ → Bool
 front_ok s =
-    if not (eqb (length s) 154) then false else
+    when not (eqb (length s) 154) then false else
     leb (num 1 12 s) 3 and flag_ok (num 1 21 s) and flag_ok (num 1 30 s) and flag_ok (num 1 39 s)
 
 -- a run holds a state: it is 154 bytes long, and no byte of it is without meaning

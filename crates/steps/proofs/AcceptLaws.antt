@@ -7,7 +7,7 @@ use mathlib.Core.Logic.{⊎_elim}
 use Prim.Native.Nat.{◌<◌}
 use native.Mathlib.Omega.{arith}
 use borrow.Author.Tests.{lt-ltb, le-ltb, eq-eqb, ne_eqb}
-use Rattle.numbers.specs.Words.{if◌then◌else◌, ◌and◌, ◌or◌}
+use Rattle.numbers.specs.Words.{when◌then◌else◌, ◌and◌, ◌or◌}
 use Rattle.numbers.specs.declared.View.{View}
 use Rattle.numbers.proofs.NumberLaws.{le-or-lt}
 use Rattle.frames.specs.Numbered.{numbered}
@@ -23,9 +23,9 @@ use Rattle.steps.specs.declared.Accept.TheVariants.{Hear, Rejoin, Take}
 
 -- in our view: by the status, whether we are catching up, and whether we lead
 ours : (t : Status) (catching leads : Bool)
-    → accept_number (if is_changing t then (if catching then Hear else Rejoin) else if not (is_normal t) then Hear else if leads then Hear else Take)
-    ≡ numbered 0 (1 ∷ (if is_changing t and not catching then 1 else 0) ∷ (if is_normal t and not leads then 1 else 0) ∷ [])
-unfolding is_changing is_normal if◌then◌else◌ ◌and◌
+    → accept_number (when is_changing t then (when catching then Hear else Rejoin) else when not (is_normal t) then Hear else when leads then Hear else Take)
+    ≡ numbered 0 (1 ∷ (when is_changing t and not catching then 1 else 0) ∷ (when is_normal t and not leads then 1 else 0) ∷ [])
+unfolding is_changing is_normal when◌then◌else◌ ◌and◌
 ours Normal c true = refl
 ours Normal c false = refl
 ours StateTransfer c l = refl
@@ -38,15 +38,15 @@ module _ (s : Replica) (v : View) where
   Same = accept_number (accept_of s v) ≡ accept_numbers s v
 
   earlier : v.0 < s.view.0 → Same
-  unfolding accept_of accept_numbers if◌then◌else◌ ◌and◌ ◌or◌
+  unfolding accept_of accept_numbers when◌then◌else◌ ◌and◌ ◌or◌
   earlier h = rw (lt-ltb v.0 s.view.0 h, le-ltb s.view.0 v.0 (omega arith), ne_eqb v.0 s.view.0 (λ e. omega arith))
 
   later : s.view.0 < v.0 → Same
-  unfolding accept_of accept_numbers if◌then◌else◌ ◌and◌ ◌or◌
+  unfolding accept_of accept_numbers when◌then◌else◌ ◌and◌ ◌or◌
   later h = rw (lt-ltb s.view.0 v.0 h, le-ltb v.0 s.view.0 (omega arith), ne_eqb v.0 s.view.0 (λ e. omega arith))
 
   now : v.0 ≡ s.view.0 → Same
-  unfolding accept_of accept_changing accept_numbers if◌then◌else◌ ◌and◌ ◌or◌
+  unfolding accept_of accept_changing accept_numbers when◌then◌else◌ ◌and◌ ◌or◌
   now e =
       rw (eq-eqb v.0 s.view.0 e, le-ltb v.0 s.view.0 (omega arith), le-ltb s.view.0 v.0 (omega arith))
       (ours s.status s.catching (leads s))

@@ -4,15 +4,15 @@
 --     ok-long, acked-did    the PrepareOk, and the step where it fits
 --     ack-shown             the step, refusal 9 included
 -- Assumes nothing.
-use Prim.Native.Nat.{ℕ, ◌*◌, ◌≤◌, ◌<◌}
+use Prim.Native.Nat.{ℕ, ◌≤◌}
 use native.Mathlib.Omega.{arith}
 use mathlib.Core.Path.{◌≡◌, refl, sym, ap, ◌∙◌, subst}
-use mathlib.Core.Bool.{Bool, true, false}
+use mathlib.Core.Bool.{Bool, false}
 use mathlib.Core.List.{List, []}
 use lib.Dec.{ltb}
 use lib.ListN.{length}
 use borrow.Author.Tests.{le-ltb}
-use Rattle.numbers.specs.Words.{if◌then◌else◌}
+use Rattle.numbers.specs.Words.{when◌then◌else◌}
 use Rattle.numbers.specs.Numbers.{over, Bytes}
 use Rattle.numbers.specs.declared.Op.{Op}
 use Rattle.numbers.proofs.WordLaws.{if-false, split₂}
@@ -29,14 +29,14 @@ use Rattle.state.specs.Answers.{refusal, completed}
 use Rattle.state.specs.declared.Replica.{Replica}
 use Rattle.book.specs.Memory as Memory
 use Rattle.steps.specs.Steps.{Sound, Left, left, committed_to, settled, prepare_ok_of, committed_and_acked}
-use Rattle.model.specs.State.{view_of, op_number, ClientEntry, Book, State, Sent, Answer, set_book, op_of}
+use Rattle.model.specs.State.{view_of, op_number, ClientEntry, Book, State, Answer, set_book, op_of}
 use Rattle.model.specs.State.Answer.{refused, done}
 use Rattle.model.specs.Book.{commit_up_to}
 use Rattle.model.specs.Sending.{messages_out, replies_out, primary, to_primary, send_prepare_ok}
 use Rattle.model.specs.Normal.{committed}
 use Rattle.layout.specs.Layout.{LentRuns, book_of, store_of, model_of}
 use Rattle.model.specs.Steps.{fitted}
-use Rattle.layout.specs.Shown.{Given, Step, Grew, Did, Shown}
+use Rattle.layout.specs.Shown.{Given, Grew, Did, Shown}
 use Rattle.model.proofs.BookLaws.{commit_all-log}
 use Rattle.layout.proofs.BookLift.{settle-lift}
 use Rattle.steps.proofs.StepLift.{of_left, book_runs, one-message}
@@ -108,7 +108,7 @@ module _ (c : Given) (t : Replica) (x : Memory.Runs) (table : List ClientEntry) 
   -- The step, where nothing was stored before it but what refusal 9 leaves alone.
   abbrev pub acknowledged : Left
   acknowledged =
-      if ltb (length c.out) 16 then left (refusal 9 c.state) (book_runs c.runs) c.out else committed_and_acked c.state t k installed x c.out
+      when ltb (length c.out) 16 then left (refusal 9 c.state) (book_runs c.runs) c.out else committed_and_acked c.state t k installed x c.out
 
   pub ack-shown : Grew b installed (commit_up_to before.book k.0)
       → Shown c (of_left c acknowledged) b (fitted (length c.out) (length c.reps) (done next (send_prepare_ok c.state.setup next) []))

@@ -5,7 +5,7 @@ use mathlib.Core.Bool.{Bool, false}
 use mathlib.Core.List.{List}
 use lib.Dec.{ltb}
 use lib.ListN.{length}
-use Rattle.numbers.specs.Words.{if◌then◌else◌}
+use Rattle.numbers.specs.Words.{when◌then◌else◌}
 use Rattle.numbers.specs.declared.View.{View}
 use Rattle.numbers.specs.declared.Op.{Op}
 use Rattle.numbers.proofs.WordLaws.{split}
@@ -24,7 +24,7 @@ Untouched s m d = (d.answer.code ≡ 0 → ⊥) → d ≡ recorded (refusal d.an
 -- where PrepareOk fits it is done, whatever the runs: a handler that changes them first has tested that area before
 pub acked-done : (s t : Replica) (k : Op) (installed : Bool) (x : Runs) (out : List ℕ) → ltb (length out) 16 ≡ false
     → (committed_and_acked s t k installed x out).answer.code ≡ 0
-unfolding committed_and_acked if◌then◌else◌
+unfolding committed_and_acked when◌then◌else◌
 acked-done s t k installed x out e = rw e refl
 
 module _ (s : Replica) (m : Memory) where

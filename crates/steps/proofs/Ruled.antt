@@ -16,7 +16,6 @@ use Rattle.numbers.proofs.WordLaws.{split}
 use Rattle.entries.specs.Entries.{entries_ok}
 use Rattle.config.specs.Setup.{setup_ok}
 use Rattle.config.specs.declared.Setup.{Setup}
-use Rattle.config.proofs.SetupLaws.{sized}
 use Rattle.state.specs.Statuses.{no_report, no_reports}
 use Rattle.state.specs.Answers.{completed}
 use Rattle.state.specs.Lengths.{stored_place, log_length, stored_length}

@@ -15,7 +15,7 @@ use mathlib.Core.List.{List, [], ◌++◌, append-nil}
 use lib.Dec.{ltb, eqb}
 use lib.ListN.{length}
 use borrow.Author.Tests.{le-ltb}
-use Rattle.numbers.specs.Words.{if◌then◌else◌}
+use Rattle.numbers.specs.Words.{when◌then◌else◌}
 use Rattle.numbers.specs.Numbers.{over}
 use Rattle.numbers.specs.Cells.{packed}
 use Rattle.numbers.proofs.WordLaws.{if-false, split₂}
@@ -40,8 +40,8 @@ use Rattle.steps.proofs.StepLift.{of_spoke, quiet-shown, no-growth}
 module _ (u : Setup) (x : Message) where
   module _ (log : List Entry) where
     -- to replica k, unless it is ourselves
-    one-bytes : (k : ℕ) → packed sent_bytes (if eqb k u.id then [] else send k x log)
-        ≡ (if eqb k u.id then [] else encode k x (packed encode_entry log))
+    one-bytes : (k : ℕ) → packed sent_bytes (when eqb k u.id then [] else send k x log)
+        ≡ (when eqb k u.id then [] else encode k x (packed encode_entry log))
     unfolding send sent_bytes packed
     one-bytes k = split₂ (λ (a : List Sent) (w : List ℕ). packed sent_bytes a ≡ w) _ _ _ _ _ _ refl (λ _. refl) (λ _. append-nil _)
 
@@ -79,14 +79,14 @@ told-did c t x installed b m' same reads grew ms rs w y k j p l q n =
     }
 
 pub sends-only : (a b : ℕ) (m : State) (ms : List Sent)
-    → fitted a b (done m ms []) ≡ (if ltb a (length (messages_out ms)) then refused 9 else done m ms [])
+    → fitted a b (done m ms []) ≡ (when ltb a (length (messages_out ms)) then refused 9 else done m ms [])
 unfolding fitted replies_out packed
 sends-only a b m ms =
-    ap (λ (z : Answer). if ltb a (length (messages_out ms)) then refused 9 else z)
+    ap (λ (z : Answer). when ltb a (length (messages_out ms)) then refused 9 else z)
     (if-false _ (refused 10) (done m ms []) (le-ltb b 0 (omega arith)))
 
 pub replies-only : (a b : ℕ) (m : State) (rs : List Reply)
-    → fitted a b (done m [] rs) ≡ (if ltb b (length (replies_out rs)) then refused 10 else done m [] rs)
+    → fitted a b (done m [] rs) ≡ (when ltb b (length (replies_out rs)) then refused 10 else done m [] rs)
 unfolding fitted messages_out packed
 replies-only a b m rs = if-false _ (refused 9) _ (le-ltb a 0 (omega arith))
 

@@ -1,13 +1,12 @@
 -- The ways out of each step, on plain variables, as the code's tests and calls give them. Assumes nothing.
-use mathlib.Core.Path.{◌≡◌, refl, sym, ap, ◌∙◌}
+use mathlib.Core.Path.{◌≡◌, refl, sym, ◌∙◌}
 use mathlib.Core.Bool.{Bool, true, false, not}
 use mathlib.Core.List.{List, []}
 use Prim.Native.Nat.{ℕ, ◌+◌, ◌-◌, ◌*◌, max, ◌≤◌, ◌<◌}
 use native.Mathlib.Omega.{arith}
-use lib.Dec.{ltb}
 use lib.ListN.{length}
-use borrow.Author.Tests.{lt-ltb, le-ltb, not-true, not-false}
-use Rattle.numbers.specs.Words.{if◌then◌else◌}
+use borrow.Author.Tests.{lt-ltb, le-ltb}
+use Rattle.numbers.specs.Words.{when◌then◌else◌}
 use Rattle.numbers.specs.Numbers.{big, over, Wrote}
 use Rattle.numbers.specs.declared.View.{View}
 use Rattle.numbers.specs.declared.Op.{Op}
@@ -18,41 +17,41 @@ use Rattle.config.proofs.SetupLaws.{sized}
 use Rattle.frames.specs.declared.Message.TheVariants.{PrepareOk, GetState}
 use Rattle.writers.specs.Writers.{header, encode}
 use Rattle.book.specs.Runs.{money_committed, takings_committed}
-use Rattle.book.specs.Memory.{Money, money, Runs, runs}
+use Rattle.book.specs.Memory.{money, Runs, runs}
 use Rattle.state.specs.State.{leads, with_commit}
 use Rattle.state.specs.Statuses.{is_normal, is_changing}
 use Rattle.state.specs.Answers.{refusal, completed}
 use Rattle.state.specs.declared.Returned.{Returned}
 use Rattle.state.specs.declared.Replica.{Replica}
 use Rattle.steps.specs.declared.Accept.{Accept}
-use Rattle.steps.specs.declared.Accept.TheVariants.{Ignore, Hear, Join, Rejoin, Take}
+use Rattle.steps.specs.declared.Accept.TheVariants.{Ignore, Hear, Join, Take}
 use Rattle.steps.specs.Steps.{Sound, spoke, left, accept_changing, accept_of, committed_to, settled, asked_for_state, prepare_ok_of, committed_and_acked}
 
 -- accept_from_primary
 module _ (s : Replica) (v : View) where
   pub older : v.0 < s.view.0 → Ignore ≡ accept_of s v
-  unfolding accept_of if◌then◌else◌
+  unfolding accept_of when◌then◌else◌
   older h = rw (lt-ltb v.0 s.view.0 h)
 
   pub newer : s.view.0 ≤ v.0 → s.view.0 < v.0 → Join ≡ accept_of s v
-  unfolding accept_of if◌then◌else◌
+  unfolding accept_of when◌then◌else◌
   newer g h = rw (le-ltb v.0 s.view.0 g, lt-ltb s.view.0 v.0 h)
 
   module _ (g : s.view.0 ≤ v.0) (h : v.0 ≤ s.view.0) where
     pub changing : (a : Accept) → is_changing s.status ≡ true → a ≡ accept_changing s → a ≡ accept_of s v
-    unfolding accept_of if◌then◌else◌
+    unfolding accept_of when◌then◌else◌
     changing a c p = rw (le-ltb v.0 s.view.0 g, le-ltb s.view.0 v.0 h, c, p)
 
     pub absent : is_changing s.status ≡ false → not (is_normal s.status) ≡ true → Hear ≡ accept_of s v
-    unfolding accept_of if◌then◌else◌
+    unfolding accept_of when◌then◌else◌
     absent c n = rw (le-ltb v.0 s.view.0 g, le-ltb s.view.0 v.0 h, c, n)
 
     pub leading : is_changing s.status ≡ false → not (is_normal s.status) ≡ false → leads s ≡ true → Hear ≡ accept_of s v
-    unfolding accept_of if◌then◌else◌
+    unfolding accept_of when◌then◌else◌
     leading c n l = rw (le-ltb v.0 s.view.0 g, le-ltb s.view.0 v.0 h, c, n, l)
 
     pub follows : is_changing s.status ≡ false → not (is_normal s.status) ≡ false → leads s ≡ false → Take ≡ accept_of s v
-    unfolding accept_of if◌then◌else◌
+    unfolding accept_of when◌then◌else◌
     follows c n l = rw (le-ltb v.0 s.view.0 g, le-ltb s.view.0 v.0 h, c, n, l)
 
 -- commit_up_to
@@ -95,7 +94,7 @@ module _ (s : Replica) (k : Op) (log results totals : List ℕ) where
 -- send_get_state
 module _ (s t : Replica) (at : Op) (out : List ℕ) where
   pub asks-short : (a : Returned) → length out < 16 → a ≡ refusal 9 s → spoke a out ≡ asked_for_state s t at out
-  unfolding asked_for_state if◌then◌else◌
+  unfolding asked_for_state when◌then◌else◌
   asks-short a h p = rw (lt-ltb (length out) 16 h, p)
 
   get-state-length : (to : ℕ) → length (encode to (GetState t.setup.id t.view at) []) ≡ 16
@@ -104,7 +103,7 @@ module _ (s t : Replica) (at : Op) (out : List ℕ) where
 
   pub asks : (a : Returned) (to w : ℕ) (o : List ℕ) → 16 ≤ length out → to ≡ primary_of t.setup.n t.view
       → Wrote (encode to (GetState t.setup.id t.view at) []) out o w → a ≡ completed t w 0 false → spoke a o ≡ asked_for_state s t at out
-  unfolding asked_for_state if◌then◌else◌
+  unfolding asked_for_state when◌then◌else◌
   asks a to w o h p q e = rw (le-ltb (length out) 16 h, e, q.bytes, q.count, get-state-length to, p)
 
 -- send_prepare_ok
@@ -117,10 +116,10 @@ module _ (s : Replica) (out : List ℕ) where
 -- acknowledge
 module _ (s t : Replica) (k : Op) (installed : Bool) (x : Runs) (out : List ℕ) where
   pub acks-short : (a : Returned) → length out < 16 → a ≡ refusal 9 s → left a x out ≡ committed_and_acked s t k installed x out
-  unfolding committed_and_acked if◌then◌else◌
+  unfolding committed_and_acked when◌then◌else◌
   acks-short a h p = rw (lt-ltb (length out) 16 h, p)
 
   pub acks : (a : Returned) (u : Replica) (y : Runs) (w : ℕ) (o : List ℕ) → 16 ≤ length out → u ≡ committed_to t k x → y ≡ settled t k x
       → w ≡ 16 → o ≡ over (prepare_ok_of u) out → a ≡ completed u w 0 installed → left a y o ≡ committed_and_acked s t k installed x out
-  unfolding committed_and_acked if◌then◌else◌
+  unfolding committed_and_acked when◌then◌else◌
   acks a u y w o h p q e b c = rw (le-ltb (length out) 16 h, c, q, e, b, p)

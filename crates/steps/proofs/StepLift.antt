@@ -6,17 +6,17 @@
 --     accept-shown      accept_from_primary, with what is done where the message is taken
 --     ack-shown         commit_up_to, and then send_prepare_ok
 -- Assumes nothing.
-use Prim.Native.Nat.{ℕ, zero, suc, ◌+◌, ◌-◌, max, ◌≤◌, ◌<◌}
+use Prim.Native.Nat.{ℕ, zero, suc, ◌≤◌, ◌<◌}
 use native.Mathlib.Nat.{zero-sub}
 use native.Mathlib.Omega.{arith}
 use mathlib.Core.Path.{◌≡◌, refl, sym, ap, ◌∙◌, subst}
 use mathlib.Core.Bool.{Bool, true, false, not, false≢true}
-use mathlib.Core.List.{List, [], ◌∷◌, ◌++◌, append-nil}
+use mathlib.Core.List.{List, [], ◌∷◌, append-nil}
 use mathlib.Core.Option.{Option, none}
 use lib.Dec.{ltb}
 use lib.ListN.{length, take, replicate}
 use borrow.Author.Tests.{le-ltb, ne_eqb, eq-eqb, ltb-true, ltb-false, not-true}
-use Rattle.numbers.specs.Words.{if◌then◌else◌, ◌and◌}
+use Rattle.numbers.specs.Words.{when◌then◌else◌, ◌and◌}
 use Rattle.numbers.specs.Numbers.{over}
 use Rattle.numbers.specs.Cells.{packed}
 use Rattle.numbers.proofs.WordLaws.{if-true, if-false, split, split₂, and_both, and-false, and-true}
@@ -43,7 +43,7 @@ use Rattle.book.specs.Memory.{runs}
 use Rattle.steps.proofs.StepLaws.{older, newer, changing, absent, leading, follows}
 use Rattle.steps.specs.declared.Accept.{Accept}
 use Rattle.steps.specs.declared.Accept.TheVariants.{Ignore, Hear, Join, Rejoin, Take}
-use Rattle.model.specs.State.{view_of, ClientEntry, Book, State, Sent, Reply, Answer, ignored, set_clock}
+use Rattle.model.specs.State.{view_of, ClientEntry, Book, State, Sent, Answer, ignored, set_clock}
 use Rattle.model.specs.State.Answer.{refused, done}
 use Rattle.model.specs.Sending.{sent_bytes, messages_out, replies_out, send, primary, is_primary, to_primary, send_get_state}
 use Rattle.model.specs.Book.{append_all, commit_all, due_entries, commit_up_to}
@@ -82,14 +82,14 @@ module _ (c : Given) (t : Replica) (b : Book) (m' : State) (same : t.setup ≡ c
       }
 
   -- the model's answer without replies, where its messages fit
-  fits : (ms : List Sent) → (P : Answer → Type 0) → P (done m' ms []) → P (if ltb (length c.reps) (length (replies_out [])) then refused 10 else done m' ms [])
+  fits : (ms : List Sent) → (P : Answer → Type 0) → P (done m' ms []) → P (when ltb (length c.reps) (length (replies_out [])) then refused 10 else done m' ms [])
   unfolding replies_out packed
   fits ms P h = rw (if-false _ (refused 10) (done m' ms []) (le-ltb (length c.reps) 0 (omega arith))) h
 
   -- messages of k bytes go out, or refusal 9
   pub spoke-shown : (ms : List Sent) (w : List ℕ) (k : ℕ) → messages_out ms ≡ w → length w ≡ k
       → Shown c
-      (of_spoke c (if ltb (length c.out) k then spoke (refusal 9 c.state) c.out else spoke (completed t k 0 false) (over w c.out)))
+      (of_spoke c (when ltb (length c.out) k then spoke (refusal 9 c.state) c.out else spoke (completed t k 0 false) (over w c.out)))
       b
       (fitted (length c.out) (length c.reps) (done m' ms []))
   unfolding fitted
@@ -178,12 +178,12 @@ none-placed f h i zero = refl
 none-placed f h i (suc k) = rw (h i, none-placed f h (suc i) k)
 
 pub reports-cleared : (u : Setup) (stored : List ℕ) → u.n ≤ 7 → placed (report_at u stored) 0 (take u.n (Statuses.no_reports).rows) ≡ replicate u.n none
-unfolding report_at if◌then◌else◌
+unfolding report_at when◌then◌else◌
 reports-cleared u stored h = rw (take_same u.n 7 no_report h) (none-placed (report_at u stored) (λ i. refl) 0 u.n)
 
 pub responses-cleared : (u : Setup) (stored : List ℕ) → u.n ≤ 7
     → placed (response_at u stored) 0 (take u.n (Statuses.no_reports).rows) ≡ replicate u.n none
-unfolding response_at if◌then◌else◌
+unfolding response_at when◌then◌else◌
 responses-cleared u stored h = rw (take_same u.n 7 no_report h) (none-placed (response_at u stored) (λ i. refl) 0 u.n)
 
 module _ (s : Replica) (x : LentRuns) (table : List ClientEntry) (applied : List Entry) where
@@ -197,7 +197,7 @@ module _ (s : Replica) (x : LentRuns) (table : List ClientEntry) (applied : List
   -- catch_up_with_view; whoever looks at a primary's message isn't Recovering
   pub catching-reads : (v : View) → s.setup.n ≤ 7 → is_recovering s.status ≡ false
       → model_of (catching_up_in s v) x table applied ≡ catching_up_with s.setup (model_of s x table applied) v.0
-  unfolding model_of store_of catching_up_with cleared_votes cleared_store no_reports is_recovering if◌then◌else◌
+  unfolding model_of store_of catching_up_with cleared_votes cleared_store no_reports is_recovering when◌then◌else◌
   catching-reads v h r = rw (reports-cleared s.setup x.stored h, r)
 
 module _ (c : Given) (table : List ClientEntry) (applied : List Entry) (v : View) (few : c.state.setup.n ≤ 7)
@@ -291,29 +291,29 @@ module _ (c : Given) (table : List ClientEntry) (applied : List Entry) (v : View
 
   module _ (T : Left) (rest : Answer) (taken : accept_of c.state v ≡ Take → Shown c (of_left c T) now.book (fit rest)) where
     abbrev whole : Accept → Step
-    whole z = of_left c (if is_take z then T else alone (book_runs c.runs) (deferred z c.state v c.out))
+    whole z = of_left c (when is_take z then T else alone (book_runs c.runs) (deferred z c.state v c.out))
 
     abbrev Goal : Accept → Answer → Type 0
     Goal z a = Shown c (whole z) now.book (fit a)
 
     goal-ignore : (a : Answer) → Shown c (late Ignore) now.book (fit a) → Goal Ignore a
-    unfolding is_take if◌then◌else◌
+    unfolding is_take when◌then◌else◌
     goal-ignore a h = h
 
     goal-hear : (a : Answer) → Shown c (late Hear) now.book (fit a) → Goal Hear a
-    unfolding is_take if◌then◌else◌
+    unfolding is_take when◌then◌else◌
     goal-hear a h = h
 
     goal-join : (a : Answer) → Shown c (late Join) now.book (fit a) → Goal Join a
-    unfolding is_take if◌then◌else◌
+    unfolding is_take when◌then◌else◌
     goal-join a h = h
 
     goal-rejoin : (a : Answer) → Shown c (late Rejoin) now.book (fit a) → Goal Rejoin a
-    unfolding is_take if◌then◌else◌
+    unfolding is_take when◌then◌else◌
     goal-rejoin a h = h
 
     goal-take : (a : Answer) → Shown c (of_left c T) now.book (fit a) → Goal Take a
-    unfolding is_take if◌then◌else◌
+    unfolding is_take when◌then◌else◌
     goal-take a h = h
 
     -- a message of our view, while we change to it

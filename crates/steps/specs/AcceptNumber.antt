@@ -1,7 +1,7 @@
 -- What accept_from_primary says, as number and values: no case is a refusal, so the number is 0. The values are 1 or 0 for three things: the message is of our view,
 -- so the primary was heard; we catch up with its view; it is taken. Assumes nothing.
 use Rattle.std.specs.Prelude.{◌≡◌, not, [], ◌∷◌, eqb, ltb}
-use Rattle.numbers.specs.Words.{if◌then◌else◌, ◌and◌, ◌or◌}
+use Rattle.numbers.specs.Words.{when◌then◌else◌, ◌and◌, ◌or◌}
 use Rattle.numbers.specs.declared.View.{View}
 use Rattle.frames.specs.Numbered.{Numbered, numbered}
 use Rattle.state.specs.State.{leads}
@@ -23,9 +23,9 @@ accept_number Take = numbered 0 (1 ∷ 0 ∷ 1 ∷ [])
 unfoldable pub accept_numbers : Replica → View → Numbered
 accept_numbers s v =
     numbered 0
-    ((if eqb v.0 s.view.0 then 1 else 0)
-    ∷ (if ltb s.view.0 v.0 or (eqb v.0 s.view.0 and is_changing s.status and not s.catching) then 1 else 0)
-    ∷ (if eqb v.0 s.view.0 and is_normal s.status and not (leads s) then 1 else 0)
+    ((when eqb v.0 s.view.0 then 1 else 0)
+    ∷ (when ltb s.view.0 v.0 or (eqb v.0 s.view.0 and is_changing s.status and not s.catching) then 1 else 0)
+    ∷ (when eqb v.0 s.view.0 and is_normal s.status and not (leads s) then 1 else 0)
     ∷ [])
 
 -- what `accept_from_primary` promises: the enum, and its number and values

@@ -1,7 +1,7 @@
 -- What several handlers share, on the state by value and the bytes of the lent runs: accept_from_primary, commit_up_to, send_get_state,
 -- catch_up_with_view, state_transfer, send_prepare_ok. Refusal 9 leaves state, runs and area as they were. Assumes nothing.
 use Rattle.std.specs.Prelude.{◌≡◌, Bool, true, false, not, List, [], ℕ, ◌-◌, max, ◌≤◌, ltb, length}
-use Rattle.numbers.specs.Words.{if◌then◌else◌, ◌and◌}
+use Rattle.numbers.specs.Words.{when◌then◌else◌}
 use Rattle.numbers.specs.Numbers.{over}
 use Rattle.numbers.specs.declared.View.{View}
 use Rattle.numbers.specs.declared.Op.{Op}
@@ -10,7 +10,7 @@ use Rattle.frames.specs.declared.Message.TheVariants.{PrepareOk, GetState}
 use Rattle.frames.specs.declared.Status.TheVariants.{StateTransfer}
 use Rattle.writers.specs.Writers.{encode}
 use Rattle.book.specs.Runs.{money_committed, takings_committed}
-use Rattle.book.specs.Memory.{money, Runs, runs}
+use Rattle.book.specs.Memory.{Runs}
 use Rattle.state.specs.State.{leads, heard_by, with_status, with_commit, catching_up_in}
 use Rattle.state.specs.Statuses.{is_normal, is_changing}
 use Rattle.state.specs.Answers.{refusal, completed, quiet}
@@ -52,16 +52,16 @@ alone x d = left d.answer x d.out
 
 -- accept_from_primary in ViewChange, of our view
 unfoldable pub accept_changing : Replica → Accept
-accept_changing s = if s.catching then Hear else Rejoin
+accept_changing s = when s.catching then Hear else Rejoin
 
 -- accept_from_primary: what is taken is taken by a backup in Normal, in the message's view
 unfoldable pub accept_of : Replica → View → Accept
 accept_of s v =
-    if ltb v.0 s.view.0 then Ignore else
-    if ltb s.view.0 v.0 then Join else
-    if is_changing s.status then accept_changing s else
-    if not (is_normal s.status) then Hear else
-    if leads s then Hear else
+    when ltb v.0 s.view.0 then Ignore else
+    when ltb s.view.0 v.0 then Join else
+    when is_changing s.status then accept_changing s else
+    when not (is_normal s.status) then Hear else
+    when leads s then Hear else
     Take
 
 unfoldable pub is_take : Accept → Bool
@@ -89,7 +89,7 @@ settled s k x =
 -- send_get_state from op `at` on, to the primary of the view of t, the state after it; s is the state as it was
 unfoldable pub asked_for_state : (s t : Replica) (at : Op) → List ℕ → Spoke
 asked_for_state s t at out =
-    if ltb (length out) 16 then spoke (refusal 9 s) out else
+    when ltb (length out) 16 then spoke (refusal 9 s) out else
     spoke (completed t 16 0 false) (over (encode (primary_of t.setup.n t.view) (GetState t.setup.id t.view at) []) out)
 
 -- state_transfer, by one who has heard
@@ -111,5 +111,5 @@ prepare_ok_of s = encode (primary_of s.setup.n s.view) (PrepareOk s.view s.op s.
 -- the state t commits up to k and acknowledges its op number; s is the state as it was
 unfoldable pub committed_and_acked : (s t : Replica) (k : Op) (installed : Bool) → Runs → List ℕ → Left
 committed_and_acked s t k installed x out =
-    if ltb (length out) 16 then left (refusal 9 s) x out else
+    when ltb (length out) 16 then left (refusal 9 s) x out else
     left (completed (committed_to t k x) 16 0 installed) (settled t k x) (over (prepare_ok_of (committed_to t k x)) out)

@@ -8,7 +8,7 @@ use lib.Dec.{leb, eqb}
 use lib.ListN.{length, take, drop, length-drop}
 use lib.Seq.{length-take-le}
 use borrow.Author.Tests.{lt-ltb, le-ltb, eq-eqb, ne_eqb, leb-true, not-false}
-use Rattle.numbers.specs.Words.{if◌then◌else◌}
+use Rattle.numbers.specs.Words.{when◌then◌else◌}
 use Rattle.numbers.specs.Numbers.{Wrote}
 use Rattle.numbers.specs.declared.View.{View}
 use Rattle.numbers.specs.declared.Op.{Op}
@@ -30,15 +30,15 @@ use Rattle.transfer.specs.GetState.{Reading, answers, new_state_length, get_stat
 -- whether it is answered
 module _ (s : Replica) (v : View) (o : Op) where
   pub absent : not (is_normal s.status) ≡ true → false ≡ answers s v o
-  unfolding answers if◌then◌else◌
+  unfolding answers when◌then◌else◌
   absent h = rw h
 
   pub elsewhere : not (is_normal s.status) ≡ false → (v.0 ≡ s.view.0 → ⊥) → false ≡ answers s v o
-  unfolding answers if◌then◌else◌
+  unfolding answers when◌then◌else◌
   elsewhere h g = rw (h, ne_eqb v.0 s.view.0 g)
 
   pub here : not (is_normal s.status) ≡ false → v.0 ≡ s.view.0 → leb o.0 s.op.0 ≡ answers s v o
-  unfolding answers if◌then◌else◌
+  unfolding answers when◌then◌else◌
   here h g = rw (h, eq-eqb v.0 s.view.0 g)
 
   -- it is answered from an op that we have
@@ -49,7 +49,7 @@ module _ (s : Replica) (v : View) (o : Op) where
       (λ (b : Bool). b ≡ true → o.0 ≤ s.op.0)
       (not (is_normal s.status))
       false
-      (if not (eqb v.0 s.view.0) then false else leb o.0 s.op.0)
+      (when not (eqb v.0 s.view.0) then false else leb o.0 s.op.0)
       (λ _ e. absurd (false≢true e))
       (λ _.
       split
@@ -95,19 +95,19 @@ module _ (s : Replica) (o : Op) (log : List ℕ) (h : Reading s (length log)) (g
 -- on_get_state
 module _ (s : Replica) (from : ℕ) (v : View) (o : Op) (log out : List ℕ) where
   pub unanswered : (a : Returned) → not (answers s v o) ≡ true → a ≡ quiet s → spoke a out ≡ get_state_step s from v o log out
-  unfolding get_state_step if◌then◌else◌
+  unfolding get_state_step when◌then◌else◌
   unanswered a h p = rw (h, p)
 
   pub short : (a : Returned) → not (answers s v o) ≡ false → length out < new_state_length s o → a ≡ refusal 9 s
       → spoke a out ≡ get_state_step s from v o log out
-  unfolding get_state_step if◌then◌else◌
+  unfolding get_state_step when◌then◌else◌
   short a h g p = rw (h, lt-ltb (length out) (new_state_length s o) g, p)
 
   pub answered : (a : Returned) (p w : ℕ) (x : List ℕ) → Reading s (length log) → not (answers s v o) ≡ false → new_state_length s o ≤ length out
       → p ≡ entry_place o.0
       → Wrote (encode from (NewState v o s.op s.commit) (take (32 * (s.op.0 - o.0)) (take (length log - p) (drop p log)))) out x w
       → a ≡ completed s w 0 false → spoke a x ≡ get_state_step s from v o log out
-  unfolding get_state_step if◌then◌else◌
+  unfolding get_state_step when◌then◌else◌
   answered a p w x r h g e q c =
       let bytes : take (length log - p) (drop p log) ≡ drop (entry_place o.0) log = part-rest p log ∙ ap (λ (i : ℕ). drop i log) e in
       rw (

@@ -8,7 +8,7 @@ use lib.Dec.{ltb, leb, eqb}
 use lib.ListN.{length, take, drop, length-drop}
 use lib.Seq.{length-take-le}
 use borrow.Author.Tests.{lt-ltb, le-ltb, le-leb, lt-leb, eq-eqb, ne_eqb, ltb-false, leb-false, eqb-true, not-false}
-use Rattle.numbers.specs.Words.{if◌then◌else◌}
+use Rattle.numbers.specs.Words.{when◌then◌else◌}
 use Rattle.numbers.specs.declared.View.{View}
 use Rattle.numbers.proofs.WordLaws.{split}
 use Rattle.numbers.proofs.RunLaws.{part-rest}
@@ -35,45 +35,45 @@ use Rattle.transfer.specs.NewState.{PartPassed, transfer_use, change_use, use_of
 
 module _ (s : Replica) (p : Part) where
   pub starts-past : s.op.0 < p.start.0 → Hear ≡ transfer_use s p
-  unfolding transfer_use if◌then◌else◌
+  unfolding transfer_use when◌then◌else◌
   starts-past h = rw (lt-ltb s.op.0 p.start.0 h)
 
   pub ends-inside : p.start.0 ≤ s.op.0 → p.end.0 ≤ s.op.0 → Hear ≡ transfer_use s p
-  unfolding transfer_use if◌then◌else◌
+  unfolding transfer_use when◌then◌else◌
   ends-inside h g = rw (le-ltb s.op.0 p.start.0 h, le-leb p.end.0 s.op.0 g)
 
   pub fills : p.start.0 ≤ s.op.0 → s.op.0 < p.end.0 → Fill ≡ transfer_use s p
-  unfolding transfer_use if◌then◌else◌
+  unfolding transfer_use when◌then◌else◌
   fills h g = rw (le-ltb s.op.0 p.start.0 h, lt-leb p.end.0 s.op.0 g)
 
   pub voting : not s.catching ≡ true → Hear ≡ change_use s p
-  unfolding change_use if◌then◌else◌
+  unfolding change_use when◌then◌else◌
   voting h = rw h
 
   pub starts-elsewhere : not s.catching ≡ false → (p.start.0 ≡ s.commit.0 → ⊥) → Hear ≡ change_use s p
-  unfolding change_use if◌then◌else◌
+  unfolding change_use when◌then◌else◌
   starts-elsewhere h g = rw (h, ne_eqb p.start.0 s.commit.0 g)
 
   pub installs : not s.catching ≡ false → p.start.0 ≡ s.commit.0 → Install ≡ change_use s p
-  unfolding change_use if◌then◌else◌
+  unfolding change_use when◌then◌else◌
   installs h g = rw (h, eq-eqb p.start.0 s.commit.0 g)
 
 module _ (s : Replica) (v : View) (p : Part) where
   pub elsewhere : (v.0 ≡ s.view.0 → ⊥) → Ignore ≡ use_of s v p
-  unfolding use_of if◌then◌else◌
+  unfolding use_of when◌then◌else◌
   elsewhere h = rw (ne_eqb v.0 s.view.0 h)
 
   module _ (h : v.0 ≡ s.view.0) where
     pub waiting : (u : Use) → is_transfer s.status ≡ true → u ≡ transfer_use s p → u ≡ use_of s v p
-    unfolding use_of if◌then◌else◌
+    unfolding use_of when◌then◌else◌
     waiting u t e = rw (eq-eqb v.0 s.view.0 h, t, e)
 
     pub changing : (u : Use) → is_transfer s.status ≡ false → is_changing s.status ≡ true → u ≡ change_use s p → u ≡ use_of s v p
-    unfolding use_of if◌then◌else◌
+    unfolding use_of when◌then◌else◌
     changing u t c e = rw (eq-eqb v.0 s.view.0 h, t, c, e)
 
     pub hears : is_transfer s.status ≡ false → is_changing s.status ≡ false → Hear ≡ use_of s v p
-    unfolding use_of if◌then◌else◌
+    unfolding use_of when◌then◌else◌
     hears t c = rw (eq-eqb v.0 s.view.0 h, t, c)
 
 -- what each use that changes the log says of the numbers
@@ -146,18 +146,18 @@ module _ (s : Replica) (x : Runs) (n k : ℕ) (part : List ℕ) (h : Sound s x) 
 module _ (s t : Replica) (n k : ℕ) (p : Part) (whole : Bool) (part : List ℕ) (x : Runs) (out : List ℕ) where
   pub breaks : (a : Returned) → not (rises_after (entries n x.log) (entries k part)) ≡ true → a ≡ refusal 6 s
       → left a x out ≡ extended s t n k p whole part x out
-  unfolding extended if◌then◌else◌
+  unfolding extended when◌then◌else◌
   breaks a h q = rw (h, q)
 
   pub short : (a : Returned) → not (rises_after (entries n x.log) (entries k part)) ≡ false → length out < 16 → a ≡ refusal 9 s
       → left a x out ≡ extended s t n k p whole part x out
-  unfolding extended if◌then◌else◌
+  unfolding extended when◌then◌else◌
   short a h g q = rw (h, lt-ltb (length out) 16 g, q)
 
   pub extends : (d : Left) (u : Replica) (log : List ℕ) → not (rises_after (entries n x.log) (entries k part)) ≡ false → 16 ≤ length out
       → log ≡ with_entries n (take (32 * k) part) x.log → u ≡ t
       → d ≡ committed_and_acked s u p.commit whole (record { log = log; money = x.money }) out → d ≡ extended s t n k p whole part x out
-  unfolding extended if◌then◌else◌
+  unfolding extended when◌then◌else◌
   extends d u log h g e q c = rw (h, le-ltb (length out) 16 g) (c ∙ rw (e, q))
 
 -- ---- the two uses that change the log

@@ -12,7 +12,7 @@ use lib.Dec.{ltb, leb, eqb}
 use lib.ListN.{length, take, drop, length-drop}
 use lib.Seq.{length-take-le}
 use borrow.Author.Tests.{ltb-false, leb-false, eqb-true, not-false}
-use Rattle.numbers.specs.Words.{if◌then◌else◌, ◌and◌, ◌or◌}
+use Rattle.numbers.specs.Words.{when◌then◌else◌, ◌and◌, ◌or◌}
 use Rattle.numbers.specs.Numbers.{Bytes}
 use Rattle.numbers.specs.declared.View.{View}
 use Rattle.numbers.specs.declared.Op.{Op}
@@ -52,7 +52,7 @@ use Rattle.model.specs.Book.{append_all, commit_up_to, install}
 use Rattle.model.specs.Sending.{messages_out, to_primary, send_prepare_ok, send_get_state, send_new_state}
 use Rattle.model.specs.Normal.{heard_from_primary, committed, filled_gap, committed_then, on_get_state, fill_gap, caught_up, catch_up, on_new_state}
 use Rattle.model.specs.ViewChange.{no_reports, cleared_store, enter_normal}
-use Rattle.layout.specs.Layout.{LentRuns, store_of, book_of, model_of}
+use Rattle.layout.specs.Layout.{store_of, book_of, model_of}
 use Rattle.model.specs.Steps.{fitted, follow_tick}
 use Rattle.layout.specs.Shown.{Given, Grew, Shown}
 use Rattle.layout.specs.Shown.Grew.{more, anew}
@@ -64,14 +64,14 @@ use Rattle.steps.proofs.AckLift.{with_runs, ack-shown}
 use Rattle.steps.proofs.SendLift.{message-log}
 
 -- tests one after the other, and joined
-three-tests : (a b d : Bool) → (if not a then false else if not b then false else d) ≡ (a and b and d)
-unfolding if◌then◌else◌ ◌and◌
+three-tests : (a b d : Bool) → (when not a then false else when not b then false else d) ≡ (a and b and d)
+unfolding when◌then◌else◌ ◌and◌
 three-tests true true d = refl
 three-tests true false d = refl
 three-tests false b d = refl
 
-by_and : {A : Type 0} (a b : Bool) (x y : A) → (if a and b then x else y) ≡ (if a then (if not b then y else x) else y)
-unfolding if◌then◌else◌ ◌and◌
+by_and : {A : Type 0} (a b : Bool) (x y : A) → (when a and b then x else y) ≡ (when a then (when not b then y else x) else y)
+unfolding when◌then◌else◌ ◌and◌
 by_and true true x y = refl
 by_and true false x y = refl
 by_and false b x y = refl
@@ -203,7 +203,7 @@ module _ (c : Given) (table : List ClientEntry) (applied : List Entry) where
     -- a state t commits over the runs y and acknowledges; refusal 9 leaves all as it was
     abbrev extending : Replica → Memory.Runs → Bool → Left
     extending t y b =
-        if ltb (length c.out) 16 then left (refusal 9 c.state) x c.out else committed_and_acked c.state t p.commit b y c.out
+        when ltb (length c.out) 16 then left (refusal 9 c.state) x c.out else committed_and_acked c.state t p.commit b y c.out
 
     few : c.state.setup.n ≤ 7
     few = (sized c.state.setup h.sound.sized).seven
@@ -225,7 +225,7 @@ module _ (c : Given) (table : List ClientEntry) (applied : List Entry) where
     -- the model's answer where it appends fs
     abbrev filling : List Entry → Answer
     filling fs =
-        if not (rising (now.book.log ++ fs)) then refused 6 else
+        when not (rising (now.book.log ++ fs)) then refused 6 else
         done (filled_gap now p.commit.0 fs) (send_prepare_ok c.state.setup (filled_gap now p.commit.0 fs)) []
 
     module _ (g : p.start.0 ≤ c.state.op.0) (l : c.state.op.0 < p.end.0) where
@@ -263,7 +263,7 @@ module _ (c : Given) (table : List ClientEntry) (applied : List Entry) where
 
       -- the places hold reports before and after
       fill-store : store_of t c.runs.stored ≡ store_of c.state c.runs.stored
-      unfolding store_of is_recovering if◌then◌else◌
+      unfolding store_of is_recovering when◌then◌else◌
       fill-store = rw h.looks
 
       fill-reads : model_of t (with_runs c.runs y) more-book.table applied ≡ set_status (set_book (heard_from_primary now) more-book) Normal
@@ -332,7 +332,7 @@ module _ (c : Given) (table : List ClientEntry) (applied : List Entry) where
           (omega (arith, e, h.numbers.end-le, h.sound.log-long, place_is (c.state.commit.0 + j))) h.long
 
       install-store : store_of r c.runs.stored ≡ cleared_store c.state.setup now
-      unfolding model_of store_of cleared_store no_reports is_recovering if◌then◌else◌
+      unfolding model_of store_of cleared_store no_reports is_recovering when◌then◌else◌
       install-store = rw (reports-cleared c.state.setup c.runs.stored few, h.looks)
 
       install-reads : model_of r (with_runs c.runs z) new-book.table applied
@@ -361,7 +361,7 @@ module _ (c : Given) (table : List ClientEntry) (applied : List Entry) where
       install-rises = sym (rises-lift c.state.op.0 c.state.commit.0 j c.runs.log part h.rises h.sound.commit-le)
 
       goal-install : Goal Install
-          (if not (rising (committed_then now es)) then refused 6 else
+          (when not (rising (committed_then now es)) then refused 6 else
           done (caught_up c.state.setup now p.commit.0 es)
           (send_prepare_ok c.state.setup (caught_up c.state.setup now p.commit.0 es)) [])
       unfolding by_use installed extended fitted
@@ -379,7 +379,7 @@ module _ (c : Given) (table : List ClientEntry) (applied : List Entry) where
 
     -- the model's fill_gap by our op number n
     abbrev gap : ℕ → Answer
-    gap n = if ltb n p.start.0 or leb p.end.0 n then ignored (heard_from_primary now) else filling (drop (n - p.start.0) es)
+    gap n = when ltb n p.start.0 or leb p.end.0 n then ignored (heard_from_primary now) else filling (drop (n - p.start.0) es)
 
     goal-transfer : Goal (transfer_use c.state p) (fill_gap c.state.setup now p.start.0 p.end.0 p.commit.0 es)
     unfolding transfer_use fill_gap
@@ -391,7 +391,7 @@ module _ (c : Given) (table : List ClientEntry) (applied : List Entry) where
         split₂ Goal _ _ _ _ _ _ refl (λ _. goal-hear) λ k.
         goal-fill (ltb-false _ _ f) (leb-false _ _ k)))
 
-    goal-caught : Goal (if not (eqb p.start.0 c.state.commit.0) then Hear else Install)
+    goal-caught : Goal (when not (eqb p.start.0 c.state.commit.0) then Hear else Install)
         (catch_up c.state.setup now p.start.0 p.commit.0 es)
     unfolding catch_up model_of book_of
     goal-caught = split₂ Goal _ _ _ _ _ _ refl (λ _. goal-hear) λ e. goal-install (eqb-true _ _ (not-false _ e))
@@ -402,6 +402,6 @@ module _ (c : Given) (table : List ClientEntry) (applied : List Entry) where
     new-state-shown =
         split₂ Goal _ _ _ _ _ _ refl (λ _. goal-ignore) λ _.
         split₂ Goal _ _ _ _ _ _ refl (λ _. goal-transfer) λ _.
-        subst (Goal (if is_changing c.state.status then change_use c.state p else Hear))
+        subst (Goal (when is_changing c.state.status then change_use c.state p else Hear))
         (sym (by_and (is_changing c.state.status) c.state.catching _ _))
         (split₂ Goal _ _ _ _ _ _ refl (λ _. split₂ Goal _ _ _ _ _ _ refl (λ _. goal-hear) (λ _. goal-caught)) (λ _. goal-hear))

@@ -6,7 +6,7 @@ use mathlib.Core.List.{[], ◌∷◌}
 use Prim.Native.Nat.{ℕ}
 use lib.Dec.{eqb, ltb, leb}
 use borrow.Author.Tests.{ltb-true, ltb-false, leb-true, leb-false, le-leb, lt-leb, lt-ltb, le-ltb}
-use Rattle.numbers.specs.Words.{if◌then◌else◌, ◌and◌}
+use Rattle.numbers.specs.Words.{when◌then◌else◌, ◌and◌}
 use Rattle.numbers.specs.declared.View.{View}
 use Rattle.frames.specs.Numbered.{numbered}
 use Rattle.frames.specs.declared.Status.{Status}
@@ -37,13 +37,13 @@ not-upto a b = go (leb b a) refl
 -- by whether it is of our view, the status, whether it starts past our log, ends within it, we are catching up, and it starts at our commit number
 by_tests : (ours : Bool) (t : Status) (past within catching at : Bool)
     → use_number
-    (if not ours then Ignore else
-    if is_transfer t then (if past then Hear else if within then Hear else Fill) else
-    if is_changing t then (if not catching then Hear else if not at then Hear else Install) else
+    (when not ours then Ignore else
+    when is_transfer t then (when past then Hear else when within then Hear else Fill) else
+    when is_changing t then (when not catching then Hear else when not at then Hear else Install) else
     Hear)
     ≡ numbered 0
-    ((if ours then 1 else 0) ∷ (if ours and is_transfer t and not past and not within then 1 else 0) ∷ (if ours and is_changing t and catching and at then 1 else 0) ∷ [])
-unfolding is_transfer is_changing if◌then◌else◌ ◌and◌
+    ((when ours then 1 else 0) ∷ (when ours and is_transfer t and not past and not within then 1 else 0) ∷ (when ours and is_changing t and catching and at then 1 else 0) ∷ [])
+unfolding is_transfer is_changing when◌then◌else◌ ◌and◌
 by_tests false t p w c a = refl
 by_tests true Normal p w c a = refl
 by_tests true StateTransfer true w c a = refl

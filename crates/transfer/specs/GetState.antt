@@ -1,6 +1,6 @@
 -- on_get_state, on the state by value and the bytes of log and area. Assumes nothing.
 use Rattle.std.specs.Prelude.{◌≡◌, Bool, true, false, not, List, ℕ, ◌+◌, ◌-◌, ◌*◌, ◌≤◌, ltb, leb, eqb, length, take, drop}
-use Rattle.numbers.specs.Words.{if◌then◌else◌}
+use Rattle.numbers.specs.Words.{when◌then◌else◌}
 use Rattle.numbers.specs.Numbers.{over}
 use Rattle.numbers.specs.declared.View.{View}
 use Rattle.numbers.specs.declared.Op.{Op}
@@ -23,8 +23,8 @@ pub record Reading (s : Replica) (log : ℕ) : Type 0 where
 -- in Normal, in our view, from an op that we have
 unfoldable pub answers : Replica → View → Op → Bool
 answers s v o =
-    if not (is_normal s.status) then false else
-    if not (eqb v.0 s.view.0) then false else
+    when not (is_normal s.status) then false else
+    when not (eqb v.0 s.view.0) then false else
     leb o.0 s.op.0
 
 -- a NewState of our log after op o
@@ -34,8 +34,8 @@ new_state_length s o = 23 + 32 * (s.op.0 - o.0)
 -- on_get_state
 unfoldable pub get_state_step : Replica → (from : ℕ) → View → Op → (log out : List ℕ) → Spoke
 get_state_step s from v o log out =
-    if not (answers s v o) then spoke (quiet s) out else
-    if ltb (length out) (new_state_length s o) then spoke (refusal 9 s) out else
+    when not (answers s v o) then spoke (quiet s) out else
+    when ltb (length out) (new_state_length s o) then spoke (refusal 9 s) out else
     spoke
     (completed s (new_state_length s o) 0 false)
     (over (encode from (NewState v o s.op s.commit) (take (32 * (s.op.0 - o.0)) (drop (entry_place o.0) log))) out)

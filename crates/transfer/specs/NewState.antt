@@ -2,7 +2,7 @@
 -- only the excess is appended. Catching up, it must start exactly at our commit number. Refusal 6 only where it is used, on the log that would
 -- result. Acks aren't cleared. Assumes nothing.
 use Rattle.std.specs.Prelude.{Bool, true, false, not, List, ℕ, ◌-◌, ◌*◌, ◌≤◌, ltb, leb, eqb, length, take, drop}
-use Rattle.numbers.specs.Words.{if◌then◌else◌}
+use Rattle.numbers.specs.Words.{when◌then◌else◌}
 use Rattle.numbers.specs.declared.View.{View}
 use Rattle.entries.specs.Entries.{entries}
 use Rattle.frames.specs.declared.Status.TheVariants.{Normal}
@@ -30,22 +30,22 @@ part_of a z c = record { start = a; end = z; commit = c }
 
 unfoldable pub transfer_use : Replica → Part → Use
 transfer_use s p =
-    if ltb s.op.0 p.start.0 then Hear else
-    if leb p.end.0 s.op.0 then Hear else
+    when ltb s.op.0 p.start.0 then Hear else
+    when leb p.end.0 s.op.0 then Hear else
     Fill
 
 unfoldable pub change_use : Replica → Part → Use
 change_use s p =
-    if not s.catching then Hear else
-    if not (eqb p.start.0 s.commit.0) then Hear else
+    when not s.catching then Hear else
+    when not (eqb p.start.0 s.commit.0) then Hear else
     Install
 
 -- one of our view counts as heard, in Normal too
 unfoldable pub use_of : Replica → View → Part → Use
 use_of s v p =
-    if not (eqb v.0 s.view.0) then Ignore else
-    if is_transfer s.status then transfer_use s p else
-    if is_changing s.status then change_use s p else
+    when not (eqb v.0 s.view.0) then Ignore else
+    when is_transfer s.status then transfer_use s p else
+    when is_changing s.status then change_use s p else
     Hear
 
 -- k entries of `part` after the first n of the log
@@ -55,8 +55,8 @@ with_part n k part x = record { log = with_entries n (take (32 * k) part) x.log;
 -- The log's first n entries and then the k of `part`: refusal 6, then 9; then the state t commits and acknowledges.
 unfoldable pub extended : (s t : Replica) (n k : ℕ) → Part → (installed : Bool) (part : List ℕ) → Runs → List ℕ → Left
 extended s t n k p installed part x out =
-    if not (rises_after (entries n x.log) (entries k part)) then left (refusal 6 s) x out else
-    if ltb (length out) 16 then left (refusal 9 s) x out else
+    when not (rises_after (entries n x.log) (entries k part)) then left (refusal 6 s) x out else
+    when ltb (length out) 16 then left (refusal 9 s) x out else
     committed_and_acked s t p.commit installed (with_part n k part x) out
 
 -- in StateTransfer: `rest` begins with the excess

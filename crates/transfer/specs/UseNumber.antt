@@ -1,7 +1,7 @@
 -- What a NewState is used for, as number and values: no case is a refusal, so the number is 0 (refusal 6 comes later, on the log that would result). The values are
 -- 1 or 0 for three things: it is of our view, so the primary was heard; it fills the gap after our log; it replaces what isn't committed. Assumes nothing.
 use Rattle.std.specs.Prelude.{◌≡◌, [], ◌∷◌, eqb, ltb, leb}
-use Rattle.numbers.specs.Words.{if◌then◌else◌, ◌and◌}
+use Rattle.numbers.specs.Words.{when◌then◌else◌, ◌and◌}
 use Rattle.numbers.specs.declared.View.{View}
 use Rattle.frames.specs.Numbered.{Numbered, numbered}
 use Rattle.state.specs.Statuses.{is_transfer, is_changing}
@@ -21,9 +21,9 @@ use_number Install = numbered 0 (1 ∷ 0 ∷ 1 ∷ [])
 unfoldable pub use_numbers : Replica → View → Part → Numbered
 use_numbers s v p =
     numbered 0
-    ((if eqb v.0 s.view.0 then 1 else 0)
-    ∷ (if eqb v.0 s.view.0 and is_transfer s.status and leb p.start.0 s.op.0 and ltb s.op.0 p.end.0 then 1 else 0)
-    ∷ (if eqb v.0 s.view.0 and is_changing s.status and s.catching and eqb p.start.0 s.commit.0 then 1 else 0)
+    ((when eqb v.0 s.view.0 then 1 else 0)
+    ∷ (when eqb v.0 s.view.0 and is_transfer s.status and leb p.start.0 s.op.0 and ltb s.op.0 p.end.0 then 1 else 0)
+    ∷ (when eqb v.0 s.view.0 and is_changing s.status and s.catching and eqb p.start.0 s.commit.0 then 1 else 0)
     ∷ [])
 
 -- what `use_of` promises: the enum, and its number and values

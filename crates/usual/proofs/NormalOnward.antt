@@ -21,6 +21,7 @@ use Rattle.state_bytes.specs.Layout.{Onward}
 use Rattle.book.specs.Memory.{Runs, Memory}
 use Rattle.steps.specs.Steps.{Spoke, Left, accept_of, asked_for_state, transferred, deferred, committed_and_acked}
 use Rattle.steps.specs.declared.Accept.{Accept}
+use Rattle.steps.specs.declared.Accept.TheVariants.{Hear, Take}
 use Rattle.normal.specs.Request as Request
 use Rattle.normal.specs.Request.{request_step}
 use Rattle.normal.specs.Prepare as Prepare
@@ -58,16 +59,24 @@ module _ (s : Replica) where
   unfolding transferred asked_for_state
   transferred-onward out = split Speaks _ _ _ (λ _. refl) (λ _. refl)
 
+  heard-onward : (v : View) (out : List ℕ) → Speaks (deferred Hear s v out)
+  unfolding deferred
+  heard-onward v out = refl
+
+  took-onward : (v : View) (out : List ℕ) → Speaks (deferred Take s v out)
+  unfolding deferred
+  took-onward v out = refl
+
   -- of our view, in Normal: neither ignored nor a reason to catch up
   deferred-onward : is_normal s.status ≡ true → (v : View) → v.0 ≡ s.view.0 → (out : List ℕ) → Speaks (deferred (accept_of s v) s v out)
-  unfolding accept_of deferred
+  unfolding accept_of
   deferred-onward n v e out =
       let Goes : Accept → Type 0 = λ a. Speaks (deferred a s v out) in
       split Goes _ _ _ (λ l. absurd (omega (arith, e, ltb-true v.0 s.view.0 l))) λ _.
       split Goes _ _ _ (λ l. absurd (omega (arith, e, ltb-true s.view.0 v.0 l))) λ _.
       split Goes _ _ _ (λ c. absurd (not-changing s.status n c)) λ _.
-      split Goes _ _ _ (λ _. refl) λ _.
-      split Goes _ _ _ (λ _. refl) (λ _. refl)
+      split Goes _ _ _ (λ _. heard-onward v out) λ _.
+      split Goes _ _ _ (λ _. heard-onward v out) (λ _. took-onward v out)
 
   -- ---- Request
 

@@ -10,7 +10,7 @@ use borrow.Author.Tests.{eqb-true, leb-true, not-false}
 use lib.Dec.{ltb, eqb}
 use lib.ListN.{length}
 use Rattle.numbers.specs.Numbers.{num}
-use Rattle.numbers.specs.Words.{if◌then◌else◌}
+use Rattle.numbers.specs.Words.{when◌then◌else◌}
 use Rattle.frames.specs.Kinds.{kind_of}
 use Rattle.numbers.proofs.WordLaws.{split}
 use Rattle.frames.specs.Messages.{message_of}
@@ -49,12 +49,12 @@ module _ (s : Replica) (n : is_normal s.status ≡ true) (latest : Latest) (fram
 
   -- a Recovery
   by-answered : kind_of frame ≡ 10 → is_answered s.view.0 frame ≡ true → Handles (handled (message_of (kind_of frame) frame) s latest frame m)
-  unfolding message_of handled if◌then◌else◌
+  unfolding message_of handled when◌then◌else◌
   by-answered k e = rw k (recovery-onward s _ _ _ (answered-view s.view.0 frame e) m.runs.log m.out)
 
   -- by its kind
   kind-onward : usual_kind s.view.0 frame ≡ true → Handles (handled (message_of (kind_of frame) frame) s latest frame m)
-  unfolding usual_kind message_of handled if◌then◌else◌
+  unfolding usual_kind message_of handled when◌then◌else◌
   kind-onward =
       let k = kind_of frame in
       let Goes : Bool → Type 0 = λ u. u ≡ true → Handles (handled (message_of k frame) s latest frame m) in
@@ -109,7 +109,7 @@ module _ (s : Replica) where
 
   module _ (n : is_normal s.status ≡ true) (l : leads s ≡ true) where
     step-clocked : (m : Memory) → Clocked s (idle_step s m).answer.state
-    unfolding idle_step normal_tick if◌then◌else◌
+    unfolding idle_step normal_tick when◌then◌else◌
     step-clocked m = rw (n, l) (primary-clocked m.runs.log m.out)
 
     tick-clocked : (x : Lent) → Clocked s (idle_call s x).answer.state

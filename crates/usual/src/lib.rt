@@ -1,5 +1,7 @@
 // The usual calls: a Request, a PrepareOk, a Prepare or Commit of its view, or a Recovery of no later view, given to a Normal replica; and the tick of a Normal primary.
 // They leave all of the state but status, op and commit number, takings and the clock, so that who keeps it in bytes needs to write no more.
+#![tactic(auto)]
+
 ghost use Rattle.std.specs.Prelude.{◌≡◌};
 ghost use Rattle.usual.specs.Usual.{is_answered, is_usual, is_leading};
 

@@ -1,12 +1,12 @@
 -- The ways out of start_view_change, on plain variables. Assumes nothing.
 use mathlib.Core.Path.{◌≡◌, refl}
 use mathlib.Core.Bool.{true, false}
-use mathlib.Core.List.{List, []}
+use mathlib.Core.List.{List}
 use Prim.Native.Nat.{ℕ, ◌-◌, ◌*◌, ◌≤◌, ◌<◌}
 use lib.ListN.{length}
 use borrow.Author.Tests.{lt-ltb, le-ltb}
-use Rattle.numbers.specs.Words.{if◌then◌else◌}
-use Rattle.numbers.specs.Numbers.{over, Wrote}
+use Rattle.numbers.specs.Words.{when◌then◌else◌}
+use Rattle.numbers.specs.Numbers.{Wrote}
 use Rattle.numbers.specs.declared.View.{View}
 use Rattle.config.specs.Setup.{setup_ok}
 use Rattle.frames.specs.declared.Message.TheVariants.{StartViewChange}
@@ -34,10 +34,10 @@ module _ (s : Replica) (v : View) (ok : setup_ok s.setup ≡ true) where
 
 module _ (s t : Replica) (v : View) (out : List ℕ) where
   pub changes-short : (a : Returned) → length out < calls_length t → a ≡ refusal 9 s → spoke a out ≡ started_change s t v out
-  unfolding started_change if◌then◌else◌
+  unfolding started_change when◌then◌else◌
   changes-short a h p = rw (lt-ltb (length out) (calls_length t) h, p)
 
   pub changes : (a : Returned) (t' : Replica) (w : ℕ) (o : List ℕ) → setup_ok t.setup ≡ true → calls_length t ≤ length out → Wrote (calls_of t v) out o w
       → t' ≡ changing_to t v → a ≡ completed t' w 0 false → spoke a o ≡ started_change s t v out
-  unfolding started_change if◌then◌else◌
+  unfolding started_change when◌then◌else◌
   changes a t' w o ok h q e p = rw (le-ltb (length out) (calls_length t) h, p, q.bytes, q.count, calls-long t v ok, e)

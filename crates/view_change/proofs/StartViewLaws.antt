@@ -1,5 +1,5 @@
 -- The ways out of send_start_view and on_start_view, on plain variables, as the code's tests and calls give them. Assumes nothing.
-use mathlib.Core.Path.{◌≡◌, refl, sym, ap, ◌∙◌, subst}
+use mathlib.Core.Path.{◌≡◌, sym, ap, ◌∙◌, subst}
 use mathlib.Core.Bool.{Bool, true, false, not}
 use mathlib.Core.List.{List}
 use Prim.Native.Nat.{ℕ, ◌+◌, ◌*◌, ◌≤◌, ◌<◌}
@@ -7,8 +7,8 @@ use native.Mathlib.Omega.{arith}
 use lib.Dec.{ltb}
 use lib.ListN.{length, take, replicate}
 use lib.Seq.{length-take-le}
-use borrow.Author.Tests.{lt-ltb, le-ltb, leb-true}
-use Rattle.numbers.specs.Words.{if◌then◌else◌}
+use borrow.Author.Tests.{lt-ltb, le-ltb}
+use Rattle.numbers.specs.Words.{when◌then◌else◌}
 use Rattle.numbers.specs.Numbers.{over, Wrote}
 use Rattle.numbers.proofs.WordLaws.{split}
 use Rattle.numbers.specs.declared.View.{View}
@@ -24,7 +24,6 @@ use Rattle.book.proofs.LogLaws.{with-length, keeps-prefix}
 use Rattle.state.specs.State.{with_log, normal_in}
 use Rattle.state.specs.Statuses.{is_changing}
 use Rattle.state.specs.Answers.{refusal, completed, quiet}
-use Rattle.state.specs.Lengths.{acks_length}
 use Rattle.state.specs.declared.Returned.{Returned}
 use Rattle.state.specs.declared.Replica.{Replica}
 use Rattle.steps.specs.Steps.{Sound, left, spoke, committed_and_acked}
@@ -37,7 +36,7 @@ use Rattle.view_change.specs.StartView.{LogHeld, LogPassed, start_view_length, s
 
 module _ (s : Replica) (to : ℕ) (log out : List ℕ) where
   pub sends-short : (a : Returned) → length out < start_view_length s → a ≡ refusal 9 s → spoke a out ≡ sent_start_view s to log out
-  unfolding sent_start_view if◌then◌else◌
+  unfolding sent_start_view when◌then◌else◌
   sends-short a h p = rw (lt-ltb (length out) (start_view_length s) h, p)
 
   module _ (h : LogHeld s (length log)) where
@@ -56,7 +55,7 @@ module _ (s : Replica) (to : ℕ) (log out : List ℕ) where
     pub sends : (a : Returned) (w : ℕ) (o : List ℕ) → start_view_length s ≤ length out
         → Wrote (encode to (StartView s.view s.op s.commit) (take (32 * s.op.0) log)) out o w → a ≡ completed s w 0 false
         → spoke a o ≡ sent_start_view s to log out
-    unfolding sent_start_view if◌then◌else◌
+    unfolding sent_start_view when◌then◌else◌
     sends a w o l q p = rw (le-ltb (length out) (start_view_length s) l, p, q.bytes, q.count, long)
 
 -- ---- on_start_view, its verdict
@@ -70,30 +69,30 @@ module _ (s : Replica) (o : Op) (part log : List ℕ) where
       (omega (arith, l, h.op_le, z.room-high), (omega (arith, p, place_is s.setup.room, h.log-long), g))
 
   pub keeps-ours : (b : Bool) → b ≡ keeps_first s.commit.0 log o.0 part → b ≡ true → Join ≡ keep_verdict s o part log
-  unfolding keep_verdict if◌then◌else◌
+  unfolding keep_verdict when◌then◌else◌
   keeps-ours b p q = rw (← p, q)
 
   pub alters-ours : (b : Bool) → b ≡ keeps_first s.commit.0 log o.0 part → b ≡ false → Refuse ≡ keep_verdict s o part log
-  unfolding keep_verdict if◌then◌else◌
+  unfolding keep_verdict when◌then◌else◌
   alters-ours b p q = rw (← p, q)
 
   module _ (v : View) where
     pub older : v.0 < s.view.0 → Ignore ≡ start_view_verdict s v o part log
-    unfolding start_view_verdict if◌then◌else◌
+    unfolding start_view_verdict when◌then◌else◌
     older h = rw (lt-ltb v.0 s.view.0 h)
 
     module _ (g : s.view.0 ≤ v.0) where
       pub newer : (r : StartViewVerdict) → s.view.0 < v.0 → r ≡ keep_verdict s o part log → r ≡ start_view_verdict s v o part log
-      unfolding start_view_verdict if◌then◌else◌
+      unfolding start_view_verdict when◌then◌else◌
       newer r h p = rw (le-ltb v.0 s.view.0 g, lt-ltb s.view.0 v.0 h, p)
 
       pub known : v.0 ≤ s.view.0 → not (is_changing s.status) ≡ true → Ignore ≡ start_view_verdict s v o part log
-      unfolding start_view_verdict if◌then◌else◌
+      unfolding start_view_verdict when◌then◌else◌
       known h n = rw (le-ltb v.0 s.view.0 g, le-ltb s.view.0 v.0 h, n)
 
       pub awaited : (r : StartViewVerdict) → v.0 ≤ s.view.0 → not (is_changing s.status) ≡ false → r ≡ keep_verdict s o part log
           → r ≡ start_view_verdict s v o part log
-      unfolding start_view_verdict if◌then◌else◌
+      unfolding start_view_verdict when◌then◌else◌
       awaited r h n p = rw (le-ltb v.0 s.view.0 g, le-ltb s.view.0 v.0 h, n, p)
 
 -- what a verdict says of the numbers
@@ -126,7 +125,7 @@ module _ (s : Replica) (v : View) (o c : Op) (part log results totals acks out :
   x = runs log results totals
 
   pub joins-short : (a : Returned) → length out < 16 → a ≡ refusal 9 s → joined a (runs log results totals) acks out ≡ joined_by s v o c part (runs log results totals) acks out
-  unfolding joined_by if◌then◌else◌
+  unfolding joined_by when◌then◌else◌
   joins-short a h p = rw (lt-ltb (length out) 16 h, p)
 
   module _ (h : Sound s (runs log results totals)) (k : LogPassed s o c) (l : s.commit.0 ≤ o.0) (g : 32 * o.0 ≤ length part) where
@@ -156,7 +155,7 @@ module _ (s : Replica) (v : View) (o c : Op) (part log results totals acks out :
       → log' ≡ with_entries 0 (take (32 * o.0) part) log → acks' ≡ over (replicate s.setup.room 0) acks
       → left a (runs log' results' totals') out' ≡ committed_and_acked s t c true (runs log' results totals) out
       → joined a (runs log' results' totals') acks' out' ≡ joined_by s v o c part (runs log results totals) acks out
-  unfolding joined_by if◌then◌else◌
+  unfolding joined_by when◌then◌else◌
   joins a t log' results' totals' acks' out' h p q r e =
       rw (le-ltb (length out) 16 h)
       (λ i.

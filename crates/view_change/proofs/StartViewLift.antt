@@ -13,7 +13,7 @@ use lib.Dec.{ltb, eqb}
 use lib.ListN.{length, take, replicate, length-replicate}
 use lib.Seq.{length-take-le}
 use borrow.Author.Tests.{ltb-true, ltb-false, eq-eqb, ne_eqb, not-false}
-use Rattle.numbers.specs.Words.{if◌then◌else◌, ◌and◌}
+use Rattle.numbers.specs.Words.{when◌then◌else◌, ◌and◌}
 use Rattle.numbers.specs.Numbers.{over, Bytes}
 use Rattle.numbers.specs.declared.View.{View}
 use Rattle.numbers.specs.declared.Op.{Op}
@@ -68,7 +68,7 @@ use Rattle.numbers.proofs.RunLaws.{over-all}
 pub changing-reads : (s : Replica) (x : LentRuns) (table : List ClientEntry) (applied : List Entry) (v : View) → s.setup.n ≤ 7
     → is_recovering s.status ≡ false
     → model_of (S.changing_to s v) x table applied ≡ changing_to s.setup (model_of s x table applied) v.0
-unfolding model_of store_of changing_to cleared_votes cleared_store no_reports is_recovering if◌then◌else◌
+unfolding model_of store_of changing_to cleared_votes cleared_store no_reports is_recovering when◌then◌else◌
 changing-reads s x table applied v h r = rw (reports-cleared s.setup x.stored h, r)
 
 changing-book : (u : Setup) (m : State) (w : ℕ) → (changing_to u m w).book ≡ m.book
@@ -264,7 +264,7 @@ module _ (c : Given) (table : List ClientEntry) (applied : List Entry) (v : View
         ∙ install-lift M c.state.op.0 i c.runs.log x.money c.state.takings table applied 0 o.0 part (omega arith) fits.1.0 h.long
 
     new-store : store_of r c.runs.stored ≡ cleared_store c.state.setup was
-    unfolding model_of store_of cleared_store no_reports is_recovering if◌then◌else◌
+    unfolding model_of store_of cleared_store no_reports is_recovering when◌then◌else◌
     new-store = rw (reports-cleared c.state.setup c.runs.stored (sized c.state.setup h.sound.sized).seven, h.looks)
 
     new-acks : acks ≡ no_acks c.state.setup
@@ -318,7 +318,7 @@ module _ (c : Given) (table : List ClientEntry) (applied : List Entry) (v : View
   -- the model's answer to one that is new
   abbrev taken : Answer
   taken =
-      if not (agree was.book.commit es was.book.log) then refused 7 else
+      when not (agree was.book.commit es was.book.log) then refused 7 else
       done after (send_prepare_ok c.state.setup after) []
 
   goal-keep : Goal (keep_verdict c.state o part c.runs.log) taken
@@ -329,12 +329,12 @@ module _ (c : Given) (table : List ClientEntry) (applied : List Entry) (v : View
       (λ f. goal-join (keeps-prefix c.state.commit.0 c.runs.log o.0 part (not-false _ f)).0))
 
   abbrev rest : StartViewVerdict
-  rest = if not (is_changing c.state.status) then Ignore else keep_verdict c.state o part c.runs.log
+  rest = when not (is_changing c.state.status) then Ignore else keep_verdict c.state o part c.runs.log
 
   -- one of our view or of a later one
   goal-rest : c.state.view.0 ≤ v.0
-      → Goal (if ltb c.state.view.0 v.0 then keep_verdict c.state o part c.runs.log else rest)
-      (if eqb v.0 was.place.view and not (is_changing was.place.status) then ignored was else taken)
+      → Goal (when ltb c.state.view.0 v.0 then keep_verdict c.state o part c.runs.log else rest)
+      (when eqb v.0 was.place.view and not (is_changing was.place.status) then ignored was else taken)
   unfolding model_of
   goal-rest g =
       split P _ _ _
@@ -350,7 +350,7 @@ module _ (c : Given) (table : List ClientEntry) (applied : List Entry) (v : View
       (λ _. goal-ignore) (λ _. goal-keep))
     where
       P : StartViewVerdict → Type 0
-      P z = Goal z (if eqb v.0 c.state.view.0 and not (is_changing c.state.status) then ignored was else taken)
+      P z = Goal z (when eqb v.0 c.state.view.0 and not (is_changing c.state.status) then ignored was else taken)
 
   pub start-view-shown : Shown c (of_joined c (start_view_step c.state v o k part x c.runs.acks c.out)) was.book
       (fit (on_start_view c.state.setup was v.0 (record { commit = k.0; log = entries o.0 part })))

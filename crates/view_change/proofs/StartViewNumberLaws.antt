@@ -7,7 +7,7 @@ use mathlib.Core.Logic.{⊎_elim}
 use Prim.Native.Nat.{ℕ, ◌<◌}
 use native.Mathlib.Omega.{arith}
 use borrow.Author.Tests.{lt-ltb, le-ltb, eq-eqb, ne_eqb}
-use Rattle.numbers.specs.Words.{if◌then◌else◌, ◌and◌, ◌or◌}
+use Rattle.numbers.specs.Words.{when◌then◌else◌, ◌and◌, ◌or◌}
 use Rattle.numbers.specs.declared.View.{View}
 use Rattle.numbers.specs.declared.Op.{Op}
 use Rattle.numbers.proofs.NumberLaws.{le-or-lt}
@@ -21,16 +21,16 @@ use Rattle.view_change.specs.declared.StartViewVerdict.{StartViewVerdict}
 use Rattle.view_change.specs.declared.StartViewVerdict.TheVariants.{Ignore, Refuse, Join}
 
 -- a new one, by whether it keeps our committed entries
-kept : (keeps : Bool) → start_view_number (if keeps then Join else Refuse) ≡ (if not keeps then numbered 7 [] else numbered 0 (1 ∷ []))
-unfolding if◌then◌else◌
+kept : (keeps : Bool) → start_view_number (when keeps then Join else Refuse) ≡ (when not keeps then numbered 7 [] else numbered 0 (1 ∷ []))
+unfolding when◌then◌else◌
 kept true = refl
 kept false = refl
 
 -- one of our view, by whether we are changing to it
 ours : (changing keeps : Bool)
-    → start_view_number (if not changing then Ignore else if keeps then Join else Refuse)
-    ≡ (if not changing then numbered 0 (0 ∷ []) else if not keeps then numbered 7 [] else numbered 0 (1 ∷ []))
-unfolding if◌then◌else◌
+    → start_view_number (when not changing then Ignore else when keeps then Join else Refuse)
+    ≡ (when not changing then numbered 0 (0 ∷ []) else when not keeps then numbered 7 [] else numbered 0 (1 ∷ []))
+unfolding when◌then◌else◌
 ours false k = refl
 ours true k = kept k
 
@@ -42,15 +42,15 @@ module _ (s : Replica) (v : View) (o : Op) (part log : List ℕ) where
   keeps = keeps_first s.commit.0 log o.0 part
 
   earlier : v.0 < s.view.0 → Same
-  unfolding start_view_verdict start_view_numbers if◌then◌else◌ ◌and◌ ◌or◌
+  unfolding start_view_verdict start_view_numbers when◌then◌else◌ ◌and◌ ◌or◌
   earlier h = rw (lt-ltb v.0 s.view.0 h, le-ltb s.view.0 v.0 (omega arith), ne_eqb v.0 s.view.0 (λ e. omega arith))
 
   later : s.view.0 < v.0 → Same
-  unfolding start_view_verdict keep_verdict start_view_numbers if◌then◌else◌ ◌and◌ ◌or◌
+  unfolding start_view_verdict keep_verdict start_view_numbers when◌then◌else◌ ◌and◌ ◌or◌
   later h = rw (lt-ltb s.view.0 v.0 h, le-ltb v.0 s.view.0 (omega arith)) (kept keeps)
 
   now : v.0 ≡ s.view.0 → Same
-  unfolding start_view_verdict keep_verdict start_view_numbers if◌then◌else◌ ◌and◌ ◌or◌
+  unfolding start_view_verdict keep_verdict start_view_numbers when◌then◌else◌ ◌and◌ ◌or◌
   now e =
       rw (eq-eqb v.0 s.view.0 e, le-ltb v.0 s.view.0 (omega arith), le-ltb s.view.0 v.0 (omega arith))
       (ours (is_changing s.status) keeps)

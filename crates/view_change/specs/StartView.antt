@@ -1,7 +1,7 @@
 -- send_start_view and on_start_view, on the state by value and the bytes of the lent runs. A StartView of our own view is new only while we are
 -- changing to it. Refusal 7 where it would shorten or alter our committed entries. PrepareOk then goes out always. Assumes nothing.
-use Rattle.std.specs.Prelude.{◌≡◌, Bool, true, false, not, List, ℕ, ◌+◌, ◌*◌, ◌≤◌, ltb, length, take, replicate}
-use Rattle.numbers.specs.Words.{if◌then◌else◌}
+use Rattle.std.specs.Prelude.{◌≡◌, true, false, not, List, ℕ, ◌+◌, ◌*◌, ◌≤◌, ltb, length, take, replicate}
+use Rattle.numbers.specs.Words.{when◌then◌else◌}
 use Rattle.numbers.specs.Numbers.{over}
 use Rattle.numbers.specs.declared.View.{View}
 use Rattle.numbers.specs.declared.Op.{Op}
@@ -39,20 +39,20 @@ start_view_length s = 19 + 32 * s.op.0
 -- send_start_view, to one replica
 unfoldable pub sent_start_view : Replica → (to : ℕ) (log out : List ℕ) → Spoke
 sent_start_view s to log out =
-    if ltb (length out) (start_view_length s) then spoke (refusal 9 s) out else
+    when ltb (length out) (start_view_length s) then spoke (refusal 9 s) out else
     spoke
     (completed s (start_view_length s) 0 false)
     (over (encode to (StartView s.view s.op s.commit) (take (32 * s.op.0) log)) out)
 
 -- refusal 7
 unfoldable pub keep_verdict : Replica → Op → (part log : List ℕ) → StartViewVerdict
-keep_verdict s o part log = if keeps_first s.commit.0 log o.0 part then Join else Refuse
+keep_verdict s o part log = when keeps_first s.commit.0 log o.0 part then Join else Refuse
 
 unfoldable pub start_view_verdict : Replica → View → Op → (part log : List ℕ) → StartViewVerdict
 start_view_verdict s v o part log =
-    if ltb v.0 s.view.0 then Ignore else
-    if ltb s.view.0 v.0 then keep_verdict s o part log else
-    if not (is_changing s.status) then Ignore else
+    when ltb v.0 s.view.0 then Ignore else
+    when ltb s.view.0 v.0 then keep_verdict s o part log else
+    when not (is_changing s.status) then Ignore else
     keep_verdict s o part log
 
 -- what a StartView leaves: the answer, log, results and totals, acks, and the area for messages
@@ -80,7 +80,7 @@ clearing s acks d = joined d.answer d.runs (over (replicate s.setup.room 0) acks
 -- install_log, acks cleared, commit, PrepareOk
 unfoldable pub joined_by : Replica → View → (o c : Op) (part : List ℕ) → Runs → (acks out : List ℕ) → Joined
 joined_by s v o c part x acks out =
-    if ltb (length out) 16 then joined (refusal 9 s) x acks out else
+    when ltb (length out) 16 then joined (refusal 9 s) x acks out else
     clearing s acks (committed_and_acked s (with_log (normal_in s v) o s.commit) c true (with_log_of o part x) out)
 
 unfoldable pub by_start_view_verdict : StartViewVerdict → Replica → View → (o c : Op) (part : List ℕ) → Runs → (acks out : List ℕ) → Joined

@@ -1,7 +1,7 @@
 -- start_view_change, on the state by value and the bytes of the area: the state moves to the view, and StartViewChange goes to all others.
 -- Assumes nothing.
 use Rattle.std.specs.Prelude.{false, List, [], ℕ, ◌-◌, ◌*◌, ltb, length}
-use Rattle.numbers.specs.Words.{if◌then◌else◌}
+use Rattle.numbers.specs.Words.{when◌then◌else◌}
 use Rattle.numbers.specs.Numbers.{over}
 use Rattle.numbers.specs.declared.View.{View}
 use Rattle.frames.specs.declared.Message.TheVariants.{StartViewChange}
@@ -21,5 +21,5 @@ calls_of s v = to_others s.setup.n s.setup.id (StartViewChange v s.setup.id) []
 -- start_view_change from state t; s is the state as it was
 unfoldable pub started_change : (s t : Replica) → View → List ℕ → Spoke
 started_change s t v out =
-    if ltb (length out) (calls_length t) then spoke (refusal 9 s) out else
+    when ltb (length out) (calls_length t) then spoke (refusal 9 s) out else
     spoke (completed (changing_to t v) (calls_length t) 0 false) (over (calls_of t v) out)

@@ -15,7 +15,7 @@ use Rattle.config.specs.Replicas.{count_below}
 use lib.Dec.{leb}
 use lib.ListN.{length}
 use borrow.Author.Tests.{lt-ltb, le-ltb, not-true, not-false}
-use Rattle.numbers.specs.Words.{if◌then◌else◌}
+use Rattle.numbers.specs.Words.{when◌then◌else◌}
 use Rattle.numbers.specs.Numbers.{Wrote}
 use Rattle.numbers.specs.declared.View.{View}
 use Rattle.numbers.proofs.WordLaws.{if-true, if-false}
@@ -43,12 +43,12 @@ use Rattle.voting.specs.Votes.{sent_first, report_due, maybe_step, same_view, st
 
 module _ (s t : Replica) (first : Bool) (out : List ℕ) (k : ℕ) (ek : k ≡ first_length first t) where
   pub calls-short : (a : Returned) → length out < k → a ≡ refusal 9 s → spoke a out ≡ sent_first s t first out
-  unfolding sent_first if◌then◌else◌
+  unfolding sent_first when◌then◌else◌
   calls-short a h p = rw (← ek, lt-ltb (length out) k h, p)
 
   pub calls : setup_ok t.setup ≡ true → k ≤ length out → (a : Returned) (w : ℕ) (o : List ℕ) → Wrote (calls_first first t) out o w
       → a ≡ completed t w 0 false → spoke a o ≡ sent_first s t first out
-  unfolding sent_first if◌then◌else◌
+  unfolding sent_first when◌then◌else◌
   calls ok h a w o q p =
       let c : w ≡ k = q.count ∙ first-long first t ok ∙ sym ek in
       rw (← ek, le-ltb (length out) k h, p, q.bytes, c)

@@ -11,7 +11,7 @@ use mathlib.Core.List.{List, [], ◌++◌}
 use Rattle.config.specs.Replicas.{count_below}
 use lib.Dec.{ltb, leb}
 use lib.ListN.{length, length-append}
-use Rattle.numbers.specs.Words.{if◌then◌else◌, ◌and◌}
+use Rattle.numbers.specs.Words.{when◌then◌else◌, ◌and◌}
 use Rattle.numbers.specs.Numbers.{over}
 use Rattle.numbers.specs.declared.View.{View}
 use Rattle.numbers.proofs.WordLaws.{split₂, joined}
@@ -101,8 +101,8 @@ module _ (c : Given) (t : Replica) (k : Clock) (starts : ℕ) (sent : Bool) wher
 -- ---- maybe_send_do_view_change
 
 -- tests one after the other, and joined
-four-tests : (a b d e : Bool) → (if not a then false else if b then false else if d then false else e) ≡ (a and not b and not d and e)
-unfolding if◌then◌else◌ ◌and◌
+four-tests : (a b d e : Bool) → (when not a then false else when b then false else when d then false else e) ≡ (a and not b and not d and e)
+unfolding when◌then◌else◌ ◌and◌
 four-tests true true d e = refl
 four-tests true false true e = refl
 four-tests true false false e = refl
@@ -162,16 +162,16 @@ module _ (c : Given) (table : List ClientEntry) (applied : List Entry) (h : Chan
   -- one of our view
   goal-same : (r : ℕ) → r < c.state.setup.n
       → Goal (same_view c.state r (memory_of c))
-      (if is_changing m.place.status then maybe_send_do_view_change c.state.setup (voted_for c.state.setup m r) [] else
-      if is_normal m.place.status and is_primary c.state.setup m then done m (send_start_view m r) [] else
+      (when is_changing m.place.status then maybe_send_do_view_change c.state.setup (voted_for c.state.setup m r) [] else
+      when is_normal m.place.status and is_primary c.state.setup m then done m (send_start_view m r) [] else
       ignored m)
   unfolding same_view leads is_primary primary model_of
   goal-same r lt =
       split₂ Goal _ _ _ _ _ _ refl (λ _. voted c.state m r false [] lt h (first-none c.state) kept refl) λ _.
       subst
       (Goal
-      (if not (is_normal c.state.status) then recorded (quiet c.state) (memory_of c) else
-      if leads c.state then only_sent (memory_of c) (sent_start_view c.state r c.runs.log c.out) else
+      (when not (is_normal c.state.status) then recorded (quiet c.state) (memory_of c) else
+      when leads c.state then only_sent (memory_of c) (sent_start_view c.state r c.runs.log c.out) else
       recorded (quiet c.state) (memory_of c)))
       (joined (is_normal c.state.status) (leads c.state) _ _)
       (split₂ Goal _ _ _ _ _ _ refl (λ _. idle-shown c table applied) λ _.
@@ -253,7 +253,7 @@ module _ (c : Given) (table : List ClientEntry) (applied : List Entry) (h : Chan
         subst
         (λ (q : State).
         Said
-        (if ltb (length c.out) (16 + calls_length c.state) then spoke (refusal 9 c.state) c.out else
+        (when ltb (length c.out) (16 + calls_length c.state) then spoke (refusal 9 c.state) c.out else
         spoke (completed t' (16 + calls_length c.state) 0 false) (over (asked_and_called c.state) c.out))
         (done q ms []))
         (changing-reads t c.runs table applied next (sized c.state.setup h.gathering.sound.sized).seven h.looks)
@@ -279,8 +279,8 @@ module _ (c : Given) (table : List ClientEntry) (applied : List Entry) (h : Chan
     -- what was sent is sent again
     abbrev again : Answer
     again =
-        if m.place.catching_up then done (set_clock m k.clock) (send_get_state c.state.setup m m.book.commit) [] else
-        if m.votes.sent then send_do_view_change c.state.setup (set_clock m k.clock) calls else
+        when m.place.catching_up then done (set_clock m k.clock) (send_get_state c.state.setup m m.book.commit) [] else
+        when m.votes.sent then send_do_view_change c.state.setup (set_clock m k.clock) calls else
         done (set_clock m k.clock) calls []
 
     goal-again : Goal (T.repeated c.state k.clock (memory_of c)) again

@@ -1,7 +1,7 @@
 -- on_idle where the wait is over, and in ViewChange, on the state by value and the bytes of the lent runs; c is the clock after the tick. Refusal 8
 -- where it would move past view 4,294,967,295. Assumes nothing.
 use Rattle.std.specs.Prelude.{Bool, true, false, List, [], ◌++◌, ℕ, ◌+◌, ltb, leb, length}
-use Rattle.numbers.specs.Words.{if◌then◌else◌}
+use Rattle.numbers.specs.Words.{when◌then◌else◌}
 use Rattle.numbers.specs.Numbers.{over}
 use Rattle.numbers.specs.declared.View.{View}
 use Rattle.config.specs.Setup.{primary_of}
@@ -29,7 +29,7 @@ in_last_view s = leb 4294967295 s.view.0
 -- in Normal and in ViewChange
 unfoldable pub next_view : Replica → Clock → List ℕ → Spoke
 next_view s c out =
-    if in_last_view s then spoke (refusal 8 s) out else
+    when in_last_view s then spoke (refusal 8 s) out else
     started_change s (with_clock s c) (view_after s) out
 
 -- in StateTransfer: GetState first, in the view that is left
@@ -38,8 +38,8 @@ asked_and_called s = encode (primary_of s.setup.n s.view) (GetState s.setup.id s
 
 unfoldable pub next_view_asking : Replica → Clock → List ℕ → Spoke
 next_view_asking s c out =
-    if in_last_view s then spoke (refusal 8 s) out else
-    if ltb (length out) (16 + calls_length s) then spoke (refusal 9 s) out else
+    when in_last_view s then spoke (refusal 8 s) out else
+    when ltb (length out) (16 + calls_length s) then spoke (refusal 9 s) out else
     spoke
     (completed (changing_to (with_clock s c) (view_after s)) (16 + calls_length s) 0 false)
     (over (asked_and_called s) out)
@@ -47,10 +47,10 @@ next_view_asking s c out =
 -- in ViewChange, where the wait isn't over: what was sent is sent again. A primary-to-be records its own DoViewChange again.
 unfoldable pub repeated : Replica → Clock → Memory → Recorded
 repeated s c m =
-    if s.catching then only_sent m (asked_for_state s (with_clock s c) s.commit m.out) else
-    if s.sent then send_step s (with_clock s c) true m else
+    when s.catching then only_sent m (asked_for_state s (with_clock s c) s.commit m.out) else
+    when s.sent then send_step s (with_clock s c) true m else
     only_sent m (sent_first s (with_clock s c) true m.out)
 
 -- on_idle in ViewChange; `up`: the wait is over
 unfoldable pub change_tick : Replica → Clock → (up : Bool) → Memory → Recorded
-change_tick s c up m = if up then only_sent m (next_view s c m.out) else repeated s c m
+change_tick s c up m = when up then only_sent m (next_view s c m.out) else repeated s c m

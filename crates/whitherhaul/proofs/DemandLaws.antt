@@ -9,7 +9,7 @@ use mathlib.Core.List.{List, [], ◌∷◌}
 use Prim.Native.Nat.{ℕ}
 use native.Mathlib.Omega.{arith}
 use borrow.Author.Tests.{ne_eqb}
-use Rattle.numbers.specs.Words.{if◌then◌else◌}
+use Rattle.numbers.specs.Words.{when◌then◌else◌}
 use Rattle.numbers.specs.declared.View.{View}
 use Rattle.numbers.proofs.WordLaws.{split, if-true, if-false}
 use Rattle.entries.specs.declared.Entry.{Entry}
@@ -175,7 +175,7 @@ not-0 : ◌≡◌ {A = ℕ} 1 0 → ⊥
 not-0 e = absurd (omega (arith, e))
 
 -- one that is done was not refused for its state run
-pub done-leaves : (state : List ℕ) (x : Lent) (b : Bool) (c : Called) (d : Ran) → d ≡ (if b then no_state state x else leaves state c) → d.code ≡ 0
+pub done-leaves : (state : List ℕ) (x : Lent) (b : Bool) (c : Called) (d : Ran) → d ≡ (when b then no_state state x else leaves state c) → d.code ≡ 0
     → d ≡ leaves state c
 done-leaves state x b c d e z =
     split (λ (r : Ran). d ≡ r → d ≡ leaves state c) b _ _ (λ _ f. absurd (not-0 (sym (ap (λ (r : Ran). r.code) f) ∙ z))) (λ _ f. f) e

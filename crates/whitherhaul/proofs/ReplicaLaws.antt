@@ -15,7 +15,7 @@ use Prim.Native.Nat.{ℕ, ◌≤◌, ◌<◌}
 use native.Mathlib.Omega.{arith}
 use lib.ListN.{length}
 use borrow.Author.Tests.{ne_eqb, eq-eqb, not-true, not-false, lt-ltb, le-ltb, ltb-false}
-use Rattle.numbers.specs.Words.{if◌then◌else◌}
+use Rattle.numbers.specs.Words.{when◌then◌else◌}
 use Rattle.numbers.specs.declared.View.{View}
 use Rattle.numbers.proofs.WordLaws.{if-true, if-false, split, and_both}
 use Rattle.numbers.proofs.NumberLaws.{eq-or-not}
@@ -155,7 +155,7 @@ create-sends u x = split (λ (d : Started). (d.answer.messages ≡ 0) × (d.answ
 
 -- what one that is refused by 1 leaves
 outside-leaves : (state : List ℕ) (x : Lent) → leaves state (called (refusal 1 no_replica) x) ≡ ran 1 (0 ∷ 0 ∷ []) state x
-unfolding kept_state if◌then◌else◌
+unfolding kept_state when◌then◌else◌
 outside-leaves state x = refl
 
 module _ (u : Setup) (state : List ℕ) (x : Lent) where
@@ -229,8 +229,8 @@ module _ (u : Setup) (v : View) (nonce : ℕ) (state : List ℕ) (x : Lent) wher
 
 -- ---- a frame that may be a usual one
 
-fails : (a b : Bool) → (if a then false else b) ≡ true → (a ≡ false) × (b ≡ true)
-unfolding if◌then◌else◌
+fails : (a b : Bool) → (when a then false else b) ≡ true → (a ≡ false) × (b ≡ true)
+unfolding when◌then◌else◌
 fails true b p = absurd (false≢true p)
 fails false b p = (refl, p)
 

@@ -1,7 +1,7 @@
 -- The client's calls at the C boundary: the record lies in a lent run. A run that holds no record is refused by 1; a refused call leaves record and area as they were,
 -- and its other answers are 0. Assumes nothing.
 use Rattle.std.specs.Prelude.{◌≡◌, true, not, List, [], ◌∷◌, ℕ, eqb, length}
-use Rattle.numbers.specs.Words.{if◌then◌else◌}
+use Rattle.numbers.specs.Words.{when◌then◌else◌}
 use Rattle.numbers.specs.declared.View.{View}
 use Rattle.client.specs.declared.Client.{Client}
 use Rattle.client.specs.declared.AfterCreate.{AfterCreate}
@@ -17,7 +17,7 @@ use Rattle.client_bytes.specs.Layout.{record_of, encode_record, record_ok}
 
 -- the record's run after a call with this refusal number
 unfoldable pub kept_record : (refusal : ℕ) → Client → (run : List ℕ) → List ℕ
-kept_record k c run = if eqb k 0 then encode_record c else run
+kept_record k c run = when eqb k 0 then encode_record c else run
 
 -- create
 pub record ClientCreated : Type 0 where
@@ -26,7 +26,7 @@ pub record ClientCreated : Type 0 where
 
 unfoldable pub client_create_run : (n id : ℕ) (run : List ℕ) → ClientCreated
 client_create_run n id run =
-    if not (eqb (length run) 54) then record { code = 1; run = run } else
+    when not (eqb (length run) 54) then record { code = 1; run = run } else
     record { code = (create_of n id).refusal; run = kept_record (create_of n id).refusal (create_of n id).client run }
 
 -- on_request; answers: the request's number, bytes written
@@ -47,7 +47,7 @@ after_request a run area =
 
 unfoldable pub request_run : (run : List ℕ) (operation member cents : ℕ) (area : List ℕ) → Requested
 request_run run operation member cents area =
-    if not (record_ok run) then record { code = 1; answers = 0 ∷ 0 ∷ []; run = run; area = area } else
+    when not (record_ok run) then record { code = 1; answers = 0 ∷ 0 ∷ []; run = run; area = area } else
     after_request (requested_of (record_of run) operation member cents (length area)) run
     (requested_area (record_of run) operation member cents area)
 
@@ -63,7 +63,7 @@ after_reply a run =
 
 unfoldable pub reply_run : (run : List ℕ) (number : ℕ) → View → Replied
 reply_run run number v =
-    if not (record_ok run) then record { code = 1; answers = 0 ∷ []; run = run } else
+    when not (record_ok run) then record { code = 1; answers = 0 ∷ []; run = run } else
     after_reply (replied_of (record_of run) number v) run
 
 -- on_idle: the record is only read; answers: bytes written
@@ -77,7 +77,7 @@ after_idle a area = record { code = a.refusal; answers = a.written ∷ []; area 
 
 unfoldable pub client_idle_run : (run area : List ℕ) → Idled
 client_idle_run run area =
-    if not (record_ok run) then record { code = 1; answers = 0 ∷ []; area = area } else
+    when not (record_ok run) then record { code = 1; answers = 0 ∷ []; area = area } else
     after_idle (idled_of (record_of run) (length area)) (idled_area (record_of run) area)
 
 -- a Reply, read; answers: view, client, request, outcome, total

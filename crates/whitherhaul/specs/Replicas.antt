@@ -1,13 +1,13 @@
 -- The replica's calls at the C boundary: the state lies in a lent run, and a call that isn't refused leaves its next state there. A run that holds no state is
 -- refused by 1, and a refused call leaves that run and all else as it was, with counts of 0. Assumes nothing.
 use Rattle.std.specs.Prelude.{◌≡◌, Bool, true, false, not, List, [], ◌∷◌, ℕ, eqb, ltb, length}
-use Rattle.numbers.specs.Words.{if◌then◌else◌}
+use Rattle.numbers.specs.Words.{when◌then◌else◌}
 use Rattle.numbers.specs.declared.View.{View}
 use Rattle.config.specs.declared.Setup.{Setup}
 use Rattle.state.specs.declared.Returned.{Returned}
 use Rattle.state.specs.declared.Replica.{Replica}
 use Rattle.replica.specs.Calls.{message_call, idle_call, create_call, recover_call}
-use Rattle.replica.specs.Lent.{Lent, Called, lent_before, lent_after}
+use Rattle.replica.specs.Lent.{Lent, Called}
 use Rattle.outside.specs.Takings.{taken, takings_call}
 use Rattle.outside.specs.declared.takings.Taken.{Taken}
 use Rattle.replica.specs.Promise.{MessagePromise, IdlePromise, CreatePromise, RecoverPromise, TakingsPromise}
@@ -29,7 +29,7 @@ Ends promise code counts state before after = promise before (ran code counts st
 
 -- the state run after a call
 unfoldable pub kept_state : Returned → (state : List ℕ) → List ℕ
-kept_state a state = if eqb a.code 0 then encode_state a.state else state
+kept_state a state = when eqb a.code 0 then encode_state a.state else state
 
 -- what a call of the replica leaves here
 abbrev pub leaves : (state : List ℕ) → Called → Ran
@@ -43,28 +43,28 @@ no_state state x = ran 1 (0 ∷ 0 ∷ []) state x
 -- on_message, on_idle
 unfoldable pub message_run : (state frame : List ℕ) → Lent → Ran
 message_run state frame x =
-    if not (state_ok state) then no_state state x else
+    when not (state_ok state) then no_state state x else
     leaves state (message_call (state_of state) frame x)
 
 unfoldable pub idle_run : (state : List ℕ) → Lent → Ran
 idle_run state x =
-    if not (state_ok state) then no_state state x else
+    when not (state_ok state) then no_state state x else
     leaves state (idle_call (state_of state) x)
 
 -- new, recover: what the state run held doesn't matter, only its length
 unfoldable pub create_run : Setup → (state : List ℕ) → Lent → Ran
 create_run u state x =
-    if not (eqb (length state) 154) then no_state state x else
+    when not (eqb (length state) 154) then no_state state x else
     leaves state (create_call u x)
 
 unfoldable pub recover_run : Setup → View → (nonce : ℕ) → (state : List ℕ) → Lent → Ran
 recover_run u v k state x =
-    if not (eqb (length state) 154) then no_state state x else
+    when not (eqb (length state) 154) then no_state state x else
     leaves state (recover_call u v k x)
 
 -- takings: of the state that the run holds; it is only read
 unfoldable pub takings_run : (state : List ℕ) → Taken
-takings_run state = if state_ok state then takings_call (state_of state) else taken 1 0
+takings_run state = when state_ok state then takings_call (state_of state) else taken 1 0
 
 -- The run holds the state that the call answered: so the next call at the boundary is the next call of the replica.
 pub record StateHeld (state : List ℕ) (s : Replica) : Type 0 where
@@ -98,7 +98,7 @@ pub record TakingsRan (state : List ℕ) (r : Taken) : Type 0 where
 
 -- whether a frame may be a usual one: it names a kind, and no report is there
 unfoldable pub may_be_usual : (quiet : Bool) (frame : List ℕ) → Bool
-may_be_usual quiet frame = if ltb (length frame) 7 then false else quiet
+may_be_usual quiet frame = when ltb (length frame) 7 then false else quiet
 
 -- what the state run holds after an answer
 pub record KeptIn (a : Returned) (before after : List ℕ) (code : ℕ) : Type 0 where

@@ -11,7 +11,7 @@ use native.Mathlib.Omega.{arith}
 use borrow.Author.Tests.{le-leb}
 use lib.Dec.{lit≤}
 use lib.ListN.{length}
-use Rattle.numbers.specs.Words.{if◌then◌else◌, ◌and◌, ◌or◌}
+use Rattle.numbers.specs.Words.{when◌then◌else◌, ◌and◌, ◌or◌}
 use Rattle.numbers.specs.Numbers.{big, num, within}
 use Rattle.numbers.specs.declared.View.{View}
 use Rattle.numbers.specs.declared.Op.{Op}
@@ -57,32 +57,32 @@ Encodable (RecoveryResponse v x r (Present o c)) log =
 -- ---- kinds of one length
 
 parse-prepareok : (to : ℕ) (v : View) (o : Op) (r : ℕ) (log : List ℕ) → to < 2 ^ 8 → Encodable (PrepareOk v o r) log → parse_frame (encode to (PrepareOk v o r) log) ≡ Frame to (PrepareOk v o r)
-unfolding encode header big num encode_entry room_of count_of fields_ok message_of response_state entries_ok head_ok parse_frame well_formed body_ok within if◌then◌else◌ ◌and◌
+unfolding encode header big num encode_entry room_of count_of fields_ok message_of response_state entries_ok head_ok parse_frame well_formed body_ok within when◌then◌else◌ ◌and◌
 parse-prepareok to v o r log t f =
     λ i. Frame (be-big 1 to t i) (PrepareOk (record { 0 = be-big 4 v.0 f.0 i }) (record { 0 = be-big 4 o.0 f.1 i }) (be-big 1 r f.2 i))
 
 parse-commit : (to : ℕ) (v : View) (c : Op) (log : List ℕ) → to < 2 ^ 8 → Encodable (Commit v c) log → parse_frame (encode to (Commit v c) log) ≡ Frame to (Commit v c)
-unfolding encode header big num encode_entry room_of count_of fields_ok message_of response_state entries_ok head_ok parse_frame well_formed body_ok within if◌then◌else◌ ◌and◌
+unfolding encode header big num encode_entry room_of count_of fields_ok message_of response_state entries_ok head_ok parse_frame well_formed body_ok within when◌then◌else◌ ◌and◌
 parse-commit to v c log t f =
     λ i. Frame (be-big 1 to t i) (Commit (record { 0 = be-big 4 v.0 f.0 i }) (record { 0 = be-big 4 c.0 f.1 i }))
 
 parse-getstate : (to : ℕ) (r : ℕ) (v : View) (o : Op) (log : List ℕ) → to < 2 ^ 8 → Encodable (GetState r v o) log → parse_frame (encode to (GetState r v o) log) ≡ Frame to (GetState r v o)
-unfolding encode header big num encode_entry room_of count_of fields_ok message_of response_state entries_ok head_ok parse_frame well_formed body_ok within if◌then◌else◌ ◌and◌
+unfolding encode header big num encode_entry room_of count_of fields_ok message_of response_state entries_ok head_ok parse_frame well_formed body_ok within when◌then◌else◌ ◌and◌
 parse-getstate to r v o log t f =
     λ i. Frame (be-big 1 to t i) (GetState (be-big 1 r f.0 i) (record { 0 = be-big 4 v.0 f.1 i }) (record { 0 = be-big 4 o.0 f.2 i }))
 
 parse-startviewchange : (to : ℕ) (v : View) (r : ℕ) (log : List ℕ) → to < 2 ^ 8 → Encodable (StartViewChange v r) log → parse_frame (encode to (StartViewChange v r) log) ≡ Frame to (StartViewChange v r)
-unfolding encode header big num encode_entry room_of count_of fields_ok message_of response_state entries_ok head_ok parse_frame well_formed body_ok within if◌then◌else◌ ◌and◌
+unfolding encode header big num encode_entry room_of count_of fields_ok message_of response_state entries_ok head_ok parse_frame well_formed body_ok within when◌then◌else◌ ◌and◌
 parse-startviewchange to v r log t f =
     λ i. Frame (be-big 1 to t i) (StartViewChange (record { 0 = be-big 4 v.0 f.0 i }) (be-big 1 r f.1 i))
 
 parse-recovery : (to : ℕ) (r : ℕ) (x : ℕ) (v : View) (log : List ℕ) → to < 2 ^ 8 → Encodable (Recovery r x v) log → parse_frame (encode to (Recovery r x v) log) ≡ Frame to (Recovery r x v)
-unfolding encode header big num encode_entry room_of count_of fields_ok message_of response_state entries_ok head_ok parse_frame well_formed body_ok within if◌then◌else◌ ◌and◌
+unfolding encode header big num encode_entry room_of count_of fields_ok message_of response_state entries_ok head_ok parse_frame well_formed body_ok within when◌then◌else◌ ◌and◌
 parse-recovery to r x v log t f =
     λ i. Frame (be-big 1 to t i) (Recovery (be-big 1 r f.0 i) (be-big 8 x f.1 i) (record { 0 = be-big 4 v.0 f.2 i }))
 
 parse-bare : (to : ℕ) (v : View) (x : ℕ) (r : ℕ) (log : List ℕ) → to < 2 ^ 8 → Encodable (RecoveryResponse v x r Absent) log → parse_frame (encode to (RecoveryResponse v x r Absent) log) ≡ Frame to (RecoveryResponse v x r Absent)
-unfolding encode header big num encode_entry room_of count_of fields_ok message_of response_state entries_ok head_ok parse_frame well_formed body_ok within if◌then◌else◌ ◌and◌
+unfolding encode header big num encode_entry room_of count_of fields_ok message_of response_state entries_ok head_ok parse_frame well_formed body_ok within when◌then◌else◌ ◌and◌
 parse-bare to v x r log t f =
     λ i. Frame (be-big 1 to t i) (RecoveryResponse (record { 0 = be-big 4 v.0 f.0 i }) (be-big 8 x f.1 i) (be-big 1 r f.2 i) Absent)
 
@@ -93,13 +93,13 @@ unfolding entries_ok ◌and◌
 one_entry e f = rw (entry_ok-encode e [] f.fits, f.ok)
 
 parse-request : (to : ℕ) (e : Entry) (log : List ℕ) → to < 2 ^ 8 → Encodable (Request e) log → parse_frame (encode to (Request e) log) ≡ Frame to (Request e)
-unfolding encode header big num encode_entry room_of count_of fields_ok message_of response_state if◌then◌else◌
+unfolding encode header big num encode_entry room_of count_of fields_ok message_of response_state when◌then◌else◌
 parse-request to e log t f =
     accepted _ (formed _ (record { long = lit≤ tt; size = refl; version = refl; low = lit≤ tt; high = lit≤ tt; fields = refl; exact = refl; log = one_entry e f }))
     ∙ (λ i. Frame (be-big 1 to t i) (Request (entry_of-encode e [] f.fits i)))
 
 parse-prepare : (to : ℕ) (v : View) (o : Op) (c : Op) (e : Entry) (log : List ℕ) → to < 2 ^ 8 → Encodable (Prepare v o c e) log → parse_frame (encode to (Prepare v o c e) log) ≡ Frame to (Prepare v o c e)
-unfolding encode header big num encode_entry room_of count_of fields_ok message_of response_state if◌then◌else◌
+unfolding encode header big num encode_entry room_of count_of fields_ok message_of response_state when◌then◌else◌
 parse-prepare to v o c e log t f =
     accepted _ (formed _ (record { long = lit≤ tt; size = refl; version = refl; low = lit≤ tt; high = lit≤ tt; fields = refl; exact = refl; log = one_entry e f.3 }))
     ∙ (λ i. Frame (be-big 1 to t i) (Prepare (record { 0 = be-big 4 v.0 f.0 i }) (record { 0 = be-big 4 o.0 f.1 i }) (record { 0 = be-big 4 c.0 f.2 i }) (entry_of-encode e [] f.3.fits i)))
@@ -107,7 +107,7 @@ parse-prepare to v o c e log t f =
 -- ---- kinds with a log
 
 parse-newstate : (to : ℕ) (v : View) (a : Op) (z : Op) (c : Op) (log : List ℕ) → to < 2 ^ 8 → Encodable (NewState v a z c) log → parse_frame (encode to (NewState v a z c) log) ≡ Frame to (NewState v a z c)
-unfolding encode header big num encode_entry room_of count_of fields_ok message_of response_state if◌then◌else◌
+unfolding encode header big num encode_entry room_of count_of fields_ok message_of response_state when◌then◌else◌
 parse-newstate to v a z c log t f =
     let s = encode to (NewState v a z c) log in
     let l = f.5 in
@@ -129,7 +129,7 @@ parse-newstate to v a z c log t f =
     ∙ (λ i. Frame (be-big 1 to t i) (NewState (record { 0 = be-big 4 v.0 f.0 i }) (record { 0 = be-big 4 a.0 f.1 i }) (record { 0 = be-big 4 z.0 f.2 i }) (record { 0 = be-big 4 c.0 f.3 i })))
 
 parse-doviewchange : (to : ℕ) (v : View) (r : ℕ) (l : View) (o : Op) (c : Op) (log : List ℕ) → to < 2 ^ 8 → Encodable (DoViewChange v r l o c) log → parse_frame (encode to (DoViewChange v r l o c) log) ≡ Frame to (DoViewChange v r l o c)
-unfolding encode header big num encode_entry room_of count_of fields_ok message_of response_state if◌then◌else◌
+unfolding encode header big num encode_entry room_of count_of fields_ok message_of response_state when◌then◌else◌
 parse-doviewchange to v r l o c log t f =
     let s = encode to (DoViewChange v r l o c) log in
     let g = f.5 in
@@ -149,7 +149,7 @@ parse-doviewchange to v r l o c log t f =
     ∙ (λ i. Frame (be-big 1 to t i) (DoViewChange (record { 0 = be-big 4 v.0 f.0 i }) (be-big 1 r f.1 i) (record { 0 = be-big 4 l.0 f.2 i }) (record { 0 = be-big 4 o.0 f.3 i }) (record { 0 = be-big 4 c.0 f.4 i })))
 
 parse-startview : (to : ℕ) (v : View) (o : Op) (c : Op) (log : List ℕ) → to < 2 ^ 8 → Encodable (StartView v o c) log → parse_frame (encode to (StartView v o c) log) ≡ Frame to (StartView v o c)
-unfolding encode header big num encode_entry room_of count_of fields_ok message_of response_state if◌then◌else◌
+unfolding encode header big num encode_entry room_of count_of fields_ok message_of response_state when◌then◌else◌
 parse-startview to v o c log t f =
     let s = encode to (StartView v o c) log in
     let l = f.3 in
@@ -169,7 +169,7 @@ parse-startview to v o c log t f =
     ∙ (λ i. Frame (be-big 1 to t i) (StartView (record { 0 = be-big 4 v.0 f.0 i }) (record { 0 = be-big 4 o.0 f.1 i }) (record { 0 = be-big 4 c.0 f.2 i })))
 
 parse-full : (to : ℕ) (v : View) (x : ℕ) (r : ℕ) (o : Op) (c : Op) (log : List ℕ) → to < 2 ^ 8 → Encodable (RecoveryResponse v x r (Present o c)) log → parse_frame (encode to (RecoveryResponse v x r (Present o c)) log) ≡ Frame to (RecoveryResponse v x r (Present o c))
-unfolding encode header big num encode_entry room_of count_of fields_ok message_of response_state if◌then◌else◌
+unfolding encode header big num encode_entry room_of count_of fields_ok message_of response_state when◌then◌else◌
 parse-full to v x r o c log t f =
     let s = encode to (RecoveryResponse v x r (Present o c)) log in
     let l = f.5 in
@@ -227,5 +227,5 @@ encode-log to (RecoveryResponse v x r Absent) log h l = empty log l
 encode-log to (RecoveryResponse v x r (Present o c)) log h l = refl
 
 pub reply-refused : (v : View) (client request outcome total : ℕ) → parse_frame (reply v client request outcome total) ≡ Malformed 3
-unfolding parse_frame offset_of frame_rule some_fits fits entries_from count_for carries_log reach between ◌or◌ well_formed body_ok head_ok within reply header big num if◌then◌else◌ ◌and◌
+unfolding parse_frame offset_of frame_rule some_fits fits entries_from count_for carries_log reach between ◌or◌ well_formed body_ok head_ok within reply header big num when◌then◌else◌ ◌and◌
 reply-refused v client request outcome total = refl

@@ -20,7 +20,7 @@ use Rattle.numbers.proofs.NumberLaws.{eq-or-not, le-or-lt}
 use Rattle.frames.specs.declared.RecoveryState.TheVariants.{Absent, Present}
 use Rattle.frames.specs.declared.Message.{Message}
 use Rattle.frames.specs.declared.Message.TheVariants.{Request, Prepare, PrepareOk, Commit, GetState, NewState, StartViewChange, DoViewChange, StartView, Recovery, RecoveryResponse}
-use Rattle.numbers.specs.Words.{if◌then◌else◌}
+use Rattle.numbers.specs.Words.{when◌then◌else◌}
 use Rattle.writers.specs.Writers.{header, encode, state_size, size_of, length_of, to_others}
 
 pub encode-length : (to : ℕ) (m : Message) (log : List ℕ) → length log ≡ 32 * (size_of m).entries → length (encode to m log) ≡ length_of m
@@ -58,7 +58,7 @@ fields-small (RecoveryResponse v x r (Present o c)) = lit≤ tt
 module _ (me : ℕ) (m : Message) (log : List ℕ) (h : length log ≡ 32 * (size_of m).entries) where
   -- a frame to k, where k is another
   others-next : (k : ℕ) → (k ≡ me → ⊥) → length (to_others (suc k) me m log) ≡ length (to_others k me m log) + length_of m
-  unfolding to_others if◌then◌else◌
+  unfolding to_others when◌then◌else◌
   others-next k ne = rw (ne_eqb k me ne, length-append (to_others k me m log) (encode k m log), encode-length k m log h)
 
   -- up to `me` a frame each
@@ -72,7 +72,7 @@ module _ (me : ℕ) (m : Message) (log : List ℕ) (h : length log ≡ 32 * (siz
 
   -- past it one less
   others-past : (k : ℕ) → me ≤ k → length (to_others (suc k) me m log) ≡ k * length_of m
-  unfolding to_others if◌then◌else◌
+  unfolding to_others when◌then◌else◌
   others-past zero l =
       let e : 0 ≡ me = omega arith in
       rw (eq-eqb 0 me e) (omega arith)

@@ -1,7 +1,7 @@
 -- Document 01, "Frames": the bytes of a frame of each kind, and frames one after the other. v view, o op, c commit (4 bytes each), r sender (1),
 -- x nonce (8). The length is that of what follows it. Assumes nothing.
 use Rattle.std.specs.Prelude.{List, [], ◌++◌, ℕ, zero, suc, ◌+◌, ◌-◌, ◌*◌, ◌≤◌, eqb}
-use Rattle.numbers.specs.Words.{if◌then◌else◌}
+use Rattle.numbers.specs.Words.{when◌then◌else◌}
 use Rattle.numbers.specs.Numbers.{big}
 use Rattle.numbers.specs.declared.View.{View}
 use Rattle.entries.specs.Entries.{encode_entry}
@@ -72,4 +72,4 @@ pub record Room (m : Message) (n area : ℕ) : Type 0 where
 -- the Rust's `send_to_others`: a frame to each replica below n but `me`, in id order, each straight after the one before it
 unfoldable pub to_others : (n me : ℕ) → Message → List ℕ → List ℕ
 to_others zero me m log = []
-to_others (suc k) me m log = to_others k me m log ++ (if eqb k me then [] else encode k m log)
+to_others (suc k) me m log = to_others k me m log ++ (when eqb k me then [] else encode k m log)

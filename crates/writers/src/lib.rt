@@ -3,7 +3,7 @@
 
 ghost use Rattle.std.specs.Prelude.{◌≡◌, ◌+◌, ◌-◌, ◌*◌, ◌≤◌, ◌<◌, length, take, [], eqb};
 ghost use Rattle.numbers.specs.Numbers.{Wrote};
-ghost use Rattle.numbers.specs.Words.{if◌then◌else◌};
+ghost use Rattle.numbers.specs.Words.{when◌then◌else◌};
 ghost use Rattle.frames.specs.Kinds.{fields_end};
 ghost use Rattle.writers.specs.Writers.{encode, reply, state_size, size_of, length_of, Room, to_others};
 
@@ -166,7 +166,7 @@ pub fn write_frame(area: &mut [u8], to: u8, m: Message, log: &[u8]) -> usize
 // A message's frame, or nothing where it would go to ourselves.
 fn write_other(area: &mut [u8], to: u8, me: u8, m: Message, log: &[u8]) -> usize
     requires { (to ≡ me → ⊥) → Room m (length log.now) (length area.old) }
-    ensures { Wrote (if eqb to me then [] else encode to m (take (32 * (size_of m).entries) log.now)) area.old area.new result }
+    ensures { Wrote (when eqb to me then [] else encode to m (take (32 * (size_of m).entries) log.now)) area.old area.new result }
 {
     if to == me {
         return 0;

@@ -1,6 +1,5 @@
 -- `book::commit_up_to` meets its contract. Assumes nothing.
 use mathlib.Core.Path.{refl, ◌∙◌}
-use Prim.Native.Nat.{◌-◌}
 use native.Mathlib.Omega.{arith}
 use Rattle.book.specs.Memory.{money}
 use Rattle.book.proofs.RunLaws.{commit-none, commit-more, takings-none, takings-more}

@@ -1,7 +1,6 @@
 -- `book::none_by_chain` meets its contract. Assumes nothing.
 use mathlib.Core.Path.{◌≡◌, sym, ◌∙◌}
 use mathlib.Core.Bool.{true}
-use mathlib.Core.Logic.{⊎_elim}
 use Prim.Native.Nat.{◌+◌, ◌-◌}
 use native.Mathlib.Omega.{arith}
 use Rattle.numbers.specs.Words.{◌and◌}
@@ -31,11 +30,11 @@ pairs-preserved c =
     let none = m.invariant.1.none in
     let f : follows x.result (entries a.k a.part.now) ≡ true =
     elim c.loop-j-test.branch [
-        else-loop-j-test w ↦ let z : m.j ≡ 0 = omega arith in follows-none x.result a.k a.part.now (rw z at none)
-        | then-loop-j-test+else-looks-eq0+then-read_u64-e+else-read_u64-e-2 w ↦
-            let e : m.j ≡ m.j - 1 + 1 = omega (arith, w.loop-j-test.true) in
-            follows-over x.result a.k a.part.now (m.j - 1) (rises-back a.k a.part.now c.requires.1.1.1.1) (omega (arith, w.loop-j-test.true)) (rw (← e) none)
-                (sym w.read_u64-in-loop-j.ensures ∙ w.if-read_u64-e.true) (rw (← w.read_u64-then-read_u64-e.ensures) w.if-read_u64-e-2.false)
+      | else-loop-j-test w ↦ let z : m.j ≡ 0 = omega arith in follows-none x.result a.k a.part.now (rw z at none)
+      | then-loop-j-test+else-looks-eq0+then-read_u64-e+else-read_u64-e-2 w ↦
+          let e : m.j ≡ m.j - 1 + 1 = omega (arith, w.loop-j-test.true) in
+          follows-over x.result a.k a.part.now (m.j - 1) (rises-back a.k a.part.now c.requires.1.1.1.1) (omega (arith, w.loop-j-test.true)) (rw (← e) none)
+          (sym w.read_u64-in-loop-j.ensures ∙ w.if-read_u64-e.true) (rw (← w.read_u64-then-read_u64-e.ensures) w.if-read_u64-e-2.false)
     ] in
     (omega arith, m.invariant.0, p.invariant.2, p.invariant.3 ∙ none-next a.n a.log.now p.i x.result (entries a.k a.part.now) c.pairs-test.true x.ensures ∙ rw f)
 

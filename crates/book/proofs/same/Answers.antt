@@ -1,6 +1,5 @@
 -- `book::same` meets its contract. Assumes nothing.
 use mathlib.Core.Path.{sym, ◌∙◌}
-use Prim.Native.Nat.{◌-◌}
 use native.Mathlib.Omega.{arith}
 use Rattle.book.proofs.LogLaws.{same_next, same_stop, same_end}
 use Rattle.book.proofs.same.Goals as goal

@@ -1,9 +1,7 @@
 -- `book::write_replies` meets its contract. Assumes nothing.
 use mathlib.Core.Path.{refl}
-use Prim.Native.Nat.{◌-◌}
 use native.Mathlib.Omega.{arith}
 use borrow.Author.Rules.{rules}
-use Rattle.book.specs.Runs.{replies}
 use Rattle.book.proofs.RunLaws.{replies-none, replies-more}
 use Rattle.book.proofs.write_replies.Goals as goal
 

@@ -1,17 +1,17 @@
 -- `client::idle_refusal` meets its contract. Assumes nothing.
 use Rattle.client.specs.Client.{idle_refusal}
-use Rattle.numbers.specs.Words.{if◌then◌else◌}
+use Rattle.numbers.specs.Words.{when◌then◌else◌}
 use borrow.Author.Tests.{lt-ltb, le-ltb}
 use Rattle.client.proofs.idle_refusal.Goals as goal
 
 pub returns-then-not-replicas_ok : goal.returns-then-not-replicas_ok
-unfolding idle_refusal if◌then◌else◌
+unfolding idle_refusal when◌then◌else◌
 returns-then-not-replicas_ok c = rw (← c.replicas_ok.ensures, c.if-not-replicas_ok.true)
 
 pub returns-then-room-resend_len : goal.returns-then-room-resend_len
-unfolding idle_refusal if◌then◌else◌
+unfolding idle_refusal when◌then◌else◌
 returns-then-room-resend_len c = rw (← c.replicas_ok.ensures, c.if-not-replicas_ok.false, ← c.resend_len.ensures, lt-ltb _ _ c.if-room-resend_len.true)
 
 pub returns : goal.returns
-unfolding idle_refusal if◌then◌else◌
+unfolding idle_refusal when◌then◌else◌
 returns c = rw (← c.replicas_ok.ensures, c.if-not-replicas_ok.false, ← c.resend_len.ensures, le-ltb _ _ c.if-room-resend_len.false)

@@ -1,12 +1,12 @@
 -- `client::left_pending` meets its contract. Assumes nothing.
 use Rattle.client.specs.Client.{left_pending}
-use Rattle.numbers.specs.Words.{if◌then◌else◌}
+use Rattle.numbers.specs.Words.{when◌then◌else◌}
 use Rattle.client.proofs.left_pending.Goals as goal
 
 pub returns-then-answers : goal.returns-then-answers
-unfolding left_pending if◌then◌else◌
+unfolding left_pending when◌then◌else◌
 returns-then-answers c = rw (← c.answers.ensures, c.if-answers.true)
 
 pub returns : goal.returns
-unfolding left_pending if◌then◌else◌
+unfolding left_pending when◌then◌else◌
 returns c = rw (← c.answers.ensures, c.if-answers.false)

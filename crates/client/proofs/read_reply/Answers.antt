@@ -27,31 +27,31 @@ returns c =
     ))
 
 pub read_view-requires : goal.read_view-requires
-read_view-requires c = 
+read_view-requires c =
     let passed : reply_ok c.args.frame.now ≡ true = sym c.reply_ok.ensures ∙ c.if-not-reply_ok.false in
     let long : length c.args.frame.now ≡ 36 = reply-long c.args.frame.now passed in
     omega (arith, long)
 
 pub read_u64-requires : goal.read_u64-requires
-read_u64-requires c = 
+read_u64-requires c =
     let passed : reply_ok c.args.frame.now ≡ true = sym c.reply_ok.ensures ∙ c.if-not-reply_ok.false in
     let long : length c.args.frame.now ≡ 36 = reply-long c.args.frame.now passed in
     omega (arith, long)
 
 pub read_u64-requires-2 : goal.read_u64-requires-2
-read_u64-requires-2 c = 
+read_u64-requires-2 c =
     let passed : reply_ok c.args.frame.now ≡ true = sym c.reply_ok.ensures ∙ c.if-not-reply_ok.false in
     let long : length c.args.frame.now ≡ 36 = reply-long c.args.frame.now passed in
     omega (arith, long)
 
 pub read_u8-requires : goal.read_u8-requires
-read_u8-requires c = 
+read_u8-requires c =
     let passed : reply_ok c.args.frame.now ≡ true = sym c.reply_ok.ensures ∙ c.if-not-reply_ok.false in
     let long : length c.args.frame.now ≡ 36 = reply-long c.args.frame.now passed in
     omega (arith, long)
 
 pub read_u64-requires-3 : goal.read_u64-requires-3
-read_u64-requires-3 c = 
+read_u64-requires-3 c =
     let passed : reply_ok c.args.frame.now ≡ true = sym c.reply_ok.ensures ∙ c.if-not-reply_ok.false in
     let long : length c.args.frame.now ≡ 36 = reply-long c.args.frame.now passed in
     omega (arith, long)

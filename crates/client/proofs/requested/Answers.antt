@@ -14,16 +14,16 @@ returns c =
     request-done _ _ _ _ _ _ c.request_refusal-no.ensures c.if-no-ne0.false _ _ c.primary_id.ensures.0 c.write_request-written.ensures
 
 pub primary_id-requires : goal.primary_id-requires
-primary_id-requires c = 
+primary_id-requires c =
     let facts : let a = c.args in Ready a.c a.operation a.cents (length a.area.now) = ready _ _ _ _ (sym c.request_refusal-no.ensures ∙ c.if-no-ne0.false) in
     omega (arith, facts.three)
 
 pub write_request-written-requires : goal.write_request-written-requires
-write_request-written-requires c = 
+write_request-written-requires c =
     let facts : let a = c.args in Ready a.c a.operation a.cents (length a.area.now) = ready _ _ _ _ (sym c.request_refusal-no.ensures ∙ c.if-no-ne0.false) in
     facts.fits
 
 pub overflow_add-result : goal.overflow_add-result
-overflow_add-result c = 
+overflow_add-result c =
     let facts : let a = c.args in Ready a.c a.operation a.cents (length a.area.now) = ready _ _ _ _ (sym c.request_refusal-no.ensures ∙ c.if-no-ne0.false) in
     omega (arith, facts.more)

@@ -1,10 +1,9 @@
 -- `client::send_all` meets its contract. The invariant: the frames to the replicas below `to` stand over the front of the area. Assumes nothing.
 use mathlib.Core.Path.{◌≡◌, refl, sym, ap, ◌∙◌}
-use Prim.Native.Nat.{suc, ◌-◌, ◌≤◌}
+use Prim.Native.Nat.{suc, ◌≤◌}
 use native.Mathlib.Numerals.{add-one}
 use native.Mathlib.Omega.{arith}
 use lib.ListN.{length}
-use Rattle.numbers.specs.Numbers.{over}
 use Rattle.numbers.proofs.RunLaws.{over-lend, over-nil, length_over}
 use Rattle.client.specs.Client.{frames_to}
 use Rattle.client.proofs.RefusalLaws.{frame-length, frames-length}

@@ -1,6 +1,5 @@
 -- `client_table_bytes::follow_found` meets its contract. Assumes nothing.
 use mathlib.Core.Path.{◌≡◌, refl, ◌∙◌}
-use mathlib.Core.Logic.{⊎_elim}
 use Prim.Native.Nat.{◌-◌, ◌*◌}
 use native.Mathlib.Omega.{arith}
 use lib.ListN.{length, take, drop}
@@ -24,10 +23,10 @@ returns-then-change-2 c =
     let pre = c.requires in
     let known = c.slice_known-1 in
     elim c.if-change.branch [
-        then-change w ↦ found-one pre.1.1.1.1 w.if-change.true w.entry_in-e.ensures w.fresh.ensures w.put_found.ensures w.table-is
-        | else-change w ↦
-            none-appended a.n a.change.op.0 a.change.to.0 a.table.now a.log.now (λ i. omega (arith, known.given i)) pre.0
-            w.if-change.false w.table-is
+      | then-change w ↦ found-one pre.1.1.1.1 w.if-change.true w.entry_in-e.ensures w.fresh.ensures w.put_found.ensures w.table-is
+      | else-change w ↦
+          none-appended a.n a.change.op.0 a.change.to.0 a.table.now a.log.now (λ i. omega (arith, known.given i)) pre.0
+          w.if-change.false w.table-is
     ] in
     let a = c.args in
     let pre = c.requires in
@@ -46,10 +45,10 @@ returns c =
     let pre = c.requires in
     let known = c.slice_known-1 in
     elim c.if-change.branch [
-        then-change w ↦ found-one pre.1.1.1.1 w.if-change.true w.entry_in-e.ensures w.fresh.ensures w.put_found.ensures w.table-is
-        | else-change w ↦
-            none-appended a.n a.change.op.0 a.change.to.0 a.table.now a.log.now (λ i. omega (arith, known.given i)) pre.0
-            w.if-change.false w.table-is
+      | then-change w ↦ found-one pre.1.1.1.1 w.if-change.true w.entry_in-e.ensures w.fresh.ensures w.put_found.ensures w.table-is
+      | else-change w ↦
+          none-appended a.n a.change.op.0 a.change.to.0 a.table.now a.log.now (λ i. omega (arith, known.given i)) pre.0
+          w.if-change.false w.table-is
     ] in
     let a = c.args in
     let pre = c.requires in

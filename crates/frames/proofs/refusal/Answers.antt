@@ -2,45 +2,45 @@
 use mathlib.Core.Path.{◌≡◌}
 use mathlib.Core.Bool.{not}
 use borrow.Author.Tests.{ne_eqb, eq-eqb, le-leb, lt-leb, lt-ltb, le-ltb}
-use Rattle.numbers.specs.Words.{if◌then◌else◌, ◌or◌}
+use Rattle.numbers.specs.Words.{when◌then◌else◌, ◌or◌}
 use Rattle.numbers.proofs.RunLaws.{part-rest}
 use Rattle.entries.specs.Rising.{rising}
 use Rattle.frames.specs.Refusals.{whole_log, refusal_of}
 use Rattle.frames.proofs.refusal.Goals as goal
 
 pub returns-then-to-u : goal.returns-then-to-u
-unfolding refusal_of if◌then◌else◌ ◌or◌
+unfolding refusal_of when◌then◌else◌ ◌or◌
 returns-then-to-u c = rw (ne_eqb _ _ c.if-to-u.true)
 
 pub returns-then-u-x : goal.returns-then-u-x
-unfolding refusal_of if◌then◌else◌ ◌or◌
+unfolding refusal_of when◌then◌else◌ ◌or◌
 returns-then-u-x c = rw (eq-eqb _ _ c.if-to-u.false, le-leb _ _ c.if-u-x.true)
 
 pub returns-then-u-x-2 : goal.returns-then-u-x-2
-unfolding refusal_of if◌then◌else◌ ◌or◌
+unfolding refusal_of when◌then◌else◌ ◌or◌
 returns-then-u-x-2 c =
     rw (eq-eqb _ _ c.if-to-u.false, lt-leb _ _ c.if-u-x.false, lt-ltb _ _ c.if-u-x-2.true)
 
 pub returns-then-x : goal.returns-then-x
-unfolding refusal_of if◌then◌else◌ ◌or◌
+unfolding refusal_of when◌then◌else◌ ◌or◌
 returns-then-x c =
     rw (eq-eqb _ _ c.if-to-u.false, lt-leb _ _ c.if-u-x.false, le-ltb _ _ c.if-u-x-2.false, lt-ltb _ _ c.if-x.true)
 
 pub returns-then-is_rising : goal.returns-then-is_rising
-unfolding if◌then◌else◌ refusal_of ◌or◌ whole_log
+unfolding when◌then◌else◌ refusal_of ◌or◌ whole_log
 returns-then-is_rising c =
     let left : let a = c.args in
-    refusal_of a.u a.to a.x a.frame.now ≡ (if not (rising (whole_log a.x a.frame.now)) then 6 else 0) = rw (eq-eqb _ _ c.if-to-u.false, lt-leb _ _ c.if-u-x.false, le-ltb _ _ c.if-u-x-2.false, le-ltb _ _ c.if-x.false) in
+    refusal_of a.u a.to a.x a.frame.now ≡ (when not (rising (whole_log a.x a.frame.now)) then 6 else 0) = rw (eq-eqb _ _ c.if-to-u.false, lt-leb _ _ c.if-u-x.false, le-ltb _ _ c.if-u-x-2.false, le-ltb _ _ c.if-x.false) in
     let log : let a = c.args in
     c.is_rising.result ≡ rising (whole_log a.x a.frame.now) = let a = c.args in
     rw (part-rest a.x.start a.frame.now) at c.is_rising.ensures in
     rw (left, ← log, c.if-is_rising.true)
 
 pub returns : goal.returns
-unfolding if◌then◌else◌ refusal_of ◌or◌ whole_log
+unfolding when◌then◌else◌ refusal_of ◌or◌ whole_log
 returns c =
     let left : let a = c.args in
-    refusal_of a.u a.to a.x a.frame.now ≡ (if not (rising (whole_log a.x a.frame.now)) then 6 else 0) = rw (eq-eqb _ _ c.if-to-u.false, lt-leb _ _ c.if-u-x.false, le-ltb _ _ c.if-u-x-2.false, le-ltb _ _ c.if-x.false) in
+    refusal_of a.u a.to a.x a.frame.now ≡ (when not (rising (whole_log a.x a.frame.now)) then 6 else 0) = rw (eq-eqb _ _ c.if-to-u.false, lt-leb _ _ c.if-u-x.false, le-ltb _ _ c.if-u-x-2.false, le-ltb _ _ c.if-x.false) in
     let log : let a = c.args in
     c.is_rising.result ≡ rising (whole_log a.x a.frame.now) = let a = c.args in
     rw (part-rest a.x.start a.frame.now) at c.is_rising.ensures in

@@ -1,6 +1,5 @@
 -- `journal::takings` meets its contract. Assumes nothing.
 use mathlib.Core.Path.{sym, ◌∙◌}
-use Prim.Native.Nat.{◌-◌}
 use native.Mathlib.Nat.{sub-zero, zero-add}
 use native.Mathlib.Omega.{arith}
 use Rattle.journal.proofs.TakingLaws.{there-is, no-takings, large-stops, small-goes, small-ends}

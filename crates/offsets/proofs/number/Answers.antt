@@ -8,7 +8,7 @@ use native.Mathlib.Nat.{pow-succ'}
 use native.Mathlib.Numerals.{add-one}
 use native.Mathlib.Omega.{arith}
 use lib.ListN.{length, get_or, drop}
-use Rattle.numbers.specs.Words.{if◌then◌else◌}
+use Rattle.numbers.specs.Words.{when◌then◌else◌}
 use Rattle.numbers.specs.Numbers.{within}
 use Rattle.numbers.proofs.NumberLaws.{pow-pos256, pow-le256}
 use Rattle.numbers.proofs.WordLaws.{if-true, if-false}
@@ -26,7 +26,7 @@ module _ (s : List ℕ) (at n low high x i : ℕ) (l : i < n) (h : at + i < leng
   ok = within (low / 256 ^ (n - 1 - i)) (high / 256 ^ (n - 1 - i)) y
 
   next : number_reach (n - i) x low high (drop (at + i) s)
-      ≡ (if ok then suc (number_reach (n - 1 - i) y low high (drop (suc (at + i)) s)) else 0)
+      ≡ (when ok then suc (number_reach (n - 1 - i) y low high (drop (suc (at + i)) s)) else 0)
   next =
       let m : n - i ≡ suc (n - 1 - i) = omega arith in
       rw m (number-next (n - 1 - i) x low high (at + i) s h)

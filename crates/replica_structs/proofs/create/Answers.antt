@@ -5,16 +5,16 @@ use Rattle.replica_structs.specs.Calls.{lent_rows}
 use Rattle.replica_structs.proofs.PromiseLaws.{create-refused, create-rows}
 use Rattle.replica_structs.proofs.create.Goals as goal
 
-pub returns-then-a : goal.returns-then-a
-returns-then-a c =
+pub returns-then-a-ne0 : goal.returns-then-a-ne0
+returns-then-a-ne0 c =
     let a = c.args in
     let y = c.create-a.new in
     create-refused (lent_rows a.log.now a.results.now a.totals.now a.acks.now a.stored.now a.table.now [] []) _ (memory a.log.now a.results.now y.totals y.acks a.stored.now [] []) a.u
-    c.create-a.ensures c.if-a.true
+    c.create-a.ensures c.if-a-ne0.true
 
 pub returns : goal.returns
 returns c =
     let a = c.args in
     let y = c.create-a.new in
     create-rows (lent_rows a.log.now a.results.now a.totals.now a.acks.now a.stored.now a.table.now [] []) _ (memory a.log.now a.results.now y.totals y.acks a.stored.now [] []) a.u
-    c.create-a.ensures c.if-a.false c.clear.ensures
+    c.create-a.ensures c.if-a-ne0.false c.clear.ensures

@@ -22,4 +22,4 @@ returns c =
     let y = c.on_idle-a.new in
     let m = memory y.log y.results y.totals y.acks y.stored y.out y.reps in
     idle-rows a.s x c.on_idle-a.result m _ c.on_idle-a.ensures (idle-ready a.s (length a.table.now) x.core) c.change_after.result c.change_after.ensures
-    c.follow.ensures c.on_idle-a.ensures
+    c.follow.ensures refl

@@ -7,7 +7,7 @@ use native.Mathlib.Omega.{arith}
 use lib.Dec.{eqb}
 use lib.ListN.{length, length-take, length-drop, length-append}
 use lib.Seq.{length-take-le}
-use Rattle.numbers.specs.Words.{if◌then◌else◌}
+use Rattle.numbers.specs.Words.{when◌then◌else◌}
 use Rattle.numbers.proofs.RunLaws.{over-lend, over-nil, length_over}
 use Rattle.writers.specs.Writers.{encode, size_of, to_others}
 use Rattle.writers.proofs.WriterLaws.{room-left, others-most}
@@ -38,10 +38,10 @@ overflow_add-at c =
     k ≤ a.n → length (to_others k a.me a.m (carried a.m a.log.now)) ≤ length a.area.now = λ k h. let a = c.args in
     omega (arith, c.requires.1.1.1, others-most a.me a.m (carried a.m a.log.now) enough a.n k h c.requires.0) in
     let grown : (r : ℕ) → let a = c.args in let l = c.loop-to in
-    r ≡ length (if eqb l.to a.me then [] else encode l.to a.m (carried a.m a.log.now))
+    r ≡ length (when eqb l.to a.me then [] else encode l.to a.m (carried a.m a.log.now))
     → l.at + r ≡ length (to_others (suc l.to) a.me a.m (carried a.m a.log.now)) = λ r e. let a = c.args in
     let l = c.loop-to in
-    let f = if eqb l.to a.me then [] else encode l.to a.m (carried a.m a.log.now) in
+    let f = when eqb l.to a.me then [] else encode l.to a.m (carried a.m a.log.now) in
     omega (arith, e, l.invariant.3, length-append (to_others l.to a.me a.m (carried a.m a.log.now)) f) in
     let l = c.loop-to in
     omega (arith, grown _ c.write_other-at.ensures.count, most (suc l.to) (omega (arith, c.loop-to-test.true)))
@@ -54,10 +54,10 @@ loop-to-preserved c =
     k ≤ a.n → length (to_others k a.me a.m (carried a.m a.log.now)) ≤ length a.area.now = λ k h. let a = c.args in
     omega (arith, c.requires.1.1.1, others-most a.me a.m (carried a.m a.log.now) enough a.n k h c.requires.0) in
     let grown : (r : ℕ) → let a = c.args in let l = c.loop-to in
-    r ≡ length (if eqb l.to a.me then [] else encode l.to a.m (carried a.m a.log.now))
+    r ≡ length (when eqb l.to a.me then [] else encode l.to a.m (carried a.m a.log.now))
     → l.at + r ≡ length (to_others (suc l.to) a.me a.m (carried a.m a.log.now)) = λ r e. let a = c.args in
     let l = c.loop-to in
-    let f = if eqb l.to a.me then [] else encode l.to a.m (carried a.m a.log.now) in
+    let f = when eqb l.to a.me then [] else encode l.to a.m (carried a.m a.log.now) in
     omega (arith, e, l.invariant.3, length-append (to_others l.to a.me a.m (carried a.m a.log.now)) f) in
     let l = c.loop-to in
     let a = c.args in

@@ -65,25 +65,25 @@ returns c =
     c.free.ensures ∙ sym at-28
 
 pub number-kind-requires : goal.number-kind-requires
-number-kind-requires c = 
+number-kind-requires c =
     let long-4 : 4 ≤ length c.args.frame.now = let s = c.args.frame.now in number-long 0 4 end s 32 32 c.number-version.ensures (omega arith) c.if-version-lt4.false in
     (long-4, lit≤ tt)
 
 pub number-to-requires : goal.number-to-requires
-number-to-requires c = 
+number-to-requires c =
     let long-4 : 4 ≤ length c.args.frame.now = let s = c.args.frame.now in number-long 0 4 end s 32 32 c.number-version.ensures (omega arith) c.if-version-lt4.false in
     let long-5 : 5 ≤ length c.args.frame.now = let s = c.args.frame.now in number-long 4 1 end s 1 1 c.number-kind.ensures long-4 c.if-kind-lt5.false in
     (long-5, lit≤ tt)
 
 pub number-view-requires : goal.number-view-requires
-number-view-requires c = 
+number-view-requires c =
     let long-4 : 4 ≤ length c.args.frame.now = let s = c.args.frame.now in number-long 0 4 end s 32 32 c.number-version.ensures (omega arith) c.if-version-lt4.false in
     let long-5 : 5 ≤ length c.args.frame.now = let s = c.args.frame.now in number-long 4 1 end s 1 1 c.number-kind.ensures long-4 c.if-kind-lt5.false in
     let long-6 : 6 ≤ length c.args.frame.now = let s = c.args.frame.now in number-long 5 1 end s 12 12 c.number-to.ensures long-5 c.if-to-lt6.false in
     (long-6, lit≤ tt)
 
 pub free-outcome-requires : goal.free-outcome-requires
-free-outcome-requires c = 
+free-outcome-requires c =
     let long-4 : 4 ≤ length c.args.frame.now = let s = c.args.frame.now in number-long 0 4 end s 32 32 c.number-version.ensures (omega arith) c.if-version-lt4.false in
     let long-5 : 5 ≤ length c.args.frame.now = let s = c.args.frame.now in number-long 4 1 end s 1 1 c.number-kind.ensures long-4 c.if-kind-lt5.false in
     let long-6 : 6 ≤ length c.args.frame.now = let s = c.args.frame.now in number-long 5 1 end s 12 12 c.number-to.ensures long-5 c.if-to-lt6.false in
@@ -91,7 +91,7 @@ free-outcome-requires c =
     long-7
 
 pub number-total-requires : goal.number-total-requires
-number-total-requires c = 
+number-total-requires c =
     let long-4 : 4 ≤ length c.args.frame.now = let s = c.args.frame.now in number-long 0 4 end s 32 32 c.number-version.ensures (omega arith) c.if-version-lt4.false in
     let long-5 : 5 ≤ length c.args.frame.now = let s = c.args.frame.now in number-long 4 1 end s 1 1 c.number-kind.ensures long-4 c.if-kind-lt5.false in
     let long-6 : 6 ≤ length c.args.frame.now = let s = c.args.frame.now in number-long 5 1 end s 12 12 c.number-to.ensures long-5 c.if-to-lt6.false in
@@ -100,7 +100,7 @@ number-total-requires c =
     (long-27, lit≤ tt)
 
 pub free-requires : goal.free-requires
-free-requires c = 
+free-requires c =
     let long-4 : 4 ≤ length c.args.frame.now = let s = c.args.frame.now in number-long 0 4 end s 32 32 c.number-version.ensures (omega arith) c.if-version-lt4.false in
     let long-5 : 5 ≤ length c.args.frame.now = let s = c.args.frame.now in number-long 4 1 end s 1 1 c.number-kind.ensures long-4 c.if-kind-lt5.false in
     let long-6 : 6 ≤ length c.args.frame.now = let s = c.args.frame.now in number-long 5 1 end s 12 12 c.number-to.ensures long-5 c.if-to-lt6.false in

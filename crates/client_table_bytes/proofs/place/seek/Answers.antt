@@ -1,7 +1,7 @@
 -- `client_table_bytes::place::seek` meets its contract.
 -- The invariant: the whole search's place is that of the span that is left, with some fuel that is enough for it. Assumes nothing.
 use mathlib.Core.Path.{◌≡◌, sym, ap, ◌∙◌}
-use Prim.Native.Nat.{ℕ, ◌-◌, ◌<◌}
+use Prim.Native.Nat.{ℕ, ◌<◌}
 use native.Mathlib.Omega.{arith}
 use lib.ListN.{get_or}
 use Rattle.numbers.proofs.CellLaws.{cells-length, cells-get}

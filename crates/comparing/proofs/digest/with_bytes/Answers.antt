@@ -1,5 +1,5 @@
 -- `comparing::digest::with_bytes` meets its contract. Assumes nothing.
-use Rattle.std.proofs.Common.{◌-◌, sym, ◌∙◌, arith, rules}
+use Rattle.std.proofs.Common.{sym, ◌∙◌, arith, rules}
 use Rattle.comparing.proofs.DigestLaws.{digest-next, digest-end}
 use Rattle.comparing.proofs.digest.with_bytes.Goals as goal
 

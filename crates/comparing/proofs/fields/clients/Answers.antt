@@ -1,5 +1,5 @@
 -- `comparing::fields::clients` meets its contract. Assumes nothing.
-use Rattle.std.proofs.Common.{◌-◌, refl, arith, rules}
+use Rattle.std.proofs.Common.{refl, arith, rules}
 use Rattle.comparing.specs.Digests.{digest_after}
 use Rattle.comparing.specs.Fields.{table_text}
 use Rattle.comparing.proofs.FieldLaws.{table-next}

@@ -1,5 +1,5 @@
 -- `comparing::fields::differing` meets its contract. Assumes nothing.
-use Rattle.std.proofs.Common.{◌-◌, sym, ◌∙◌, arith}
+use Rattle.std.proofs.Common.{sym, ◌∙◌, arith}
 use Rattle.comparing.proofs.FieldLaws.{differ-here, differ-next, differ-end}
 use Rattle.comparing.proofs.fields.differing.Goals as goal
 

@@ -1,5 +1,5 @@
 -- `comparing::fields::held` meets its contract. Assumes nothing.
-use Rattle.std.proofs.Common.{◌-◌, refl, rules}
+use Rattle.std.proofs.Common.{refl, rules}
 use Rattle.comparing.specs.Fields.{held_set}
 use Rattle.comparing.proofs.fields.held.Goals as goal
 

@@ -1,5 +1,5 @@
 -- `comparing::fields::with_reports` meets its contract. Assumes nothing.
-use Rattle.std.proofs.Common.{◌-◌, refl, arith, rules}
+use Rattle.std.proofs.Common.{refl, arith, rules}
 use Rattle.comparing.specs.Digests.{digest_after}
 use Rattle.comparing.specs.Fields.{reports_text}
 use Rattle.comparing.proofs.FieldLaws.{reports-next}

@@ -1,5 +1,5 @@
 -- `comparing::memory::spoilt` meets its contract. Assumes nothing.
-use Rattle.std.proofs.Common.{◌-◌, sym, ◌∙◌, arith, rules}
+use Rattle.std.proofs.Common.{sym, ◌∙◌, arith, rules}
 use Rattle.comparing.proofs.AreaLaws.{spoilt-next, spoilt-not, spoilt-end}
 use Rattle.comparing.proofs.memory.spoilt.Goals as goal
 

@@ -1,5 +1,5 @@
 -- `comparing::words::count` meets its contract. Assumes nothing.
-use Rattle.std.proofs.Common.{◌-◌, arith, rules}
+use Rattle.std.proofs.Common.{arith, rules}
 use Rattle.comparing.proofs.TextLaws.{times-next, times-end}
 use Rattle.comparing.proofs.words.count.Goals as goal
 

@@ -1,6 +1,5 @@
 -- `comparing::words::decoded` meets its contract. Assumes nothing.
-use Rattle.std.proofs.Common.{◌-◌, length, refl, arith, length-set, rules}
-use Rattle.numbers.specs.Numbers.{over}
+use Rattle.std.proofs.Common.{refl, arith, length-set, rules}
 use Rattle.numbers.proofs.RunLaws.{over-nil}
 use Rattle.comparing.specs.Text.{bytes_in}
 use Rattle.comparing.proofs.TextLaws.{bytes_next}

@@ -1,5 +1,5 @@
 -- `comparing::words::find` meets its contract. Assumes nothing.
-use Rattle.std.proofs.Common.{◌-◌, arith, rules}
+use Rattle.std.proofs.Common.{arith, rules}
 use Rattle.comparing.proofs.TextLaws.{place_here, place-past, place_end}
 use Rattle.comparing.proofs.words.find.Goals as goal
 

@@ -1,5 +1,5 @@
 -- `comparing::words::number` meets its contract. Assumes nothing.
-use Rattle.std.proofs.Common.{◌-◌, sym, ◌∙◌, arith, rules}
+use Rattle.std.proofs.Common.{sym, ◌∙◌, arith, rules}
 use Rattle.comparing.proofs.TextLaws.{number-next, number-end}
 use Rattle.comparing.proofs.words.number.Goals as goal
 

@@ -1,5 +1,5 @@
 -- `comparing::words::same_text` meets its contract. Assumes nothing.
-use Rattle.std.proofs.Common.{◌-◌, sym, ◌∙◌, arith}
+use Rattle.std.proofs.Common.{sym, ◌∙◌, arith}
 use Rattle.comparing.specs.Text.{hex_text}
 use Rattle.comparing.proofs.TextLaws.{same-lengths, text-length, text-first, text-second, text-next, text-end}
 use Rattle.comparing.proofs.words.same_text.Goals as goal

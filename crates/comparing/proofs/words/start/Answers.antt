@@ -1,5 +1,5 @@
 -- `comparing::words::start` meets its contract. Assumes nothing.
-use Rattle.std.proofs.Common.{◌-◌, refl, rules}
+use Rattle.std.proofs.Common.{refl, rules}
 use Rattle.comparing.specs.Text.{word_start}
 use Rattle.comparing.proofs.TextLaws.{start-next}
 use Rattle.comparing.proofs.words.start.Goals as goal

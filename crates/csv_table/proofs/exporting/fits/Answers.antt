@@ -1,6 +1,6 @@
 -- `csv::exporting::fits` meets its contract. The loop's invariant: the room is the table of the first i entries and what is left of it. Assumes nothing.
 use mathlib.Core.Path.{ap}
-use Prim.Native.Nat.{◌+◌, ◌-◌}
+use Prim.Native.Nat.{◌+◌}
 use native.Mathlib.Omega.{arith}
 use lib.ListN.{length}
 use Rattle.entries.specs.Entries.{run_count}

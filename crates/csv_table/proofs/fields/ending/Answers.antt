@@ -4,18 +4,18 @@ use Prim.Native.Nat.{◌+◌, ◌-◌}
 use native.Mathlib.Omega.{arith}
 use lib.ListN.{length, get_or-eq_default}
 use borrow.Author.Tests.{eq-eqb, ne_eqb}
-use Rattle.numbers.specs.Words.{◌and◌, if◌then◌else◌}
+use Rattle.numbers.specs.Words.{◌and◌, when◌then◌else◌}
 use Rattle.csv_table.proofs.FieldLaws.{ending_at}
 use Rattle.csv_table.proofs.fields.ending.Goals as goal
 
 pub returns-then-s-at : goal.returns-then-s-at
-unfolding if◌then◌else◌ ◌and◌
+unfolding when◌then◌else◌ ◌and◌
 returns-then-s-at c =
     let a = c.args in
     rw (ending_at a.at a.s.now, eq-eqb (length a.s.now - a.at) 0 (omega arith))
 
 pub returns-then-s-at-eq44 : goal.returns-then-s-at-eq44
-unfolding if◌then◌else◌ ◌and◌
+unfolding when◌then◌else◌ ◌and◌
 returns-then-s-at-eq44 c =
     let a = c.args in
     rw (
@@ -25,7 +25,7 @@ returns-then-s-at-eq44 c =
     )
 
 pub returns-then-s-at-ne13 : goal.returns-then-s-at-ne13
-unfolding if◌then◌else◌ ◌and◌
+unfolding when◌then◌else◌ ◌and◌
 returns-then-s-at-ne13 c =
     let a = c.args in
     rw (
@@ -36,7 +36,7 @@ returns-then-s-at-ne13 c =
     )
 
 pub returns-then-s-at-2 : goal.returns-then-s-at-2
-unfolding if◌then◌else◌ ◌and◌
+unfolding when◌then◌else◌ ◌and◌
 returns-then-s-at-2 c =
     let a = c.args in
     rw (
@@ -48,7 +48,7 @@ returns-then-s-at-2 c =
     )
 
 pub returns-then-s-at-ne10 : goal.returns-then-s-at-ne10
-unfolding if◌then◌else◌ ◌and◌
+unfolding when◌then◌else◌ ◌and◌
 returns-then-s-at-ne10 c =
     let a = c.args in
     rw (
@@ -60,7 +60,7 @@ returns-then-s-at-ne10 c =
     )
 
 pub returns : goal.returns
-unfolding if◌then◌else◌ ◌and◌
+unfolding when◌then◌else◌ ◌and◌
 returns c =
     let a = c.args in
     rw (

@@ -1,12 +1,10 @@
 -- `csv::fields::same` meets its contract. The invariant: whether the texts are the same is whether what is left of them is.
 -- Assumes nothing.
 use mathlib.Core.Path.{sym, ◌∙◌}
-use Prim.Native.Nat.{◌-◌}
 use native.Mathlib.Omega.{arith}
 use native.Mathlib.Numerals.{add-one}
 use borrow.Author.Tests.{eq-eqb, ne_eqb}
 use Rattle.numbers.specs.Words.{◌and◌}
-use Rattle.csv_table.specs.Fields.{same}
 use Rattle.csv_table.proofs.FieldLaws.{same-other, same_next, same_none}
 use Rattle.csv_table.proofs.fields.same.Goals as goal
 

@@ -1,10 +1,8 @@
 -- `csv::fields::stretch_end` meets its contract. The invariant: the end of the stretch from `at` is that of the stretch from `i`.
 -- Assumes nothing.
 use mathlib.Core.Path.{sym, ◌∙◌}
-use Prim.Native.Nat.{◌-◌}
 use native.Mathlib.Omega.{arith}
 use native.Mathlib.Numerals.{add-one}
-use Rattle.csv_table.specs.Fields.{stretch}
 use Rattle.csv_table.proofs.FieldLaws.{stretch-stop, stretch-next, stretch-end}
 use Rattle.csv_table.proofs.fields.stretch_end.Goals as goal
 

@@ -1,7 +1,7 @@
 -- `csv::reading::copy_entries` meets its contract. The invariant: the area holds the entries of the first j rows behind the header, and p is where the next row
 -- begins. Assumes nothing.
 use mathlib.Core.Path.{refl}
-use Prim.Native.Nat.{◌+◌, ◌-◌}
+use Prim.Native.Nat.{◌+◌}
 use native.Mathlib.Omega.{arith}
 use borrow.Author.Rules.{rules}
 use Rattle.csv_table.proofs.ScanLaws.{scan-fits}

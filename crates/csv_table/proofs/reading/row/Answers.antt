@@ -1,7 +1,6 @@
 -- `csv::reading::row` meets its contract. The invariant: the row is what is left of it behind the first k fields, and their values are small enough to be cast.
 -- Assumes nothing.
 use mathlib.Core.Path.{◌≡◌, sym, ap, ◌∙◌}
-use Prim.Native.Nat.{◌-◌}
 use native.Mathlib.Omega.{arith}
 use lib.ListN.{drop}
 use Rattle.csv_table.specs.declared.RowRead.{RowRead}

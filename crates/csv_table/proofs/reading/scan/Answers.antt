@@ -1,7 +1,6 @@
 -- `csv::reading::scan` meets its contract. The invariant: the whole answer is that of what is left of the file behind i good rows, each of a byte or more.
 -- Assumes nothing.
 use mathlib.Core.Path.{sym, ◌∙◌}
-use Prim.Native.Nat.{◌-◌}
 use native.Mathlib.Omega.{arith}
 use Rattle.csv_table.proofs.ScanLaws.{scan-start, scan-fits, scan-place, scan-some, scan-bad, scan-last, scan-next}
 use Rattle.csv_table.proofs.reading.scan.Goals as goal

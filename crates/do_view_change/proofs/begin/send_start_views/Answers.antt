@@ -9,8 +9,11 @@ slice_bounds-broadcast-count c =
     views-in a.t a.u a.first a.log.now a.out.now c.requires.0 c.requires.1.0 c.requires.1.1 _ _ c.call_first-w.ensures
 
 pub slice_bounds-broadcast-start : goal.slice_bounds-broadcast-start
-slice_bounds-broadcast-start c = omega (arith, (let a = c.args in
-    views-in a.t a.u a.first a.log.now a.out.now c.requires.0 c.requires.1.0 c.requires.1.1 _ _ c.call_first-w.ensures))
+slice_bounds-broadcast-start c = omega (
+  arith,
+  (let a = c.args in
+      views-in a.t a.u a.first a.log.now a.out.now c.requires.0 c.requires.1.0 c.requires.1.1 _ _ c.call_first-w.ensures),
+)
 
 pub broadcast-requires : goal.broadcast-requires
 broadcast-requires c =

@@ -27,9 +27,12 @@ slice_bounds-do_view_change-count c =
     c.call_first-w.ensures
 
 pub slice_bounds-do_view_change-start : goal.slice_bounds-do_view_change-start
-slice_bounds-do_view_change-start c = omega (arith, (let a = c.args in
-    tell-in a.s a.t a.first a.log.now a.out.now _ c.first_len.ensures c.requires c.if-out-first_len.false _ _
-    c.call_first-w.ensures))
+slice_bounds-do_view_change-start c = omega (
+  arith,
+  (let a = c.args in
+      tell-in a.s a.t a.first a.log.now a.out.now _ c.first_len.ensures c.requires c.if-out-first_len.false _ _
+      c.call_first-w.ensures),
+)
 
 pub do_view_change-k-requires : goal.do_view_change-k-requires
 do_view_change-k-requires c =

@@ -5,26 +5,26 @@ use Prim.Native.Nat.{ℕ, ◌+◌, ◌-◌, ◌/◌}
 use native.Mathlib.Omega.{arith}
 use borrow.Author.Tests.{ne_eqb}
 use lib.Dec.{lit<}
-use Rattle.numbers.specs.Words.{if◌then◌else◌}
+use Rattle.numbers.specs.Words.{when◌then◌else◌}
 use Rattle.frames.specs.FrameRules.{carries_log, entries_from, count_for}
 use Rattle.frames.proofs.offset.count_for.Goals as goal
 
 -- of a kind that carries a log, and of one that doesn't
 module _ (k n : ℕ) (one : k ≡ 1 → ⊥) (two : k ≡ 2 → ⊥) where
   logged : carries_log k ≡ true → count_for k n ≡ (n + 4 - entries_from k n) / 32
-  unfolding count_for if◌then◌else◌
+  unfolding count_for when◌then◌else◌
   logged e = rw (ne_eqb k 1 one, ne_eqb k 2 two, e)
 
   bare : carries_log k ≡ false → count_for k n ≡ 0
-  unfolding count_for if◌then◌else◌
+  unfolding count_for when◌then◌else◌
   bare e = rw (ne_eqb k 1 one, ne_eqb k 2 two, e)
 
 pub returns-then-kind-eq1 : goal.returns-then-kind-eq1
-unfolding count_for if◌then◌else◌
+unfolding count_for when◌then◌else◌
 returns-then-kind-eq1 c = (rw c.if-kind-eq1.true, lit< tt)
 
 pub returns-then-kind-eq2 : goal.returns-then-kind-eq2
-unfolding count_for if◌then◌else◌
+unfolding count_for when◌then◌else◌
 returns-then-kind-eq2 c = (rw c.if-kind-eq2.true, lit< tt)
 
 pub returns-then-not-carries_log : goal.returns-then-not-carries_log

@@ -1,5 +1,4 @@
 -- `journal::examining::examine` meets its contract. Assumes nothing.
-use Prim.Native.Nat.{◌-◌}
 use Rattle.journal.proofs.BelowLaws.{all-groups}
 use Rattle.journal.proofs.examining.examine.Goals as goal
 

@@ -1,6 +1,6 @@
 -- `journal::examining::examine_forms` meets its contract. Assumes nothing.
 use mathlib.Core.Path.{sym, ◌∙◌}
-use Prim.Native.Nat.{◌+◌, ◌-◌, ◌*◌}
+use Prim.Native.Nat.{◌+◌, ◌*◌}
 use native.Mathlib.Omega.{arith}
 use Rattle.journal.proofs.BelowLaws.{forms-more, forms-past, forms-bad, forms-end}
 use Rattle.journal.proofs.FaultLaws.{frame-there}

@@ -1,8 +1,7 @@
 -- `journal::examining::examine_group` meets its contract. Assumes nothing.
 use mathlib.Core.Path.{sym, ap, ◌∙◌, subst}
 use mathlib.Core.List.{List}
-use mathlib.Core.Logic.{⊎_elim}
-use Prim.Native.Nat.{ℕ, ◌+◌, ◌-◌}
+use Prim.Native.Nat.{ℕ, ◌+◌}
 use native.Mathlib.Omega.{arith}
 use lib.ListN.{length}
 use Rattle.journal.specs.Journal.{framed_entry}
@@ -34,16 +33,16 @@ loop-i-preserved c =
     let l = c.loop-i in
     let a = c.args in
     elim c.if-in_group.branch [
-        then-in_group+else-fault-ne0 w ↦
-            let r = w.result_at in
-            let t = right-turn a.members a.low a.file.now l.i l.totals l.invariant.1 l.invariant.2 e.result e.ensures (sym c.in_group.ensures ∙ w.if-in_group.true)
-                w.apply-given.result r.result w.result_fault-fault.result
-                w.apply-given.ensures.0 r.ensures w.result_fault-fault.ensures c.if-in_group.totals (w.totals-is ∙ w.apply-given.ensures.1)
-                (ap length w.totals-is ∙ w.apply-given.auto.totals) w.if-fault-ne0.false in
-            (omega (arith, c.loop-i-test.true), t.0, t.1)
-        | else-in_group w ↦
-            let t = other-turn a.members a.low a.file.now l.i l.totals l.invariant.1 l.invariant.2 e.result e.ensures (sym c.in_group.ensures ∙ w.if-in_group.false) in
-            (omega (arith, c.loop-i-test.true), subst (λ (x : List ℕ). Grouped a.members a.low (totals_filed a.members (l.i + 1) a.file.now) x) (sym w.totals-is) t.0, t.1)
+      | then-in_group+else-fault-ne0 w ↦
+          let r = w.result_at in
+          let t = right-turn a.members a.low a.file.now l.i l.totals l.invariant.1 l.invariant.2 e.result e.ensures (sym c.in_group.ensures ∙ w.if-in_group.true)
+          w.apply-given.result r.result w.result_fault-fault.result
+          w.apply-given.ensures.0 r.ensures w.result_fault-fault.ensures c.if-in_group.totals (w.totals-is ∙ w.apply-given.ensures.1)
+          (ap length w.totals-is ∙ w.apply-given.auto.totals) w.if-fault-ne0.false in
+          (omega (arith, c.loop-i-test.true), t.0, t.1)
+      | else-in_group w ↦
+          let t = other-turn a.members a.low a.file.now l.i l.totals l.invariant.1 l.invariant.2 e.result e.ensures (sym c.in_group.ensures ∙ w.if-in_group.false) in
+          (omega (arith, c.loop-i-test.true), subst (λ (x : List ℕ). Grouped a.members a.low (totals_filed a.members (l.i + 1) a.file.now) x) (sym w.totals-is) t.0, t.1)
     ]
 
 pub returns : goal.returns

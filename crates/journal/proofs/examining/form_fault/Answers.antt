@@ -1,23 +1,23 @@
 -- `journal::examining::form_fault` meets its contract. Assumes nothing.
 use borrow.Author.Tests.{lt-ltb, le-ltb, ne_eqb, eq-eqb}
-use Rattle.numbers.specs.Words.{if◌then◌else◌}
+use Rattle.numbers.specs.Words.{when◌then◌else◌}
 use Rattle.journal.proofs.FaultLaws.{form-at}
 use Rattle.journal.proofs.examining.form_fault.Goals as goal
 
 pub returns-then-s-at : goal.returns-then-s-at
-unfolding if◌then◌else◌
+unfolding when◌then◌else◌
 returns-then-s-at c =
     let a = c.args in
     rw (form-at a.op a.at a.s.now, lt-ltb _ _ c.if-s-at.true)
 
 pub returns-then-read_u32-ne46 : goal.returns-then-read_u32-ne46
-unfolding if◌then◌else◌
+unfolding when◌then◌else◌
 returns-then-read_u32-ne46 c =
     let a = c.args in
     rw (form-at a.op a.at a.s.now, le-ltb _ _ c.if-s-at.false, ← c.read_u32.ensures, ne_eqb _ _ c.if-read_u32-ne46.true)
 
 pub returns-then-read_u8-ne1 : goal.returns-then-read_u8-ne1
-unfolding if◌then◌else◌
+unfolding when◌then◌else◌
 returns-then-read_u8-ne1 c =
     let a = c.args in
     rw (
@@ -30,7 +30,7 @@ returns-then-read_u8-ne1 c =
     )
 
 pub returns-then-read_u32-op : goal.returns-then-read_u32-op
-unfolding if◌then◌else◌
+unfolding when◌then◌else◌
 returns-then-read_u32-op c =
     let a = c.args in
     rw (
@@ -45,7 +45,7 @@ returns-then-read_u32-op c =
     )
 
 pub returns-then-not-entry_ok : goal.returns-then-not-entry_ok
-unfolding if◌then◌else◌
+unfolding when◌then◌else◌
 returns-then-not-entry_ok c =
     let a = c.args in
     rw (
@@ -62,7 +62,7 @@ returns-then-not-entry_ok c =
     )
 
 pub returns : goal.returns
-unfolding if◌then◌else◌
+unfolding when◌then◌else◌
 returns c =
     let a = c.args in
     rw (

@@ -1,6 +1,5 @@
 -- `journal::writing::copy_frames` meets its contract. Assumes nothing.
 use mathlib.Core.Path.{refl}
-use Prim.Native.Nat.{◌-◌}
 use native.Mathlib.Omega.{arith}
 use borrow.Author.Rules.{rules}
 use Rattle.journal.proofs.FrameLaws.{copied_none, copied_more}

@@ -1,5 +1,4 @@
 -- `journal::writing::write_frames` meets its contract. Assumes nothing.
-use Prim.Native.Nat.{◌-◌}
 use Rattle.journal.proofs.WrittenLaws.{below-begins, below_more, all-written}
 use Rattle.journal.proofs.writing.write_frames.Goals as goal
 

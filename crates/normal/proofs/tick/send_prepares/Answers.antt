@@ -1,5 +1,4 @@
 -- `normal::tick::send_prepares` meets its contract. Assumes nothing.
-use Prim.Native.Nat.{◌-◌}
 use native.Mathlib.Omega.{arith}
 use Rattle.normal.proofs.TickLaws.{sent-none, turn_in, turn-rest, turn_small, turn}
 use Rattle.normal.proofs.tick.send_prepares.Goals as goal
@@ -15,9 +14,12 @@ slice_bounds-send_prepare-count c =
     turn_in a.s a.log.now c.requires.0 a.out.now l.out l.at l.i c.requires.1 l.invariant c.loop-i-test.true
 
 pub slice_bounds-send_prepare-start : goal.slice_bounds-send_prepare-start
-slice_bounds-send_prepare-start c = omega (arith, (let a = c.args in
-    let l = c.loop-i in
-    turn_in a.s a.log.now c.requires.0 a.out.now l.out l.at l.i c.requires.1 l.invariant c.loop-i-test.true))
+slice_bounds-send_prepare-start c = omega (
+  arith,
+  (let a = c.args in
+      let l = c.loop-i in
+      turn_in a.s a.log.now c.requires.0 a.out.now l.out l.at l.i c.requires.1 l.invariant c.loop-i-test.true),
+)
 
 pub send_prepare-at-requires : goal.send_prepare-at-requires
 send_prepare-at-requires c =

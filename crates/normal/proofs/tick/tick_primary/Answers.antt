@@ -1,7 +1,6 @@
 -- `normal::tick::tick_primary` meets its contract. Assumes nothing.
 use native.Mathlib.Omega.{arith}
 use lib.ListN.{length}
-use Rattle.config.proofs.SetupLaws.{sized}
 use Rattle.normal.proofs.TickLaws.{beat-in, beat-rest, tick-small, tick-short, ticks}
 use Rattle.normal.proofs.SendLaws.{beat-asks}
 use Rattle.normal.proofs.tick.tick_primary.Goals as goal
@@ -26,10 +25,13 @@ slice_bounds-send_prepares-count c =
     beat-in a.s a.log.now c.requires a.out.now _ n l _ _ c.broadcast-w.ensures
 
 pub slice_bounds-send_prepares-start : goal.slice_bounds-send_prepares-start
-slice_bounds-send_prepares-start c = omega (arith, (let a = c.args in
-    let n = c.tick_len.ensures in
-    let l = c.if-out-tick_len.false in
-    beat-in a.s a.log.now c.requires a.out.now _ n l _ _ c.broadcast-w.ensures))
+slice_bounds-send_prepares-start c = omega (
+  arith,
+  (let a = c.args in
+      let n = c.tick_len.ensures in
+      let l = c.if-out-tick_len.false in
+      beat-in a.s a.log.now c.requires a.out.now _ n l _ _ c.broadcast-w.ensures),
+)
 
 pub send_prepares-p-requires : goal.send_prepares-p-requires
 send_prepares-p-requires c =

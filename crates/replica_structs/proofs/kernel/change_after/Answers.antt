@@ -1,14 +1,14 @@
 -- `replica_structs::kernel::change_after` meets its contract. Assumes nothing.
 use borrow.Author.Rules.{rules}
 use borrow.Author.Tests.{tests}
-use Rattle.numbers.specs.Words.{if◌then◌else◌}
+use Rattle.numbers.specs.Words.{when◌then◌else◌}
 use Rattle.replica_structs.specs.Core.{change_after}
 use Rattle.replica_structs.proofs.kernel.change_after.Goals as goal
 
-pub returns-then-a : goal.returns-then-a
-unfolding change_after if◌then◌else◌
-returns-then-a c = search (tests, rules)
+pub returns-then-a-ne0 : goal.returns-then-a-ne0
+unfolding change_after when◌then◌else◌
+returns-then-a-ne0 c = search (tests, rules)
 
 pub returns : goal.returns
-unfolding change_after if◌then◌else◌
+unfolding change_after when◌then◌else◌
 returns c = search (tests, rules)

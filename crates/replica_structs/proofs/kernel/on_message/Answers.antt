@@ -5,9 +5,6 @@ use Rattle.book.specs.Memory.{memory}
 use Rattle.replica_structs.proofs.CoreLaws.{malformed, taken}
 use Rattle.replica_structs.proofs.kernel.on_message.Goals as goal
 
-pub on_message-requires : goal.on_message-requires
-on_message-requires c = c.requires _ c.in-Passed.is
-
 pub returns-in-Refused : goal.returns-in-Refused
 returns-in-Refused c =
     let a = c.args in
@@ -17,8 +14,7 @@ returns-in-Refused c =
 pub returns-in-Passed : goal.returns-in-Passed
 returns-in-Passed c =
     let a = c.args in
-    let g = c.in-Passed.is in
-    (
+    let g = c.in-Passed.is in (
       taken a.c a.s a.latest a.frame.now (memory a.log.now a.results.now a.totals.now a.acks.now a.stored.now a.out.now a.reps.now) _ g c.told.result c.told.ensures c.on_message.ensures,
       sym (ap checked_offset g),
     )

@@ -1,9 +1,8 @@
 -- `state_bytes::part::write_reports` meets its contract. Assumes nothing.
 use mathlib.Core.Path.{◌≡◌, refl}
-use Prim.Native.Nat.{◌+◌, ◌-◌}
+use Prim.Native.Nat.{◌+◌}
 use native.Mathlib.Omega.{arith}
-use lib.ListN.{length, length-map}
-use Rattle.numbers.specs.Numbers.{over}
+use lib.ListN.{length}
 use Rattle.numbers.specs.Cells.{packed}
 use Rattle.numbers.proofs.RunLaws.{over-nil}
 use Rattle.state_bytes.proofs.LayoutLaws.{put-report, kept-length, fits_more, all-put}

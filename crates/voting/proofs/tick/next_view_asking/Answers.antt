@@ -36,9 +36,12 @@ slice_bounds-call_others-count c =
     c.primary_id-to.ensures.0 c.get_state-w.ensures
 
 pub slice_bounds-call_others-start : goal.slice_bounds-call_others-start
-slice_bounds-call_others-start c = omega (arith, (let a = c.args in
-    calls-in a.s a.c a.out.now _ c.in_last_view.ensures c.if-in_last_view.false c.requires c.if-out-s.false _ _ _
-    c.primary_id-to.ensures.0 c.get_state-w.ensures))
+slice_bounds-call_others-start c = omega (
+  arith,
+  (let a = c.args in
+      calls-in a.s a.c a.out.now _ c.in_last_view.ensures c.if-in_last_view.false c.requires c.if-out-s.false _ _ _
+      c.primary_id-to.ensures.0 c.get_state-w.ensures),
+)
 
 pub call_others-k-requires : goal.call_others-k-requires
 call_others-k-requires c =
