@@ -9,7 +9,6 @@ mod recorded; // recorded calls, played through them
 use client::{Client, Read, ReplyOutcome};
 use numbers::View;
 use std::io;
-use std::io::{BufWriter, Write};
 
 // The first n bytes of the area as hex, a line to each 39 bytes.
 fn say_frames<W: io::Write>(writer: &mut W, area: &[u8], n: usize) -> io::Result<()> {
@@ -221,8 +220,7 @@ fn day<W: io::Write>(writer: &mut W) -> io::Result<()> {
 }
 
 fn main(rt: HostRuntime) -> io::Result<()> {
-    let mut writer = BufWriter::new(rt.alloc(), io::writer(&rt))?;
+    let mut writer = io::writer(&rt);
     day(&mut writer)?;
-    play_recorded(&mut rt.reader(), &mut writer)?;
-    writer.flush()
+    play_recorded(&mut rt.reader(), &mut writer)
 }

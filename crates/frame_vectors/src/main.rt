@@ -9,10 +9,9 @@ mod log; // carried entries
 mod last; // what no single frame shows
 
 use std::io;
-use std::io::{BufWriter, Write};
 
 fn main(rt: HostRuntime) -> io::Result<()> {
-    let mut writer = BufWriter::new(rt.alloc(), io::writer(&rt))?;
+    let mut writer = io::writer(&rt);
     text::say(
         &mut writer,
         b"Replica 1 of 3, L = 3. value:number stands for a frame with that value in the named place, and for its refusal number; 0: none.\n",
@@ -33,6 +32,5 @@ fn main(rt: HostRuntime) -> io::Result<()> {
     log::risings(&mut writer)?;
     last::spans(&mut writer)?;
     last::order(&mut writer)?;
-    last::strays(&mut writer)?;
-    writer.flush()
+    last::strays(&mut writer)
 }

@@ -12,7 +12,6 @@ use outside::call::WithOffset;
 use playing::ReplicaCall;
 use state::{Replica, Returned};
 use std::io;
-use std::io::{BufWriter, Write};
 
 mod trace; // a whole trace
 
@@ -185,12 +184,11 @@ fn main(rt: HostRuntime) -> io::Result<()> {
     let mut input = room();
     let mut reader = rt.reader();
     let n = text::read_full(&mut reader, &mut input)?;
-    let mut writer = BufWriter::new(rt.alloc(), io::writer(&rt))?;
+    let mut writer = io::writer(&rt);
     text::say(
         &mut writer,
         b"Recorded calls of replicas with L and M of 8 at most; areas for messages are cut to 8192 bytes, for replies to 512.\n",
     )?;
     trace::replay(&mut writer, &input[..n])?;
-    say_rest(&mut reader, &mut writer)?;
-    writer.flush()
+    say_rest(&mut reader, &mut writer)
 }

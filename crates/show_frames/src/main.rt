@@ -8,7 +8,6 @@ mod damage; // a frame with a fault, handed in
 use frames::{Message, RecoveryState};
 use numbers::{Op, View};
 use std::io;
-use std::io::{BufWriter, Write};
 
 // Document 01's first example: what a fresh replica 0 of 3 sends on a tick.
 fn ticked<W: io::Write>(writer: &mut W) -> io::Result<()> {
@@ -148,7 +147,7 @@ fn recovering<W: io::Write>(writer: &mut W) -> io::Result<()> {
 }
 
 fn main(rt: HostRuntime) -> io::Result<()> {
-    let mut writer = BufWriter::new(rt.alloc(), io::writer(&rt))?;
+    let mut writer = io::writer(&rt);
     ticked(&mut writer)?;
     replied(&mut writer)?;
     text::say(
@@ -158,6 +157,5 @@ fn main(rt: HostRuntime) -> io::Result<()> {
     shown::carried(&mut writer)?;
     normal(&mut writer)?;
     view_change(&mut writer)?;
-    recovering(&mut writer)?;
-    writer.flush()
+    recovering(&mut writer)
 }
