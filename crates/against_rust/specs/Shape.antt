@@ -13,6 +13,7 @@ use Rattle.model.specs.State.{ClientEntry, Held, Reported, Response, State, Answ
 use Rattle.model.specs.State.Answer.{refused, done}
 use Rattle.model.specs.Sending.{messages_out, replies_out}
 use Rattle.model.specs.Steps.{on_frame, on_tick, create, recover}
+use Rattle.frames.specs.Refusals.{number_of}
 
 -- bytes as a trace writes them: how many, and their hex digits as one number
 unfoldable pub hex : ℕ → ℕ → List ℕ
@@ -150,7 +151,7 @@ takings_like (t ∷ ts) m = m.book.takings ∷ []
 -- what is seen of the model's answer, of what was recorded; a refusal leaves the state as it was
 unfoldable pub shown : Seen → State → Answer → Seen
 shown w m (refused k) =
-    saw_all k [] [] (numbers_like w.numbers m) (digests_like w.digests m) (kept_like w.kept m) (takings_like w.takings m)
+    saw_all (number_of k) [] [] (numbers_like w.numbers m) (digests_like w.digests m) (kept_like w.kept m) (takings_like w.takings m)
 shown w m (done m' out rs) =
     saw_all 0 (messages_out out) (replies_out rs) (numbers_like w.numbers m') (digests_like w.digests m') (kept_like w.kept m')
     (takings_like w.takings m')
@@ -178,7 +179,7 @@ module _ (u : Setup) where
 
   -- and of its creation; a refused one has no state
   unfoldable pub seen_from : Seen → Answer → List Line → List Seen
-  seen_from w (refused k) ls = saw k [] [] [] [] ∷ []
+  seen_from w (refused k) ls = saw (number_of k) [] [] [] [] ∷ []
   seen_from w (done m out rs) ls = shown w m (done m out rs) ∷ seen m ls
 
   unfoldable pub starts : Start → Answer

@@ -4,19 +4,19 @@
 --     none-next                                     one entry of the log further, by places
 --     rises-after                                   what the look over pairs says of the two logs joined
 --     after-not, after-rising                       what is left of it where the second log is looked at first
---     same_refl, same-eq, same_next, same_stop, same_end         two runs compared, and by places
+--     same_refl, same-eq, same-bytes                two runs compared
 --     keeps-short, keeps-long, keeps-prefix, prefix-keeps        our first n entries kept; keeps-entries: as lists
 -- Assumes nothing.
 use mathlib.Core.Path.{◌≡◌, refl, sym, ap, ◌∙◌}
 use mathlib.Core.List.{List, [], ◌∷◌, ◌++◌}
-use mathlib.Core.Bool.{Bool, true, false, not, false≢true}
+use mathlib.Core.Bool.{Bool, true, false, not, false≢true, ◌&&◌}
+use Rattle.std.specs.Str.{bytes_eq}
 use Prim.Native.Nat.{ℕ, suc, ◌+◌, ◌-◌, ◌*◌, ◌≤◌, ◌<◌}
-use native.Mathlib.Numerals.{add-one}
 use native.Mathlib.Omega.{arith}
 use lib.Dec.{leb, eqb}
-use lib.ListN.{length, get_or, take, drop, length-take, drop_of_length-le}
-use lib.Seq.{drop-cons, get_or-take, length-take-le}
-use borrow.Author.Tests.{eq-eqb, ne_eqb, eqb-true, le-leb, lt-leb, leb-true}
+use lib.ListN.{length, get_or, take, drop}
+use lib.Seq.{length-take-le}
+use borrow.Author.Tests.{eq-eqb, eqb-true, le-leb, lt-leb, leb-true}
 use Rattle.numbers.specs.Words.{◌and◌}
 use Rattle.numbers.specs.Numbers.{over, put_at}
 use Rattle.numbers.proofs.WordLaws.{and_both, and-false, and_yes}
@@ -117,30 +117,18 @@ same-eq (x ∷ xs) (y ∷ ys) h =
     let f : xs ≡ ys = same-eq xs ys p.1 in
     cc
 
--- the comparison of the first n bytes from place i on
-abbrev pub same_from : ℕ → ℕ → List ℕ → List ℕ → Bool
-same_from i n xs ys = is_same (drop i (take n xs)) (drop i (take n ys))
+and-same : (p q : Bool) → (p && q) ≡ (p and q)
+unfolding ◌and◌
+and-same true q = refl
+and-same false q = refl
 
-byte_next : (l : List ℕ) (n i : ℕ) → i < n → n ≤ length l → drop i (take n l) ≡ get_or l i 0 ∷ drop (i + 1) (take n l)
-byte_next l n i h g =
-    let e : i < length (take n l) = rw length-take (omega arith) in
-    rw (add-one, ← get_or-take n l i 0 h) (drop-cons (take n l) i 0 e)
-
-byte-end : (l : List ℕ) (n i : ℕ) → n ≤ i → drop i (take n l) ≡ []
-byte-end l n i h = drop_of_length-le (take n l) {i = i} (omega (arith, length-take n l))
-
-module _ (n i : ℕ) (xs ys : List ℕ) (h : i < n) (g : n ≤ length xs) (k : n ≤ length ys) where
-  pub same_next : get_or xs i 0 ≡ get_or ys i 0 → same_from i n xs ys ≡ same_from (i + 1) n xs ys
-  unfolding is_same ◌and◌
-  same_next e = rw (byte_next xs n i h g, byte_next ys n i h k, eq-eqb (get_or xs i 0) (get_or ys i 0) e)
-
-  pub same_stop : (get_or xs i 0 ≡ get_or ys i 0 → ⊥) → same_from i n xs ys ≡ false
-  unfolding is_same ◌and◌
-  same_stop e = rw (byte_next xs n i h g, byte_next ys n i h k, ne_eqb (get_or xs i 0) (get_or ys i 0) e)
-
-pub same_end : (n i : ℕ) (xs ys : List ℕ) → n ≤ i → same_from i n xs ys ≡ true
-unfolding is_same
-same_end n i xs ys h = rw (byte-end xs n i h, byte-end ys n i h)
+-- what `==` says of two runs
+pub same-bytes : (xs ys : List ℕ) → bytes_eq xs ys ≡ is_same xs ys
+unfolding is_same ◌and◌
+same-bytes [] [] = refl
+same-bytes [] (y ∷ ys) = refl
+same-bytes (x ∷ xs) [] = refl
+same-bytes (x ∷ xs) (y ∷ ys) = rw (same-bytes xs ys, and-same (eqb x y) (is_same xs ys))
 
 -- ---- our first n entries kept
 

@@ -6,13 +6,14 @@ ghost use Rattle.numbers.specs.Numbers.{over};
 ghost use Rattle.entries.specs.Entries.{encode_entry, entries};
 ghost use Rattle.entries.specs.Places.{entry_place, result_place};
 ghost use Rattle.entries.specs.Rising.{rising};
-ghost use Rattle.book.specs.Log.{with_entries, rises_after, none_breaks, is_same, keeps_first};
+ghost use Rattle.book.specs.Log.{with_entries, rises_after, none_breaks, keeps_first};
 ghost use Rattle.fees.specs.Fees.{outcome_on};
 ghost use Rattle.fees.specs.Takings.{takings_after};
 ghost use Rattle.book.specs.Runs.{applied, money_committed, takings_committed, replies};
 ghost use Rattle.book.specs.Memory.{money};
 
 use entries::Entry;
+use entries::chains::Chains;
 use numbers::View;
 
 // One entry after the first n.
@@ -39,13 +40,10 @@ fn none_breaks(log: &[u8], n: usize, part: &[u8], k: usize) -> bool
     requires { (n ≤ 4096) × ((entry_place n ≤ length log.now) × ((32 * k ≤ length part.now) × (rising (entries k part.now) ≡ true))) }
     ensures { result ≡ none_breaks (entries n log.now) (entries k part.now) }
 {
-    if k <= 2 {
-        return none_by_pairs(log, n, part, k);
+    match k {
+        3..=4096 => none_by_chain(log, n, part, k),
+        _ => none_by_pairs(log, n, part, k),
     }
-    if 4096 < k {
-        return none_by_pairs(log, n, part, k);
-    }
-    none_by_chain(log, n, part, k)
 }
 
 // Each entry of the log is compared with every one of `part`.
@@ -53,65 +51,48 @@ fn none_by_pairs(log: &[u8], n: usize, part: &[u8], k: usize) -> bool
     requires { (n ≤ 4096) × ((entry_place n ≤ length log.now) × (32 * k ≤ length part.now)) }
     ensures { result ≡ none_breaks (entries n log.now) (entries k part.now) }
 {
-    let mut ok = true;
-    let mut i = 0;
-    'pairs: while i < n {
+    for i in 0..n {
         let e = entries::entry_in(log, i);
-        let mut j = 0;
-        while j < k {
+        for j in 0..k {
             if entries::breaks(e, part, 32 * j) {
-                ok = false;
-                break 'pairs;
+                return false;
             }
-            j += 1;
         }
-        i += 1;
     }
-    ok
+    true
 }
 
 // Each entry of the log is compared with the first one of its client in `part`: those after it have higher request numbers.
-// It is found along chains like those of entries::rises_by_chain, in which the entries of `part` are counted from its end, 0 being the last one:
-// `first` has for each remainder one more than the first entry's number, 0 where there is none; `next` has for each entry the same of the next one.
+// It is found along its chain, in which the entries of `part` are numbered from its end, 0 being the last one.
 // Where too many ids have one remainder, the pairs are looked at instead.
 fn none_by_chain(log: &[u8], n: usize, part: &[u8], k: usize) -> bool
     requires { (n ≤ 4096) × ((entry_place n ≤ length log.now) × ((k ≤ 4096) × ((32 * k ≤ length part.now) × (rising (entries k part.now) ≡ true)))) }
     ensures { result ≡ none_breaks (entries n log.now) (entries k part.now) }
 {
-    let mut first: [u16; 1021] = [0; 1021];
-    let mut next: [u16; 4096] = [0; 4096];
-    let mut m = 0;
-    while m < k {
-        let h = (numbers::read_u64(part, 32 * (k - 1 - m)) % 1021) as usize;
-        next[m] = first[h];
-        first[h] = (m + 1) as u16;
-        m += 1;
+    let mut chains = Chains::new();
+    for m in 0..k {
+        chains.push(m, numbers::read_u64(part, 32 * (k - 1 - m)));
     }
     let mut looks = 16 * n;
-    let mut ok = true;
-    let mut i = 0;
-    'pairs: while i < n {
+    for i in 0..n {
         let e = entries::entry_in(log, i);
-        let mut j = first[(e.client % 1021) as usize] as usize;
-        while 0 < j {
+        let mut at = chains.latest(e.client);
+        while let Some(j) = at {
             if looks == 0 {
                 return none_by_pairs(log, n, part, k);
             }
             looks -= 1;
-            j -= 1;
             let p = 32 * (k - 1 - j);
             if numbers::read_u64(part, p) == e.client {
                 if numbers::read_u64(part, p + 8) <= e.request {
-                    ok = false;
-                    break 'pairs;
+                    return false;
                 }
                 break;
             }
-            j = next[j] as usize;
+            at = chains.earlier(j);
         }
-        i += 1;
     }
-    ok
+    true
 }
 
 // Whether the first n entries of a log that is rising, followed by the first k of `part`, are rising.
@@ -125,21 +106,6 @@ pub fn rises_after(log: &[u8], n: usize, part: &[u8], k: usize) -> bool
     none_breaks(log, n, part, k)
 }
 
-// Whether the first n bytes of two runs are equal.
-fn same(xs: &[u8], ys: &[u8], n: usize) -> bool
-    requires { (n ≤ length xs.now) × (n ≤ length ys.now) }
-    ensures { result ≡ is_same (take n xs.now) (take n ys.now) }
-{
-    let mut i = 0;
-    while i < n {
-        if xs[i] != ys[i] {
-            return false;
-        }
-        i += 1;
-    }
-    true
-}
-
 // Whether a log of k entries in `part` keeps the first n of ours, all 32 bytes of each.
 pub fn keeps(log: &[u8], n: usize, part: &[u8], k: usize) -> bool
     requires { (n ≤ 4096) × ((entry_place n ≤ length log.now) × (32 * k ≤ length part.now)) }
@@ -148,7 +114,7 @@ pub fn keeps(log: &[u8], n: usize, part: &[u8], k: usize) -> bool
     if k < n {
         return false;
     }
-    same(log, part, 32 * n)
+    log[..32 * n] == part[..32 * n]
 }
 
 // The entry of op number i + 1 goes through the fee rules; what it gave is the result of that op. The takings after it.
@@ -183,11 +149,8 @@ pub fn commit_up_to(
     ensures { (money results.new totals.new ≡ money_committed members log.now from count (money results.old totals.old)) × (result ≡ takings_committed members log.now from count (money results.old totals.old) takings) }
 {
     let mut sum = takings;
-    let mut k = 0;
-    while k < count {
-        let i = from + k;
+    for i in from..from + count {
         sum = commit_one(results, totals, members, sum, entries::entry_in(log, i), i);
-        k += 1;
     }
     sum
 }
@@ -204,12 +167,10 @@ pub fn write_replies(
     requires { (from + count ≤ 4096) × ((36 * count ≤ length area.old) × ((9 * (from + count) ≤ length results.now) × (entry_place (from + count) ≤ length log.now))) }
     ensures { area.new ≡ over (replies v log.now results.now from count) area.old }
 {
-    let mut k: usize = 0;
-    while k < count {
+    for k in 0..count {
         let i = from + k;
         let e = entries::entry_in(log, i);
         let o = fees::result_in(results, i);
         writers::write_reply(&mut area[36 * k..], v, e.client, e.request, o.code, o.total);
-        k += 1;
     }
 }

@@ -4,13 +4,15 @@ use mathlib.Core.Path.{◌≡◌, sym, ◌∙◌}
 use mathlib.Core.List.{List}
 use Prim.Native.Nat.{ℕ}
 use lib.ListN.{length}
+use Rattle.std.specs.Prelude.{Result}
 use Rattle.numbers.specs.declared.View.{View}
 use Rattle.client.specs.declared.Client.{Client}
 use Rattle.client.specs.declared.AfterCreate.{AfterCreate}
 use Rattle.client.specs.declared.AfterRequest.{AfterRequest}
 use Rattle.client.specs.declared.AfterReply.{AfterReply}
-use Rattle.client.specs.declared.Resent.{Resent}
-use Rattle.client.specs.declared.Read.{Read}
+use Rattle.client.specs.declared.refusal.ClientRefusal.{ClientRefusal}
+use Rattle.client.specs.declared.ReplyFields.{ReplyFields}
+use Rattle.client.specs.declared.Malformed.{Malformed}
 use Rattle.client.specs.Client.{create_of, requested_of, requested_area, replied_of, idled_of, idled_area}
 use Rattle.client.specs.Replies.{Reads}
 
@@ -29,9 +31,9 @@ requested-one c operation member cents s r t x y p q = (one p.0 q.0, one p.1 q.1
 pub replied-one : (c : Client) (number : ℕ) (view : View) (r t : AfterReply) → r ≡ replied_of c number view → t ≡ replied_of c number view → r ≡ t
 replied-one c number view r t = one
 
-pub idled-one : (c : Client) (s : List ℕ) (r t : Resent) (x y : List ℕ)
+pub idled-one : (c : Client) (s : List ℕ) (r t : Result ℕ ClientRefusal) (x y : List ℕ)
     → (r ≡ idled_of c (length s)) × (x ≡ idled_area c s) → (t ≡ idled_of c (length s)) × (y ≡ idled_area c s) → (r ≡ t) × (x ≡ y)
 idled-one c s r t x y p q = (one p.0 q.0, one p.1 q.1)
 
-pub read-reply-one : (s : List ℕ) (r t : Read) → Reads s r → Reads s t → r ≡ t
+pub read-reply-one : (s : List ℕ) (r t : Result ReplyFields Malformed) → Reads s r → Reads s t → r ≡ t
 read-reply-one s r t p q = one p.exact q.exact

@@ -20,7 +20,7 @@ use Rattle.offsets.proofs.PlaceLaws.{end-at, at-end, free-at, at-free, between-a
 use Rattle.offsets.proofs.OffsetLaws.{Rules}
 use Rattle.offsets.proofs.ReadLaws.{free-field, past-field, short-field, past-number, short-number, number-le, place-le}
 use Rattle.frames.specs.Kinds.{kind_of}
-use Rattle.client.specs.Replies.{reply_ok, reply_rule}
+use Rattle.client.specs.Replies.{reply_framed, reply_ok, reply_rule}
 
 -- what follows each field, from the last one on
 abbrev pub from-outcome : Rule
@@ -53,7 +53,7 @@ lives =
 -- ---- the bytes that keep it
 
 formed-by : (s : List ℕ) → Bytes s → takes reply_rule s ≡ true → reply_ok s ≡ true
-unfolding reply_rule reply_ok
+unfolding reply_rule reply_ok reply_framed
 formed-by s b h =
     let a = just-at 4 32 from-version 0 s (lit< tt) (omega arith) h in
     let v = just-at 1 1 from-kind 4 s (lit< tt) a.0 a.2 in
@@ -63,36 +63,37 @@ formed-by s b h =
     let o = between-at 1 1 6 (λ o. free 8 end) 27 s (lit< tt) w.0 w.1 in
     let f = free-at 8 end 28 s o.long o.rest in
     let l = end-at 36 s f.0 f.1 in
+    let e0 = eqb (length s) 36 in
     let e1 = eqb (num 4 0 s) 32 in
     let e2 = eqb (num 1 4 s) 1 in
     let e3 = eqb (kind_of s) 12 in
     let e4 = eqb (num 1 6 s) 0 in
-    let e5 = within 1 6 (num 1 27 s) in
-    and-true (eqb (length s) 36) (e1 and e2 and e3 and e4 and e5) (eq-eqb (length s) 36 l)
-    (and-true e1 (e2 and e3 and e4 and e5) (eq-eqb (num 4 0 s) 32 a.1)
-    (and-true e2 (e3 and e4 and e5) (eq-eqb (num 1 4 s) 1 v.1)
-    (and-true e3 (e4 and e5) (eq-eqb (kind_of s) 12 k.1)
-    (and-true e4 e5 (eq-eqb (num 1 6 s) 0 t.1) (both-within 1 6 (num 1 27 s) o.least o.most)))))
+    and-true (e0 and e1 and e2 and e3 and e4) (within 1 6 (num 1 27 s))
+    (and-true e0 (e1 and e2 and e3 and e4) (eq-eqb (length s) 36 l)
+    (and-true e1 (e2 and e3 and e4) (eq-eqb (num 4 0 s) 32 a.1)
+    (and-true e2 (e3 and e4) (eq-eqb (num 1 4 s) 1 v.1)
+    (and-true e3 e4 (eq-eqb (kind_of s) 12 k.1) (eq-eqb (num 1 6 s) 0 t.1)))))
+    (both-within 1 6 (num 1 27 s) o.least o.most)
 
 taken-by : (s : List ℕ) → Bytes s → reply_ok s ≡ true → takes reply_rule s ≡ true
-unfolding reply_rule reply_ok
+unfolding reply_rule reply_ok reply_framed
 taken-by s b h =
+    let e0 = eqb (length s) 36 in
     let e1 = eqb (num 4 0 s) 32 in
     let e2 = eqb (num 1 4 s) 1 in
     let e3 = eqb (kind_of s) 12 in
     let e4 = eqb (num 1 6 s) 0 in
-    let e5 = within 1 6 (num 1 27 s) in
-    let p = and_both (eqb (length s) 36) (e1 and e2 and e3 and e4 and e5) h in
-    let q = and_both e1 (e2 and e3 and e4 and e5) p.1 in
-    let r = and_both e2 (e3 and e4 and e5) q.1 in
-    let t = and_both e3 (e4 and e5) r.1 in
-    let z = and_both e4 e5 t.1 in
-    let w = within_both 1 6 (num 1 27 s) z.1 in
+    let f = and_both (e0 and e1 and e2 and e3 and e4) (within 1 6 (num 1 27 s)) h in
+    let p = and_both e0 (e1 and e2 and e3 and e4) f.0 in
+    let q = and_both e1 (e2 and e3 and e4) p.1 in
+    let r = and_both e2 (e3 and e4) q.1 in
+    let t = and_both e3 e4 r.1 in
+    let w = within_both 1 6 (num 1 27 s) f.1 in
     let l : length s ≡ 36 = eqb-true (length s) 36 p.0 in
     at-just 4 32 from-version 0 s b (omega (arith, l)) (eqb-true (num 4 0 s) 32 q.0)
     (at-just 1 1 from-kind 4 s b (omega (arith, l)) (eqb-true (num 1 4 s) 1 r.0)
     (at-just 1 12 from-addressee 5 s b (omega (arith, l)) (eqb-true (kind_of s) 12 t.0)
-    (at-just 1 0 from_view 6 s b (omega (arith, l)) (eqb-true (num 1 6 s) 0 z.0)
+    (at-just 1 0 from_view 6 s b (omega (arith, l)) (eqb-true (num 1 6 s) 0 t.1)
     (at-free 20 from-outcome 7 s (omega (arith, l))
     (at-between 1 1 6 (λ o. free 8 end) 27 s b (omega (arith, l)) w.0 w.1 (at-free 8 end 28 s (omega (arith, l)) (at-end 36 s l)))))))
 

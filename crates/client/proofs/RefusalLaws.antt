@@ -9,6 +9,7 @@ use native.Mathlib.Omega.{arith}
 use lib.Dec.{ltb, eqb}
 use lib.ListN.{length, length-append}
 use borrow.Author.Tests.{ltb-false, eqb-false}
+use Rattle.std.specs.Prelude.{Some, Result, Ok, Err}
 use Rattle.numbers.specs.Words.{when◌then◌else◌}
 use Rattle.numbers.specs.Numbers.{big}
 use Rattle.numbers.proofs.NumberLaws.{within_both}
@@ -17,18 +18,19 @@ use Rattle.entries.specs.declared.Entry.{Entry}
 use Rattle.config.specs.Setup.{replicas_ok}
 use Rattle.writers.specs.Writers.{header, encode}
 use Rattle.client.specs.declared.Client.{Client}
-use Rattle.client.specs.declared.Pending.TheVariants.{Waiting}
-use Rattle.client.specs.Client.{request_refusal, request_to, frames_to, frames_again, idle_refusal}
+use Rattle.client.specs.declared.refusal.ClientRefusal.{ClientRefusal}
+use Rattle.client.specs.declared.refusal.ClientRefusal.TheVariants.{OutOfRange, BadEntry, NoNumber, NoRoom}
+use Rattle.client.specs.Client.{may_request, request_to, frames_to, frames_again, may_idle}
 
 -- ---- what is not refused
 
-four : (a b c d : Bool) → ◌≡◌ {A = ℕ} (when not a then 1 else when not b then 2 else when c then 11 else when d then 9 else 0) 0
+four : (a b c d : Bool) → ◌≡◌ {A = Result (Unit {0}) ClientRefusal} (when not a then Err OutOfRange else when not b then Err BadEntry else when c then Err NoNumber else when d then Err NoRoom else Ok tt) (Ok tt)
     → (a ≡ true) × ((b ≡ true) × ((c ≡ false) × (d ≡ false)))
 unfolding when◌then◌else◌
-four false b c d e = absurd (omega arith)
-four true false c d e = absurd (omega arith)
-four true true true d e = absurd (omega arith)
-four true true false true e = absurd (omega arith)
+four false b c d e = cc
+four true false c d e = cc
+four true true true d e = cc
+four true true false true e = cc
 four true true false false e = (refl, (refl, (refl, refl)))
 
 pub record Ready (c : Client) (operation cents room : ℕ) : Type 0 where
@@ -38,8 +40,8 @@ pub record Ready (c : Client) (operation cents room : ℕ) : Type 0 where
   pub more : c.next ≡ 18446744073709551615 → ⊥
   pub fits : 39 ≤ room
 
-pub ready : (c : Client) (operation cents room : ℕ) → request_refusal c operation cents room ≡ 0 → Ready c operation cents room
-unfolding request_refusal
+pub ready : (c : Client) (operation cents room : ℕ) → may_request c operation cents room ≡ Ok tt → Ready c operation cents room
+unfolding may_request
 ready c operation cents room e =
     let f = four (replicas_ok c.n) (operation_ok operation cents) (eqb c.next 18446744073709551615) (ltb room 39) e in
     let n = within_both 3 7 c.n f.0 in
@@ -51,15 +53,15 @@ ready c operation cents room e =
       fits = ltb-false room 39 f.1.1.1;
     }
 
-two : (a b : Bool) → ◌≡◌ {A = ℕ} (when not a then 1 else when b then 9 else 0) 0 → (a ≡ true) × (b ≡ false)
+two : (a b : Bool) → ◌≡◌ {A = Result (Unit {0}) ClientRefusal} (when not a then Err OutOfRange else when b then Err NoRoom else Ok tt) (Ok tt) → (a ≡ true) × (b ≡ false)
 unfolding when◌then◌else◌
-two false b e = absurd (omega arith)
-two true true e = absurd (omega arith)
+two false b e = cc
+two true true e = cc
 two true false e = (refl, refl)
 
 -- the frames of a re-send fit
-pub idle-ready : (c : Client) (room : ℕ) → idle_refusal c room ≡ 0 → length (frames_again c.n c.pending) ≤ room
-unfolding idle_refusal
+pub idle-ready : (c : Client) (room : ℕ) → may_idle c room ≡ Ok tt → length (frames_again c.n c.pending) ≤ room
+unfolding may_idle
 idle-ready c room e = ltb-false room _ (two (replicas_ok c.n) (ltb room (length (frames_again c.n c.pending))) e).1
 
 -- ---- lengths
@@ -74,7 +76,7 @@ frames-length zero e = refl
 frames-length (suc k) e = length-append (frames_to k e) _ ∙ omega (arith, frames-length k e)
 
 -- of the pending request, where it is known which
-pub idle-fits : (c : Client) (room : ℕ) (e : Entry) → idle_refusal c room ≡ 0 → c.pending ≡ Waiting e → c.n * 39 ≤ room
+pub idle-fits : (c : Client) (room : ℕ) (e : Entry) → may_idle c room ≡ Ok tt → c.pending ≡ Some e → c.n * 39 ≤ room
 unfolding frames_again
 idle-fits c room e z p =
     let s : length (frames_again c.n c.pending) ≡ c.n * 39 = ap (λ q. length (frames_again c.n q)) p ∙ frames-length c.n e in

@@ -1,5 +1,5 @@
 -- A request number is never used twice, and a re-send carries the number of the pending request.
---     number-given, next-rises     a request that is done has the next number, and raises it by one
+--     number-given, next-rises, sent-is     a request that is done has the next number, and raises it by one
 --     next-stays, next-least       no call lowers the next number, nor do any calls one after the other
 --     never-twice                  the number of a later request that is done is greater, whatever was called between the two
 --     pending-sent                 a request that is done is pending as the entry that was sent, under the number given
@@ -11,40 +11,55 @@ use mathlib.Core.Logic.{⊎_elim}
 use Prim.Native.Nat.{ℕ, zero, suc, ◌+◌, ◌*◌, ◌^◌, ◌≤◌, ◌<◌}
 use native.Mathlib.Nat.{le_refl, le_trans}
 use native.Mathlib.Omega.{arith}
-use lib.Dec.{eqb}
 use lib.ListN.{length, take, drop, length-drop}
 use lib.Seq.{take-append-le, drop-append-le, drop_at, take_all}
-use borrow.Author.Tests.{eq-eqb}
+use Rattle.std.specs.Prelude.{Result, Ok, Err}
 use Rattle.numbers.specs.Numbers.{num, big}
 use Rattle.numbers.specs.declared.View.{View}
-use Rattle.numbers.proofs.WordLaws.{split, if-true}
+use Rattle.numbers.proofs.WordLaws.{split}
 use Rattle.numbers.proofs.NumberLaws.{be-big, eq-or-not}
 use Rattle.entries.specs.Entries.{encode_entry}
 use Rattle.entries.specs.declared.Entry.{Entry}
 use Rattle.config.specs.Setup.{replicas_ok}
 use Rattle.writers.specs.Writers.{header, encode}
 use Rattle.client.specs.declared.Client.{Client}
+use Rattle.client.specs.declared.refusal.ClientRefusal.{ClientRefusal}
+use Rattle.client.specs.declared.RequestSent.{RequestSent}
 use Rattle.client.specs.declared.AfterRequest.{AfterRequest}
 use Rattle.client.specs.declared.AfterReply.{AfterReply}
-use Rattle.client.specs.Client.{request_refusal, next_entry, request_to, asked, requested_of, replied_of, frames_to}
+use Rattle.client.specs.Client.{may_request, next_entry, request_to, asked, asked_if, requested_of, replied_of, frames_to}
 use Rattle.client.specs.Calls.{ClientCall, request, reply, idle, after_call, after_calls}
 use Rattle.client.proofs.RefusalLaws.{frame-length, frames-length}
 
 module _ (c : Client) (operation member cents room : ℕ) where
-  pub pending-sent : request_refusal c operation cents room ≡ 0 → requested_of c operation member cents room ≡ asked c (next_entry c operation member cents)
+  pub pending-sent : may_request c operation cents room ≡ Ok tt → requested_of c operation member cents room ≡ asked c (next_entry c operation member cents)
   unfolding requested_of
-  pending-sent h = if-true (eqb (request_refusal c operation cents room) 0) _ _ (eq-eqb (request_refusal c operation cents room) 0 h)
+  pending-sent h = rw h
 
-  pub number-given : request_refusal c operation cents room ≡ 0 → (requested_of c operation member cents room).answer.number ≡ c.next
-  number-given h = ap (λ (x : AfterRequest). x.answer.number) (pending-sent h)
+  pub number-given : may_request c operation cents room ≡ Ok tt → (requested_of c operation member cents room).answer ≡ Ok (record { number = c.next; written = 39 })
+  number-given h = ap (λ (x : AfterRequest). x.answer) (pending-sent h)
 
-  pub next-rises : request_refusal c operation cents room ≡ 0 → (requested_of c operation member cents room).client.next ≡ c.next + 1
+  pub next-rises : may_request c operation cents room ≡ Ok tt → (requested_of c operation member cents room).client.next ≡ c.next + 1
   next-rises h = ap (λ (x : AfterRequest). x.client.next) (pending-sent h)
+
+  -- the same of an answer that is none of the refusals
+  pub sent-is : (sent : RequestSent) → (requested_of c operation member cents room).answer ≡ Ok sent
+      → (sent.number ≡ c.next) × ((requested_of c operation member cents room).client.next ≡ c.next + 1)
+  unfolding requested_of
+  sent-is sent = go (may_request c operation cents room)
+    where
+      go : (r : Result (Unit {0}) ClientRefusal) → (asked_if r c (next_entry c operation member cents)).answer ≡ Ok sent
+          → (sent.number ≡ c.next) × ((asked_if r c (next_entry c operation member cents)).client.next ≡ c.next + 1)
+      go (Ok done) h = let e : sent ≡ record { number = c.next; written = 39 } = cc in (ap (λ (x : RequestSent). x.number) e, refl)
+      go (Err cause) h = cc
 
   request-least : c.next ≤ (requested_of c operation member cents room).client.next
   unfolding requested_of
-  request-least =
-      split (λ (x : AfterRequest). c.next ≤ x.client.next) (eqb (request_refusal c operation cents room) 0) _ _ (λ h. omega arith) (λ h. omega arith)
+  request-least = go (may_request c operation cents room)
+    where
+      go : (r : Result (Unit {0}) ClientRefusal) → c.next ≤ (asked_if r c (next_entry c operation member cents)).client.next
+      go (Ok done) = omega arith
+      go (Err cause) = omega arith
 
 reply-same : (c : Client) (number : ℕ) (view : View) → (replied_of c number view).client.next ≡ c.next
 unfolding replied_of
@@ -61,13 +76,14 @@ unfolding after_calls
 next-least c [] = le_refl c.next
 next-least c (k ∷ ks) = le_trans (next-stays c k) (next-least (after_call c k) ks)
 
--- the first request, what was called after it, and the second request
+-- The first request, what was called after it, and the second request. That both are done shows in that each has an answer, and its number.
 pub never-twice : (c : Client) (o m x r : ℕ) (ks : List ClientCall) (o' m' x' r' : ℕ) → let d = after_calls (requested_of c o m x r).client ks in
-    request_refusal c o x r ≡ 0 → request_refusal d o' x' r' ≡ 0
-    → (requested_of c o m x r).answer.number < (requested_of d o' m' x' r').answer.number
-never-twice c o m x r ks o' m' x' r' h g =
+    (sent sent' : RequestSent) → (requested_of c o m x r).answer ≡ Ok sent → (requested_of d o' m' x' r').answer ≡ Ok sent' → sent.number < sent'.number
+never-twice c o m x r ks o' m' x' r' sent sent' h g =
     let b = (requested_of c o m x r).client in
-    omega (arith, number-given c o m x r h, next-rises c o m x r h, next-least b ks, number-given (after_calls b ks) o' m' x' r' g)
+    let first = sent-is c o m x r sent h in
+    let second = sent-is (after_calls b ks) o' m' x' r' sent' g in
+    omega (arith, first.0, first.1, next-least b ks, second.0)
 
 -- ---- a re-send
 

@@ -1,3 +1,5 @@
+pub mod Refusals
 pub mod Client
 pub mod Calls
+pub mod Outcomes
 pub mod Replies

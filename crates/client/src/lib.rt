@@ -1,43 +1,42 @@
 // The client: its record's steps by value (`create`, `requested`, `replied`, `idled`), and a Reply read by the desk (`read_reply`).
 #![tactic(auto)]
 
-ghost use Rattle.std.specs.Prelude.{◌≡◌, ◌*◌, ◌≤◌, length};
+ghost use Rattle.std.specs.Prelude.{◌≡◌, false, ◌*◌, ◌≤◌, length, MatchOption};
 ghost use Rattle.numbers.specs.Numbers.{Wrote};
-ghost use Rattle.client.specs.Client.{fresh_client, create_of, request_refusal, requested_of, requested_area, raised_view, awaits, left_pending, replied_of, frames_to, frames_again, idle_refusal, idled_of, idled_area};
-ghost use Rattle.client.specs.Replies.{outcome_of, reply_ok, Reads};
+ghost use Rattle.client.specs.Client.{fresh_client, create_of, may_request, requested_of, requested_area, raised_view, awaits, left_pending, replied_of, frames_to, frames_again, may_idle, idled_of, idled_area};
+ghost use Rattle.client.specs.Replies.{reply_framed, reply_ok, read_reply, Reads};
 
 use entries::Entry;
 use numbers::View;
 
 mod offset; // which byte of a malformed Reply is wrong
+mod outcome; // what a Reply says that the fee rules gave
+mod refusal; // why a call is refused
 
-// The request that waits for its reply, whole, so that it can be sent again.
-#[derive(Clone, Copy)]
-pub enum Pending {
-    Nothing,
-    Waiting { entry: Entry },
-}
+pub use outcome::{NoOutcome, ReplyOutcome};
+pub use refusal::ClientRefusal;
 
-// n replicas, the client's id, the latest view heard of, the next request number.
+// n replicas, the client's id, the latest view heard of, the next request number, and the request that waits for its reply, whole, so that it can
+// be sent again.
 #[derive(Clone, Copy)]
 pub struct Client {
     pub n: u8,
     pub id: u64,
     pub view: View,
     pub next: u64,
-    pub pending: Pending,
+    pub pending: Option<Entry>,
 }
 
+// A refused creation has a record too.
 #[derive(Clone, Copy)]
 pub struct AfterCreate {
     pub client: Client,
-    pub refusal: u8,
+    pub answer: Result<(), ClientRefusal>,
 }
 
-// What a request answers: the refusal number, the request's number, and the bytes written.
-#[derive(Clone, Copy)]
+// A request that was sent: its number, and the bytes written.
+#[derive(Clone, Copy, Debug, PartialEq, Eq)]
 pub struct RequestSent {
-    pub refusal: u8,
     pub number: u64,
     pub written: usize,
 }
@@ -45,27 +44,14 @@ pub struct RequestSent {
 #[derive(Clone, Copy)]
 pub struct AfterRequest {
     pub client: Client,
-    pub answer: RequestSent,
+    pub answer: Result<RequestSent, ClientRefusal>,
 }
 
-// What a reply answers: the refusal number, and whether the pending request is done.
-#[derive(Clone, Copy)]
-pub struct Heard {
-    pub refusal: u8,
-    pub done: bool,
-}
-
+// The answer: whether the pending request is done.
 #[derive(Clone, Copy)]
 pub struct AfterReply {
     pub client: Client,
-    pub answer: Heard,
-}
-
-// What an idle call answers: the refusal number, and the bytes written.
-#[derive(Clone, Copy)]
-pub struct Resent {
-    pub refusal: u8,
-    pub written: usize,
+    pub answer: Result<bool, ClientRefusal>,
 }
 
 // ---- creation
@@ -78,66 +64,61 @@ fn fresh(n: u8, id: u64) -> Client
         id,
         view: View(0),
         next: 0,
-        pending: Pending::Nothing,
+        pending: None,
     }
 }
 
-// A client of n replicas. Refused by 1, its record is all zero.
+// A client of n replicas. Refused, its record is all zero.
 pub fn create(n: u32, id: u64) -> AfterCreate
     ensures { result ≡ create_of n id }
 {
     if !config::replicas_ok(n) {
         return AfterCreate {
             client: fresh(0, 0),
-            refusal: 1,
+            answer: Err(ClientRefusal::OutOfRange),
         };
     }
     AfterCreate {
         client: fresh(n as u8, id),
-        refusal: 0,
+        answer: Ok(()),
     }
 }
 
 // ---- a request
 
 // The last request number: it is never given.
-const LAST: u64 = 0xFFFF_FFFF_FFFF_FFFF;
+const LAST: u64 = u64::MAX;
 
-// 0, or the number of the first cause that refuses a request; `room` is the area's length.
-fn request_refusal(c: Client, operation: u8, cents: u64, room: usize) -> u8
-    ensures { result ≡ request_refusal c operation cents room }
+// The first cause that refuses a request; `room` is the area's length.
+fn may_request(c: Client, operation: u8, cents: u64, room: usize) -> Result<(), ClientRefusal>
+    ensures { result ≡ may_request c operation cents room }
 {
     if !config::replicas_ok(c.n as u32) {
-        return 1;
+        return Err(ClientRefusal::OutOfRange);
     }
     if !entries::operation_ok(operation, cents) {
-        return 2;
+        return Err(ClientRefusal::BadEntry);
     }
     if c.next == LAST {
-        return 11;
+        return Err(ClientRefusal::NoNumber);
     }
     if room < 39 {
-        return 9;
+        return Err(ClientRefusal::NoRoom);
     }
-    0
+    Ok(())
 }
 
 // The Rust's `on_request`: one frame to the primary of the view known.
+// Kept: operation, member and cents one by one, as C hands them over (`whitherhaul_client_request`). A struct of them would be made only to be taken apart here.
 pub fn requested(c: Client, operation: u8, member: u32, cents: u64, area: &mut [u8]) -> AfterRequest
     ensures { (result ≡ requested_of c operation member cents (length area.old)) × (area.new ≡ requested_area c operation member cents area.old) }
 {
-    let no = request_refusal(c, operation, cents, area.len());
-    if no != 0 {
+    if let Err(cause) = may_request(c, operation, cents, area.len()) {
         return AfterRequest {
             client: c,
-            answer: RequestSent {
-                refusal: no,
-                number: 0,
-                written: 0,
-            },
+            answer: Err(cause),
         };
     }
-    let view = c.view;
     let entry = Entry {
         client: c.id,
         request: c.next,
@@ -145,53 +126,35 @@ pub fn requested(c: Client, operation: u8, member: u32, cents: u64, area: &mut [
         member,
         cents,
     };
-    let written = writers::write_request(area, config::primary_id(c.n, view), entry);
+    let written = writers::write_request(area, config::primary_id(c.n, c.view), entry);
     AfterRequest {
         client: Client {
-            n: c.n,
-            id: c.id,
-            view,
             next: c.next + 1,
-            pending: Pending::Waiting { entry },
+            pending: Some(entry),
+            ..c
         },
-        answer: RequestSent {
-            refusal: 0,
+        answer: Ok(RequestSent {
             number: c.next,
             written,
-        },
+        }),
     }
 }
 
 // ---- a reply
 
-// The greater of two views.
-fn later(v: View, w: View) -> View
-    ensures { result ≡ raised_view v w }
-{
-    if v.0 < w.0 {
-        return w;
-    }
-    v
-}
-
 // Whether a request is pending and has this number.
-fn answers(p: Pending, number: u64) -> bool
+#[tactic(auto, unfolding(crate::specs::Client::awaits))]
+fn answers(p: Option<Entry>, number: u64) -> bool
     ensures { result ≡ awaits p number }
 {
-    match p {
-        Pending::Nothing => false,
-        Pending::Waiting { entry } => entry.request == number,
-    }
+    p.is_some_and(|entry| entry.request == number)
 }
 
 // What is pending after a reply with this number.
-fn left_pending(p: Pending, number: u64) -> Pending
+fn left_pending(p: Option<Entry>, number: u64) -> Option<Entry>
     ensures { result ≡ left_pending p number }
 {
-    if answers(p, number) {
-        return Pending::Nothing;
-    }
-    p
+    if answers(p, number) { None } else { p }
 }
 
 // The Rust's `on_reply`: the view is raised whether the number matches or not.
@@ -201,53 +164,42 @@ pub fn replied(c: Client, number: u64, view: View) -> AfterReply
     if !config::replicas_ok(c.n as u32) {
         return AfterReply {
             client: c,
-            answer: Heard {
-                refusal: 1,
-                done: false,
-            },
+            answer: Err(ClientRefusal::OutOfRange),
         };
     }
-    let v = later(c.view, view);
-    let p = c.pending;
     AfterReply {
         client: Client {
-            n: c.n,
-            id: c.id,
-            view: v,
-            next: c.next,
-            pending: left_pending(p, number),
+            view: View(c.view.0.max(view.0)),
+            pending: left_pending(c.pending, number),
+            ..c
         },
-        answer: Heard {
-            refusal: 0,
-            done: answers(p, number),
-        },
+        answer: Ok(answers(c.pending, number)),
     }
 }
 
 // ---- an idle call
 
 // How many bytes the frames to n replicas have, or 0 where nothing is pending.
-fn resend_len(n: u8, p: Pending) -> usize
+fn resend_len(n: u8, p: Option<Entry>) -> usize
     ensures { result ≡ length (frames_again n p) }
 {
     match p {
-        Pending::Nothing => 0,
-        Pending::Waiting { entry: _ } => (n as usize) * 39,
+        None => 0,
+        Some(_) => n as usize * 39,
     }
 }
 
-// 0, or the number of the first cause that refuses an idle call; `room` is the area's length.
-fn idle_refusal(c: Client, room: usize) -> u8
-    ensures { result ≡ idle_refusal c room }
+// The first cause that refuses an idle call; `room` is the area's length.
+fn may_idle(c: Client, room: usize) -> Result<(), ClientRefusal>
+    ensures { result ≡ may_idle c room }
 {
     if !config::replicas_ok(c.n as u32) {
-        return 1;
+        return Err(ClientRefusal::OutOfRange);
     }
-    let p = c.pending;
-    if room < resend_len(c.n, p) {
-        return 9;
+    if room < resend_len(c.n, c.pending) {
+        return Err(ClientRefusal::NoRoom);
     }
-    0
+    Ok(())
 }
 
 // The entry's frame to each of n replicas: the rest of the area is lent to the next frame.
@@ -256,82 +208,44 @@ fn send_all(area: &mut [u8], n: u8, e: Entry) -> usize
     ensures { Wrote (frames_to n e) area.old area.new result }
 {
     let mut at = 0;
-    let mut to = 0;
-    while to < n {
+    for to in 0..n {
         at += writers::write_request(&mut area[at..], to, e);
-        to += 1;
     }
     at
 }
 
-// The Rust's `on_idle`: the pending request, if any, to every replica. The record stays as it is.
-pub fn idled(c: Client, area: &mut [u8]) -> Resent
+// The Rust's `on_idle`: the pending request, if any, to every replica, and how many bytes were written. The record stays as it is.
+pub fn idled(c: Client, area: &mut [u8]) -> Result<usize, ClientRefusal>
     ensures { (result ≡ idled_of c (length area.old)) × (area.new ≡ idled_area c area.old) }
 {
-    let no = idle_refusal(c, area.len());
-    if no != 0 {
-        return Resent {
-            refusal: no,
-            written: 0,
-        };
-    }
-    let p = c.pending;
-    match p {
-        Pending::Nothing => Resent {
-            refusal: 0,
-            written: 0,
-        },
-        Pending::Waiting { entry } => Resent {
-            refusal: 0,
-            written: send_all(area, c.n, entry),
-        },
+    may_idle(c, area.len())?;
+    match c.pending {
+        None => Ok(0),
+        Some(entry) => Ok(send_all(area, c.n, entry)),
     }
 }
 
 // ---- a Reply, read
 
-// What the fee rules gave: document 01's outcomes 1 to 6.
+// What a Reply says.
 #[derive(Clone, Copy)]
-pub enum ReplyOutcome {
-    Fee,
-    Refund,
-    Ask,
-    NoMember,
-    PastLimit,
-    PastTotal,
+pub struct ReplyFields {
+    pub view: View,
+    pub client: u64,
+    pub request: u64,
+    pub outcome: ReplyOutcome,
+    pub total: u64,
 }
 
-#[derive(Clone, Copy)]
-pub enum Read {
-    Reply {
-        view: View,
-        client: u64,
-        request: u64,
-        outcome: ReplyOutcome,
-        total: u64,
-    },
-    Malformed {
-        offset: usize,
-    },
+// The first wrong byte of a frame that is no Reply.
+#[derive(Clone, Copy, Debug, PartialEq, Eq)]
+pub struct Malformed {
+    pub offset: usize,
 }
 
-// Any number but 1 to 5 is read as PastTotal.
-fn outcome_of(number: u8) -> ReplyOutcome
-    ensures { result ≡ outcome_of number }
-{
-    match number {
-        1 => ReplyOutcome::Fee,
-        2 => ReplyOutcome::Refund,
-        3 => ReplyOutcome::Ask,
-        4 => ReplyOutcome::NoMember,
-        5 => ReplyOutcome::PastLimit,
-        _ => ReplyOutcome::PastTotal,
-    }
-}
-
-// Whether the frame is a Reply.
-fn reply_ok(frame: &[u8]) -> bool
-    ensures { result ≡ reply_ok frame.now }
+// Whether the frame is a Reply's, but for its outcome.
+fn framed(frame: &[u8]) -> bool
+    ensures { result ≡ reply_framed frame.now }
 {
     if frame.len() != 36 {
         return false;
@@ -345,26 +259,32 @@ fn reply_ok(frame: &[u8]) -> bool
     if frames::kind_of(frame) != 12 {
         return false;
     }
-    if numbers::read_u8(frame, 6) != 0 {
-        return false;
-    }
-    numbers::within(1, 6, numbers::read_u8(frame, 27) as u64)
+    numbers::read_u8(frame, 6) == 0
 }
 
-// What a Reply says, or that the frame is malformed, which is refusal 2, and its first wrong byte.
-pub fn read_reply(frame: &[u8]) -> Read
-    ensures { Reads frame.now result }
+// What a Reply says, or nothing where the frame is none.
+#[tactic(auto, using(crate::proofs::ReplyLaws::framed_long))]
+fn said(frame: &[u8]) -> Option<ReplyFields>
+    ensures { MatchOption result (reply_ok frame.now ≡ false) (λ r. Ok r ≡ read_reply frame.now) }
 {
-    if !reply_ok(frame) {
-        return Read::Malformed {
-            offset: offset::offset(frame),
-        };
+    if !framed(frame) {
+        return None;
     }
-    Read::Reply {
+    let outcome = ReplyOutcome::try_from(numbers::read_u8(frame, 27)).ok()?;
+    Some(ReplyFields {
         view: numbers::read_view(frame, 7),
         client: numbers::read_u64(frame, 11),
         request: numbers::read_u64(frame, 19),
-        outcome: outcome_of(numbers::read_u8(frame, 27)),
+        outcome,
         total: numbers::read_u64(frame, 28),
-    }
+    })
+}
+
+// What a Reply says, or that the frame is malformed, which is refusal 2, and its first wrong byte.
+pub fn read_reply(frame: &[u8]) -> Result<ReplyFields, Malformed>
+    ensures { Reads frame.now result }
+{
+    said(frame).ok_or_else(|| Malformed {
+        offset: offset::offset(frame),
+    })
 }

@@ -14,6 +14,7 @@ use borrow.Author.Tests.{ne_eqb, eq-eqb}
 use lib.Dec.{eqb, leb}
 use lib.ListN.{length, drop, replicate, drop_of_length-le}
 use lib.Seq.{drop-drop}
+use Rattle.std.specs.Prelude.{Option, None, Some}
 use Rattle.numbers.specs.Words.{when◌then◌else◌}
 use Rattle.numbers.specs.Numbers.{big, num, view_at, over}
 use Rattle.numbers.specs.declared.View.{View}
@@ -23,8 +24,6 @@ use Rattle.entries.specs.Entries.{entry_of, encode_entry, EntryFits}
 use Rattle.entries.specs.declared.Entry.{Entry}
 use Rattle.entries.proofs.EntryLaws.{entry_of-encode}
 use Rattle.client.specs.declared.Client.{Client}
-use Rattle.client.specs.declared.Pending.{Pending}
-use Rattle.client.specs.declared.Pending.TheVariants.{Nothing, Waiting}
 use Rattle.client_bytes.specs.Layout.{pending_of, encode_pending, record_of, encode_record, record_ok, HoldsClient}
 
 -- ---- reading by places
@@ -33,17 +32,17 @@ module _ (s : List ℕ) {k : ℕ} (p : k ≡ num 1 21 s) where
   first : num 1 0 (drop 21 s) ≡ k
   first = num-drop 1 21 0 s ∙ sym p
 
-  pub nothing-pending : k ≡ 0 → Nothing ≡ pending_of (drop 21 s)
+  pub nothing-pending : k ≡ 0 → None ≡ pending_of (drop 21 s)
   unfolding pending_of
   nothing-pending e = sym (if-true _ _ _ (eq-eqb _ 0 (first ∙ e)))
 
-  pub pending-at : (k ≡ 0 → ⊥) → {e : Entry} → e ≡ entry_of (drop 22 s) → Waiting e ≡ pending_of (drop 21 s)
+  pub pending-at : (k ≡ 0 → ⊥) → {e : Entry} → e ≡ entry_of (drop 22 s) → Some e ≡ pending_of (drop 21 s)
   unfolding pending_of
   pending-at h {e} q =
       let other : eqb (num 1 0 (drop 21 s)) 0 ≡ false = rw first (ne_eqb k 0 h) in
       rw (q, ← drop-drop 1 21 s) (sym (if-false _ _ _ other))
 
-pub record_of-is : (s : List ℕ) {n id next : ℕ} {view : View} {pending : Pending} → n ≡ num 1 0 s → id ≡ num 8 1 s → view ≡ view_at 9 s
+pub record_of-is : (s : List ℕ) {n id next : ℕ} {view : View} {pending : Option Entry} → n ≡ num 1 0 s → id ≡ num 8 1 s → view ≡ view_at 9 s
     → next ≡ num 8 13 s → pending ≡ pending_of (drop 21 s)
     → ◌≡◌ {A = Client} (record { n = n; id = id; view = view; next = next; pending = pending }) (record_of s)
 unfolding record_of
@@ -58,34 +57,34 @@ record-long s h =
 
 -- ---- what is pending
 
-nothing-back : pending_of (encode_pending Nothing) ≡ Nothing
+nothing-back : pending_of (encode_pending None) ≡ None
 unfolding pending_of encode_pending num when◌then◌else◌
 nothing-back = refl
 
-waiting-back : (e : Entry) → EntryFits e → pending_of (encode_pending (Waiting e)) ≡ Waiting e
+waiting-back : (e : Entry) → EntryFits e → pending_of (encode_pending (Some e)) ≡ Some e
 unfolding pending_of encode_pending num big when◌then◌else◌
-waiting-back e f = ap Waiting (ap entry_of (sym (append-nil (encode_entry e))) ∙ entry_of-encode e _ f)
+waiting-back e f = ap Some (ap entry_of (sym (append-nil (encode_entry e))) ∙ entry_of-encode e _ f)
 
 -- the writer's promise in each case
-pub nothing_written : {p : Pending} {part : List ℕ} (a : List ℕ) → p ≡ Nothing → part ≡ over (replicate 33 0) a
+pub nothing_written : {p : Option Entry} {part : List ℕ} (a : List ℕ) → p ≡ None → part ≡ over (replicate 33 0) a
     → (part ≡ over (encode_pending p) a) × (pending_of (encode_pending p) ≡ p)
 unfolding encode_pending
 nothing_written a e q = rw e (q, nothing-back)
 
-pub waiting-written : {p : Pending} {part : List ℕ} (e : Entry) (a : List ℕ) → p ≡ Waiting e → EntryFits e → part ≡ over (big 1 1 ++ encode_entry e) a
+pub waiting-written : {p : Option Entry} {part : List ℕ} (e : Entry) (a : List ℕ) → p ≡ Some e → EntryFits e → part ≡ over (big 1 1 ++ encode_entry e) a
     → (part ≡ over (encode_pending p) a) × (pending_of (encode_pending p) ≡ p)
 unfolding encode_pending
 waiting-written e a h f q = rw h (q, waiting-back e f)
 
-pending-length : (p : Pending) → length (encode_pending p) ≡ 33
+pending-length : (p : Option Entry) → length (encode_pending p) ≡ 33
 unfolding encode_pending big encode_entry
-pending-length Nothing = refl
-pending-length (Waiting e) = refl
+pending-length None = refl
+pending-length (Some e) = refl
 
-pending-passes : (p : Pending) → leb (num 1 0 (encode_pending p)) 1 ≡ true
+pending-passes : (p : Option Entry) → leb (num 1 0 (encode_pending p)) 1 ≡ true
 unfolding encode_pending big num
-pending-passes Nothing = refl
-pending-passes (Waiting e) = refl
+pending-passes None = refl
+pending-passes (Some e) = refl
 
 -- ---- what was written passes and is read back
 

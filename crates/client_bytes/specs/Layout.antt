@@ -1,19 +1,18 @@
 -- The client's record as a run of 54 bytes, for callers that aren't Rattle: n 1, id 8, view 4, next request number 8, pending 1, and the pending request's entry, 32.
 -- Pending is 0, and the entry isn't looked at, or 1. Any other number there is a byte without meaning, and refusal 1. Assumes nothing.
-use Rattle.std.specs.Prelude.{◌≡◌, Bool, true, false, not, List, ◌++◌, ℕ, eqb, leb, length, drop, replicate}
+use Rattle.std.specs.Prelude.{◌≡◌, Bool, true, false, not, List, ◌++◌, ℕ, eqb, leb, length, drop, replicate, Option, None, Some}
 use Rattle.numbers.specs.Words.{when◌then◌else◌}
 use Rattle.numbers.specs.Numbers.{big, num, view_at}
 use Rattle.entries.specs.Entries.{entry_of, encode_entry}
+use Rattle.entries.specs.declared.Entry.{Entry}
 use Rattle.client.specs.declared.Client.{Client}
-use Rattle.client.specs.declared.Pending.{Pending}
-use Rattle.client.specs.declared.Pending.TheVariants.{Nothing, Waiting}
 
-unfoldable pub pending_of : List ℕ → Pending
-pending_of s = when eqb (num 1 0 s) 0 then Nothing else Waiting (entry_of (drop 1 s))
+unfoldable pub pending_of : List ℕ → Option Entry
+pending_of s = when eqb (num 1 0 s) 0 then None else Some (entry_of (drop 1 s))
 
-unfoldable pub encode_pending : Pending → List ℕ
-encode_pending Nothing = replicate 33 0
-encode_pending (Waiting e) = big 1 1 ++ encode_entry e
+unfoldable pub encode_pending : Option Entry → List ℕ
+encode_pending None = replicate 33 0
+encode_pending (Some e) = big 1 1 ++ encode_entry e
 
 -- the record that a run holds
 unfoldable pub record_of : List ℕ → Client

@@ -5,19 +5,18 @@ ghost use Rattle.std.specs.Prelude.{◌≡◌, ◌≤◌, length, drop};
 ghost use Rattle.numbers.specs.Numbers.{over};
 ghost use Rattle.client_bytes.specs.Layout.{pending_of, encode_pending, record_of, record_ok, HoldsClient};
 
-use client::{Client, Pending};
+use client::Client;
+use entries::Entry;
 
 // What is pending, 33 bytes from byte 21 on: 0, or 1 and the entry.
-fn pending_in(run: &[u8]) -> Pending
+fn pending_in(run: &[u8]) -> Option<Entry>
     requires { 54 ≤ length run.now }
     ensures { result ≡ pending_of (drop 21 run.now) }
 {
     if numbers::read_u8(run, 21) == 0 {
-        return Pending::Nothing;
+        return None;
     }
-    Pending::Waiting {
-        entry: entries::entry_at(run, 22),
-    }
+    Some(entries::entry_at(run, 22))
 }
 
 // The record that the run holds.
@@ -35,13 +34,13 @@ pub fn read_client(run: &[u8]) -> Client
 }
 
 // That it is read back is told to whoever writes it.
-fn write_pending(area: &mut [u8], p: Pending)
+fn write_pending(area: &mut [u8], p: Option<Entry>)
     requires { 33 ≤ length area.old }
     ensures { (area.new ≡ over (encode_pending p) area.old) × (pending_of (encode_pending p) ≡ p) }
 {
     match p {
-        Pending::Nothing => numbers::fill(area, 33, 0),
-        Pending::Waiting { entry } => {
+        None => numbers::fill(area, 33, 0),
+        Some(entry) => {
             numbers::write_u8(area, 1);
             entries::write_entry(&mut area[1..], entry);
         }
@@ -57,8 +56,7 @@ pub fn write_client(run: &mut [u8], c: Client)
     numbers::write_u64(&mut run[1..], c.id);
     numbers::write_u32(&mut run[9..], c.view.0);
     numbers::write_u64(&mut run[13..], c.next);
-    let p = c.pending;
-    write_pending(&mut run[21..], p);
+    write_pending(&mut run[21..], c.pending);
 }
 
 // Whether the run is one that holds a record: its length, and no byte without meaning.

@@ -4,7 +4,7 @@
 ghost use Rattle.std.specs.Prelude.{◌≡◌, length};
 ghost use Rattle.client.specs.Client.{Requests, replied_of, idled_of, idled_area};
 
-use client::{Client, Heard, RequestSent, Resent};
+use client::{Client, ClientRefusal, RequestSent};
 use numbers::View;
 
 // The Rust's `on_request`: the answer, the record behind the reference, and the area, are those of `client::requested`.
@@ -14,25 +14,25 @@ pub fn request(
     member: u32,
     cents: u64,
     area: &mut [u8],
-) -> RequestSent
+) -> Result<RequestSent, ClientRefusal>
     ensures { Requests c.old operation member cents area.old result c.new area.new }
 {
-    let r = client::requested(*c, operation, member, cents, area);
-    *c = r.client;
-    r.answer
+    let after = client::requested(*c, operation, member, cents, area);
+    *c = after.client;
+    after.answer
 }
 
 // The Rust's `on_reply`.
-pub fn reply(c: &mut Client, number: u64, view: View) -> Heard
+pub fn reply(c: &mut Client, number: u64, view: View) -> Result<bool, ClientRefusal>
     ensures { (result ≡ (replied_of c.old number view).answer) × (c.new ≡ (replied_of c.old number view).client) }
 {
-    let r = client::replied(*c, number, view);
-    *c = r.client;
-    r.answer
+    let after = client::replied(*c, number, view);
+    *c = after.client;
+    after.answer
 }
 
 // The Rust's `on_idle`: the record is only read.
-pub fn idle(c: &mut Client, area: &mut [u8]) -> Resent
+pub fn idle(c: &mut Client, area: &mut [u8]) -> Result<usize, ClientRefusal>
     ensures { (result ≡ idled_of c.old (length area.old)) × ((c.new ≡ c.old) × (area.new ≡ idled_area c.old area.old)) }
 {
     client::idled(*c, area)

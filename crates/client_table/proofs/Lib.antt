@@ -1,5 +1,8 @@
 pub mod AlikeLaws
+pub mod FindLaws
+pub mod FollowLaws
 pub mod LatestLaws
+pub mod LeavesLaws
 pub mod SearchLaws
 pub mod SeekLaws
 pub mod StoreLaws

@@ -5,13 +5,14 @@
 --     commit-take, commit-nothing                                  entries past the outcomes change nothing
 --     follow-installed, follow-appended, follow-committed          the whole change of a call
 -- Assumes nothing.
-use mathlib.Core.Path.{◌≡◌, refl, sym, ◌∙◌}
-use mathlib.Core.Bool.{Bool, true, false, not}
+use mathlib.Core.Path.{◌≡◌, refl, sym, ap, ◌∙◌}
+use mathlib.Core.Bool.{Bool, true, false}
 use mathlib.Core.List.{List, [], ◌∷◌, ◌++◌}
 use Prim.Native.Nat.{ℕ, ◌≤◌, ◌<◌}
 use native.Mathlib.Omega.{arith}
+use lib.Dec.{eqb}
 use lib.ListN.{length, take, drop, replicate}
-use borrow.Author.Tests.{lt-leb, le-leb, eq-eqb, ne_eqb, not-true, not-false}
+use borrow.Author.Tests.{lt-leb, le-leb, eq-eqb, ne_eqb}
 use Rattle.numbers.specs.Words.{◌and◌}
 use Rattle.numbers.proofs.WordLaws.{if-true, if-false, and-true, and-false}
 use Rattle.entries.specs.declared.Entry.{Entry}
@@ -54,31 +55,24 @@ module _ {R : Type 0} (h : Shape R) where
   unfolding appended
   append-none xs es n = rw n
 
-  module _ (xs : List R) (e : Entry) (x : R) (at : ℕ) (there : Bool) (p : at ≡ spot_of h xs e.client)
-      (q : x ≡ row_at h xs (spot_of h xs e.client)) (t : there ≡ is_there h xs e.client) where
-    latest : there ≡ true → h.request x ≡ e.request → is_latest h xs e ≡ true
-    unfolding is_latest
-    latest s n = rw (← t, ← q) (and-true there _ s (eq-eqb (h.request x) e.request n))
+  module _ (xs : List R) (e : Entry) (o : Outcome) where
+    pub reply-none : is_there h xs e.client ≡ false → xs ≡ replied h xs e o
+    unfolding replied is_latest ◌and◌
+    reply-none n = sym (if-false _ _ _ (ap (λ (b : Bool). b and eqb (h.request (row_at h xs (spot_of h xs e.client))) e.request) n))
 
-    missing : not there ≡ true → is_latest h xs e ≡ false
-    unfolding is_latest ◌and◌
-    missing s = rw (← t, not-true there s)
+    module _ (at : ℕ) (x : R) (f : (is_there h xs e.client ≡ true) × (at ≡ spot_of h xs e.client) × (x ≡ row_at h xs (spot_of h xs e.client)))
+        (k : ℕ) (m : k ≡ h.request x) where
+      number : k ≡ h.request (row_at h xs (spot_of h xs e.client))
+      number = m ∙ ap (λ (y : R). h.request y) f.2
 
-    older : (h.request x ≡ e.request → ⊥) → is_latest h xs e ≡ false
-    unfolding is_latest
-    older n = rw (← q) (and-false _ _ (ne_eqb (h.request x) e.request n))
+      pub reply-other : (k ≡ e.request → ⊥) → xs ≡ replied h xs e o
+      unfolding replied is_latest
+      reply-other n = sym (if-false _ _ _ (and-false _ _ (ap (λ (j : ℕ). eqb j e.request) (sym number) ∙ ne_eqb k e.request n)))
 
-    pub reply-none : (o : Outcome) → not there ≡ true → xs ≡ replied h xs e o
-    unfolding replied
-    reply-none o s = sym (if-false _ _ _ (missing s))
-
-    pub reply-other : (o : Outcome) → (h.request x ≡ e.request → ⊥) → xs ≡ replied h xs e o
-    unfolding replied
-    reply-other o n = sym (if-false _ _ _ (older n))
-
-    pub reply-same : (o : Outcome) → not there ≡ false → h.request x ≡ e.request → stored h at at (h.answered e o) xs ≡ replied h xs e o
-    unfolding replied
-    reply-same o s n = rw p (sym (if-true _ _ _ (latest (not-false there s) n)))
+      pub reply-same : k ≡ e.request → (r : R) → r ≡ h.answered e o → stored h at at r xs ≡ replied h xs e o
+      unfolding replied is_latest
+      reply-same n r q =
+          rw (q, f.1) (sym (if-true _ _ _ (and-true _ _ f.0 (ap (λ (j : ℕ). eqb j e.request) (sym number) ∙ eq-eqb k e.request n))))
 
   pub commit-turn : (xs xs' : List R) (e : Entry) (o : Outcome) (es es' : List Entry) (os os' : List Outcome) → es ≡ e ∷ es' → os ≡ o ∷ os'
       → xs' ≡ replied h xs e o → rows_committed h xs es os ≡ rows_committed h xs' es' os'

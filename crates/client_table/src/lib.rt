@@ -8,6 +8,17 @@ ghost use Rattle.client_table.specs.Search.{mid_of, halved, is_before};
 use fees::Outcome;
 use numbers::Op;
 
+mod form; // what is asked of a form in which the table is held
+mod rows; // rows put, and the table brought up to what a call did
+mod search; // the search by halves
+
+pub use form::Form;
+pub use rows::{follow, follow_append, follow_commit, follow_found, rebuild};
+pub use search::{find, told};
+
+// What a search finds of a client: the place of its row, and the row; or the place where its row would go.
+pub type Found<R> = Result<(usize, R), usize>;
+
 // Where a search has come to: the place is from `lo` up to `hi`.
 #[derive(Clone, Copy)]
 pub struct Span {
@@ -16,6 +27,7 @@ pub struct Span {
 }
 
 // What is sought: the place of a client's row, or the first unused row.
+// Kept: an Option<u64> would call the first unused row None.
 #[derive(Clone, Copy)]
 pub enum Goal {
     Client { id: u64 },
@@ -78,6 +90,7 @@ pub fn before(used: bool, client: u64, goal: Goal) -> bool
 }
 
 // What a row in use holds, of this request number and with this outcome and total: an outcome outside 1 to 6 is no reply.
+// Kept: a number, no enum: C may lend any byte.
 pub fn held(request: u64, code: u8, total: u64) -> Latest
     ensures { result ≡ held_of request code total }
 {

@@ -1,45 +1,40 @@
 -- Laws of the table's bytes and rows. Every byte has a meaning, so that bytes and rows say the same.
 --     row-codec, encode-row_of, row_of-at     a row as a cell of 25 bytes
 --     left-same                             nothing written
---     left-then, left_is, left-now          one change after another; what was left under another name, and as it is read
+--     leaves-left, left-leaves              what is left, by bytes and by rows
 --     left-size                             the run's length is as it was
 --     left-stored, shift-write              a row stored at a place: the laws that look at bytes
---     found-at, found-there, found-row, found_inside    what find answers, field by field
 --     left-cleared                          all rows unused
 --     one-content                           what is left is fixed to the last byte
 --     byte-lawful                           a row in bytes is a lawful form of row
 --     answered-outcome                      a reply that is told has an outcome of 1 to 6, whatever the bytes are
 -- Assumes nothing.
 use mathlib.Core.Path.{◌≡◌, refl, sym, ap, ◌∙◌}
-use mathlib.Core.Bool.{true}
+use mathlib.Core.Bool.{true, false}
 use mathlib.Core.List.{List, ◌∷◌, ◌++◌, append_assoc}
-use mathlib.Core.Option.{none, some}
-use borrow.Author.Tests.{ne_eqb}
+use mathlib.Core.Option.{none}
+use Rattle.std.specs.Prelude.{Ok, Err}
 use Prim.Native.Nat.{ℕ, zero, suc, ◌+◌, ◌-◌, ◌*◌, ◌≤◌, ◌<◌}
 use native.Mathlib.Nat.{add-zero}
 use native.Mathlib.Omega.{arith}
 use lib.ListN.{length, take, drop, replicate, length-append, length-drop, take-append-drop, replicate-append-replicate, length-replicate}
 use lib.Seq.{take-add, drop-drop, drop_at, take_at, length-take-le, take-take}
-use Rattle.numbers.specs.Words.{◌and◌}
-use Rattle.numbers.specs.Numbers.{big, num, over, put_at, within, Bytes}
+use Rattle.numbers.specs.Numbers.{big, num, over, put_at, Bytes}
 use Rattle.numbers.specs.Cells.{packed, Codec}
-use Rattle.numbers.proofs.NumberLaws.{be-big, big-num, num-drop, num-front, drop-bytes, both-within}
-use Rattle.numbers.proofs.WordLaws.{if-true, if-false}
+use Rattle.numbers.proofs.NumberLaws.{be-big, big-num, num-drop, num-front, drop-bytes}
 use Rattle.numbers.proofs.CellLaws.{cells-length, cells-drop, cells-take, cells-join, cells-taken, cells-one, cells_same}
 use Rattle.numbers.proofs.CellLaws.{packed-append, packed-length, packed-cells}
-use Rattle.entries.specs.declared.Entry.{Entry}
 use Rattle.fees.specs.declared.Outcome.{Outcome}
-use Rattle.client_table.specs.Rows.{spot_of, is_there, stored}
-use Rattle.client_table.specs.Shape.{row_at}
+use Rattle.client_table.specs.Found.{Found, latest_of}
+use Rattle.client_table.specs.Leaves.{Leaves}
+use Rattle.client_table.specs.Rows.{stored}
 use Rattle.client_table.specs.Latest.{kept_of}
-use Rattle.client_table.specs.Lawful.{HoldsEntry, Lawful}
 use Rattle.client_table.specs.declared.Latest.TheVariants.{Answered}
 use Rattle.client_table.proofs.LatestLaws.{kept-ruled, reply-ruled}
-use Rattle.client_table.proofs.SearchLaws.{there-inside}
 use Rattle.client_table_bytes.specs.declared.MarkedRow.{MarkedRow}
-use Rattle.client_table_bytes.specs.declared.Found.{Found}
-use Rattle.client_table_bytes.specs.Layout.{no_row, byte_row, row_of, encode_row, rows_of}
-use Rattle.client_table_bytes.specs.Steps.{RowFits, found_in, latest_of, RowsLeft}
+use Rattle.client_table_bytes.specs.Layout.{no_row, byte_row, row_of, encode_row, rows_of, rest_of}
+use Rattle.client_table_bytes.specs.Steps.{RowFits, RowsLeft}
+pub use Rattle.client_table_bytes.specs.Lawful.{byte-lawful}
 
 -- ---- a row as a cell
 
@@ -95,7 +90,7 @@ row_of-at s at p q r t =
 -- ---- what was left
 
 module _ (n : ℕ) (s : List ℕ) where
-  length-rows : length (rows_of n s) ≡ n
+  pub length-rows : length (rows_of n s) ≡ n
   length-rows = cells-length 25 row_of n s
 
   packed-rows : Bytes s → 25 * n ≤ length s → packed encode_row (rows_of n s) ≡ take (25 * n) s
@@ -117,16 +112,19 @@ left-size {n} {s} {t} {rs} l k =
 left-rest : {n : ℕ} {s t : List ℕ} {rs : List MarkedRow} → RowsLeft n s t rs → drop (25 * n) t ≡ drop (25 * n) s
 left-rest {n} {s} {t} {rs} k = rw k.bytes (drop_at (packed encode_row rs) (drop (25 * n) s) (25 * n) (left-length k))
 
-pub left-then : {n : ℕ} {s t u : List ℕ} {rs qs : List MarkedRow} → RowsLeft n s t rs → RowsLeft n t u qs → RowsLeft n s u qs
-left-then {n} {s} {t} {u} {rs} {qs} k m =
-    record { bytes = m.bytes ∙ ap (λ (x : List ℕ). packed encode_row qs ++ x) (left-rest k); rows = m.rows }
+-- what is left of bytes, by rows and by bytes: the same
+pub leaves-left : {n : ℕ} {s t : List ℕ} {rs : List MarkedRow} → 25 * n ≤ length s → RowsLeft n s t rs → Leaves rows_of rest_of n s t rs
+leaves-left l k = record { rows = k.rows; rest = left-rest k; len = left-size l k }
 
-pub left_is : {n : ℕ} {s t : List ℕ} {rs qs : List MarkedRow} → RowsLeft n s t rs → rs ≡ qs → RowsLeft n s t qs
-left_is {n} {s} {t} {rs} {qs} k e =
-    record { bytes = k.bytes ∙ ap (λ (x : List MarkedRow). packed encode_row x ++ drop (25 * n) s) e; rows = k.rows ∙ e }
-
-pub left-now : {n : ℕ} {s t : List ℕ} {rs : List MarkedRow} → RowsLeft n s t rs → RowsLeft n s t (rows_of n t)
-left-now k = left_is k (sym k.rows)
+pub left-leaves : {n : ℕ} {s t : List ℕ} {rs : List MarkedRow} → Bytes t → 25 * n ≤ length s → Leaves rows_of rest_of n s t rs → RowsLeft n s t rs
+left-leaves {n} {s} {t} {rs} b l k =
+    let e : packed encode_row rs ≡ take (25 * n) t =
+    ap (packed encode_row) (sym k.rows) ∙ packed-rows n t b (omega (arith, k.len)) in
+    record {
+      bytes =
+          sym (ap (λ (x : List ℕ). take (25 * n) t ++ x) (sym k.rest) ∙ take-append-drop (25 * n) t) ∙ ap (λ (x : List ℕ). x ++ drop (25 * n) s) (sym e);
+      rows = k.rows;
+    }
 
 pub one-content : {n : ℕ} {s t u : List ℕ} {rs : List MarkedRow} → RowsLeft n s t rs → RowsLeft n s u rs → t ≡ u
 one-content k m = k.bytes ∙ sym m.bytes
@@ -224,24 +222,6 @@ shift-write at to r s {part} a l p =
     rw (p, append_assoc (take 25 q) (take (length q - 25) q) rest, drop_at (take 25 q) (take (length q - 25) q ++ rest) 25 c, z, y) in
     rw (take_at (take (25 * at) s) (part ++ rest) (25 * at) f, drop_at (take (25 * at) s) (part ++ rest) (25 * at) f, length-row r, w)
 
--- ---- what find answers
-
-module _ (xs : List MarkedRow) (c : ℕ) {f : Found} (p : f ≡ found_in xs c) where
-  pub found-at : f.at ≡ spot_of byte_row xs c
-  unfolding found_in
-  found-at = ap (λ (g : Found). g.at) p
-
-  pub found-there : f.there ≡ is_there byte_row xs c
-  unfolding found_in
-  found-there = ap (λ (g : Found). g.there) p
-
-  pub found-row : f.row ≡ row_at byte_row xs (spot_of byte_row xs c)
-  unfolding found_in
-  found-row = ap (λ (g : Found). g.row) p
-
-  pub found_inside : is_there byte_row xs c ≡ true → f.at < length xs
-  found_inside t = rw found-at (there-inside byte_row xs c refl t)
-
 -- ---- all rows unused
 
 no-fits : RowFits no_row
@@ -260,27 +240,8 @@ left-cleared n {s} {u} p =
     let q : u ≡ packed encode_row (replicate n no_row) ++ drop (25 * n) s = p ∙ rw (length-replicate {A = ℕ} (25 * n) 0, zeros n) in
     record { bytes = q; rows = rw q (cells_same 25 row_of encode_row RowFits row-codec n no_row (drop (25 * n) s) no-fits) }
 
--- ---- a row in bytes is a lawful form of row
-
-answered-is : (e : Entry) (o : Outcome) → 1 ≤ o.code → o.code ≤ 6 → HoldsEntry byte_row (byte_row.answered e o) e (some o)
-unfolding kept_of
-answered-is e o l m =
-    let u : o.code ≡ 0 → ⊥ = λ q. omega (arith, q) in
-    record {
-      used = rw (ne_eqb o.code 0 u);
-      client = refl;
-      request = refl;
-      kept = if-true _ _ _ (both-within 1 6 o.code l m);
-    }
-
-fresh-is : (e : Entry) → HoldsEntry byte_row (byte_row.fresh e) e none
-unfolding kept_of within ◌and◌
-fresh-is e = record { used = refl; client = refl; request = refl; kept = if-false _ _ _ refl }
-
-pub byte-lawful : Lawful byte_row
-byte-lawful = record { blank = refl; fresh = fresh-is; answered = answered-is }
-
 -- ---- a reply that is told, whatever the bytes are
 
-pub answered-outcome : (f : Found) {number : ℕ} {o : Outcome} → latest_of f ≡ Answered number o → (1 ≤ o.code) × (o.code ≤ 6)
-answered-outcome f p = reply-ruled f.there f.row.request (kept_of f.row.mark f.row.total) (kept-ruled f.row.mark f.row.total) p
+pub answered-outcome : (f : Found MarkedRow) {number : ℕ} {o : Outcome} → latest_of byte_row f ≡ Answered number o → (1 ≤ o.code) × (o.code ≤ 6)
+answered-outcome (Ok p) q = reply-ruled true p.1.request (kept_of p.1.mark p.1.total) (kept-ruled p.1.mark p.1.total) q
+answered-outcome (Err at) q = reply-ruled false 0 none tt q

@@ -1,2 +1,1 @@
 pub mod LayoutLaws
-mod FoundLaws

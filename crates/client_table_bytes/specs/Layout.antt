@@ -2,7 +2,7 @@
 -- is the outcome of the reply that is kept, whose total follows; any other value in use, and no reply is kept (a fresh row has 255). The other 24
 -- bytes of an unused row, and the total of a row that keeps no reply, say nothing and are looked at by nothing. They are the one exception to "a byte
 -- without meaning is refusal 1": to refuse them, each call would have to look at all 25 L bytes. Assumes nothing.
-use Rattle.std.specs.Prelude.{not, List, ◌++◌, ℕ, eqb}
+use Rattle.std.specs.Prelude.{not, List, ◌++◌, ℕ, ◌*◌, eqb, drop}
 use Rattle.numbers.specs.Numbers.{big, num}
 use Rattle.numbers.specs.Cells.{cells}
 use Rattle.entries.specs.declared.Entry.{Entry}
@@ -46,3 +46,7 @@ encode_row r = big 8 r.client ++ big 8 r.request ++ big 1 r.mark ++ big 8 r.tota
 -- the first n rows of a run
 abbrev pub rows_of : ℕ → List ℕ → List MarkedRow
 rows_of n s = cells 25 row_of n s
+
+-- and what stands behind them
+abbrev pub rest_of : ℕ → List ℕ → List ℕ
+rest_of n s = drop (25 * n) s

@@ -1,12 +1,10 @@
 // A row of the table: read, written, and made.
-ghost use Rattle.std.specs.Prelude.{◌≡◌, not, ◌+◌, ◌≤◌, eqb, length, drop};
+ghost use Rattle.std.specs.Prelude.{◌≡◌, ◌+◌, ◌≤◌, length, drop};
 ghost use Rattle.numbers.specs.Numbers.{over};
-ghost use Rattle.numbers.specs.Words.{◌and◌};
-ghost use Rattle.client_table_bytes.specs.Layout.{no_row, row_with, fresh_of, row_of, encode_row};
+ghost use Rattle.client_table_bytes.specs.Layout.{row_with, row_of, encode_row};
 
 use crate::MarkedRow;
 use entries::Entry;
-use fees::Outcome;
 
 // The row at byte p.
 pub fn row_at(table: &[u8], p: usize) -> MarkedRow
@@ -31,48 +29,14 @@ pub fn write_row(area: &mut [u8], row: MarkedRow)
     numbers::write_u64(&mut area[17..], row.total);
 }
 
-// An unused row.
-pub fn no_row() -> MarkedRow
-    ensures { result ≡ no_row }
-{
-    MarkedRow {
-        client: 0,
-        request: 0,
-        mark: 0,
-        total: 0,
-    }
-}
-
-// The row of an entry that has no reply yet.
-pub fn fresh(e: Entry) -> MarkedRow
-    ensures { result ≡ fresh_of e }
+// The row of an entry, with a mark and a total.
+pub fn row_with(e: Entry, mark: u8, total: u64) -> MarkedRow
+    ensures { result ≡ row_with e mark total }
 {
     MarkedRow {
         client: e.client,
         request: e.request,
-        mark: 255,
-        total: 0,
+        mark,
+        total,
     }
-}
-
-// With its reply.
-pub fn answered(e: Entry, o: Outcome) -> MarkedRow
-    ensures { result ≡ row_with e o.code o.total }
-{
-    MarkedRow {
-        client: e.client,
-        request: e.request,
-        mark: o.code,
-        total: o.total,
-    }
-}
-
-// Whether a row is in use, and the client's.
-pub fn is_of(x: MarkedRow, client: u64) -> bool
-    ensures { result ≡ (not (eqb x.mark 0) and eqb x.client client) }
-{
-    if x.mark == 0 {
-        return false;
-    }
-    x.client == client
 }

@@ -11,16 +11,11 @@ use Rattle.client_table.specs.contracts.Latest as L
 use Rattle.client_table.proofs.Latest.TheLaws as L'
 use Rattle.client_table.specs.contracts.Span as S
 use Rattle.client_table.proofs.Span.TheLaws as S'
-use Rattle.client_table_structs.specs.contracts.FoundRow as F
-use Rattle.client_table_structs.proofs.FoundRow.TheLaws as F'
 use Rattle.client_table_structs.specs.contracts.Row as R
 use Rattle.client_table_structs.proofs.Row.TheLaws as R'
 
 abbrev pub row_e : Elem
 row_e = elem_of R.the_type R'.the_laws R'.lowers R'.the_copy R'.the_plain
-
-abbrev pub found_e : Elem
-found_e = elem_of F.the_type F'.the_laws F'.lowers F'.the_copy F'.the_plain
 
 abbrev pub span_e : Elem
 span_e = elem_of S.the_type S'.the_laws S'.lowers S'.the_copy S'.the_plain

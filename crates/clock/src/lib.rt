@@ -1,12 +1,12 @@
 // The idle clock: a struct by value; each method hands back the new clock and whether time is up.
 #![tactic(auto)]
 
-ghost use Rattle.std.specs.Prelude.{◌≡◌, min};
-ghost use Rattle.clock.specs.Clock.{fresh_clock, limit_of, waited_of, stable_tick, wait_tick, tick_of, heard_of, reset_of, start_of, restart_of};
+ghost use Rattle.std.specs.Prelude.{◌≡◌};
+ghost use Rattle.clock.specs.Clock.{fresh_clock, limit_of, stable_tick, wait_tick, tick_of, heard_of, reset_of, start_of, restart_of};
 
 // `heard`: from the primary since the last tick. `waiting`: ticks without it, or in a view change. `stable`: ticks with it, counted to T.
 // `attempts`: view changes with no stable stretch in between, counted to 10.
-#[derive(Clone, Copy)]
+#[derive(Clone, Copy, PartialEq, Eq, Debug)]
 pub struct Clock {
     pub heard: bool,
     pub waiting: u32,
@@ -15,14 +15,14 @@ pub struct Clock {
 }
 
 // A clock, and whether time is up: a view change is due.
-#[derive(Clone, Copy)]
+#[derive(Clone, Copy, PartialEq, Eq, Debug)]
 pub struct Ticked {
     pub clock: Clock,
     pub up: bool,
 }
 
 // What a replica does as a tick comes: leads in Normal, follows in Normal or StateTransfer, or is in ViewChange.
-#[derive(Clone, Copy)]
+#[derive(Clone, Copy, PartialEq, Eq, Debug)]
 pub enum Duty {
     Lead,
     Follow,
@@ -41,31 +41,11 @@ pub fn fresh() -> Clock
     }
 }
 
-fn least(x: u32, y: u32) -> u32
-    ensures { result ≡ min x y }
-{
-    if x < y {
-        return x;
-    }
-    y
-}
-
 // How many ticks a wait lasts.
 fn limit(timeout: u16, attempts: u8) -> u32
     ensures { result ≡ limit_of timeout attempts }
 {
-    let k = least(attempts as u32, 10);
-    (timeout as u32) << k
-}
-
-// One more tick of a wait.
-fn waited(waiting: u32) -> u32
-    ensures { result ≡ waited_of waiting }
-{
-    if waiting < 4_294_967_295 {
-        return waiting + 1;
-    }
-    waiting
+    (timeout as u32) << attempts.min(10)
 }
 
 impl Clock {
@@ -73,42 +53,48 @@ impl Clock {
     fn stable_tick(self, timeout: u16) -> Clock
         ensures { result ≡ stable_tick timeout self }
     {
-        let s = least((self.stable as u32) + 1, timeout as u32) as u16;
-        let mut c = self;
-        c.stable = s;
-        if timeout <= s {
-            c.attempts = 0;
+        let stable = self.stable.saturating_add(1).min(timeout);
+        let attempts = if timeout <= stable { 0 } else { self.attempts };
+        Clock {
+            stable,
+            attempts,
+            ..self
         }
-        c
     }
 
     // A tick of a wait.
     fn wait_tick(self, timeout: u16) -> Ticked
         ensures { result ≡ wait_tick timeout self }
     {
-        let w = waited(self.waiting);
-        let mut c = self;
-        c.waiting = w;
+        let waiting = self.waiting.saturating_add(1);
         Ticked {
-            clock: c,
-            up: limit(timeout, self.attempts) <= w,
+            clock: Clock { waiting, ..self },
+            up: limit(timeout, self.attempts) <= waiting,
         }
     }
 
     fn follow_tick(self, timeout: u16) -> Ticked
         ensures { result ≡ tick_of timeout Duty.Follow self }
     {
-        let mut c = self;
-        c.heard = false;
+        let unheard = Clock {
+            heard: false,
+            ..self
+        };
         if self.heard {
-            c.waiting = 0;
+            let followed = Clock {
+                waiting: 0,
+                ..unheard
+            };
             return Ticked {
-                clock: c.stable_tick(timeout),
+                clock: followed.stable_tick(timeout),
                 up: false,
             };
         }
-        c.stable = 0;
-        c.wait_tick(timeout)
+        let waits = Clock {
+            stable: 0,
+            ..unheard
+        };
+        waits.wait_tick(timeout)
     }
 
     pub fn tick(self, timeout: u16, duty: Duty) -> Ticked
@@ -128,10 +114,11 @@ impl Clock {
     pub fn heard(self) -> Ticked
         ensures { result ≡ heard_of self }
     {
-        let mut c = self;
-        c.heard = true;
         Ticked {
-            clock: c,
+            clock: Clock {
+                heard: true,
+                ..self
+            },
             up: false,
         }
     }
@@ -140,12 +127,13 @@ impl Clock {
     pub fn reset(self) -> Ticked
         ensures { result ≡ reset_of self }
     {
-        let mut c = self;
-        c.heard = true;
-        c.waiting = 0;
-        c.stable = 0;
         Ticked {
-            clock: c,
+            clock: Clock {
+                heard: true,
+                waiting: 0,
+                stable: 0,
+                ..self
+            },
             up: false,
         }
     }
@@ -154,13 +142,14 @@ impl Clock {
     pub fn start(self, again: bool) -> Ticked
         ensures { result ≡ start_of again self }
     {
-        let mut c = self;
-        c.waiting = 0;
-        if again {
-            c.attempts = least((self.attempts as u32) + 1, 10) as u8;
-        }
+        let raised = self.attempts.saturating_add(1).min(10);
+        let attempts = if again { raised } else { self.attempts };
         Ticked {
-            clock: c,
+            clock: Clock {
+                waiting: 0,
+                attempts,
+                ..self
+            },
             up: false,
         }
     }
@@ -169,10 +158,8 @@ impl Clock {
     pub fn restart(self) -> Ticked
         ensures { result ≡ restart_of self }
     {
-        let mut c = self;
-        c.waiting = 0;
         Ticked {
-            clock: c,
+            clock: Clock { waiting: 0, ..self },
             up: false,
         }
     }

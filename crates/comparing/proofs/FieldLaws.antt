@@ -1,10 +1,13 @@
 -- What is digested of rows and reports, one more at a time, and turns of the loop that compares a state line. Assumes nothing.
-use Rattle.std.proofs.Common.{◌≡◌, ℕ, ◌+◌, ◌-◌, ◌*◌, ◌<◌, ◌≤◌, Bool, true, false, List, [], ◌∷◌, length, get_or, take, drop, replicate, sym, add-one, arith, drop-cons, le-ltb, lt-ltb, eq-eqb, ne_eqb, le-leb}
+use Rattle.std.proofs.Common.{◌≡◌, ℕ, ◌+◌, ◌*◌, ◌<◌, ◌≤◌, Bool, true, false, List, [], ◌∷◌, length, get_or, take, drop, replicate, not, true≢false, refl, sym, add-one, arith, drop-cons, le-ltb, lt-ltb, eq-eqb, ne_eqb, le-leb}
+use Rattle.std.specs.Bool.{beq}
 use borrow.Author.Tests.{lt-leb}
 use lib.Seq.{drop-length}
 use Rattle.numbers.specs.Words.{when◌then◌else◌}
 use Rattle.numbers.specs.Numbers.{big}
 use Rattle.config.specs.Replicas.{with_member}
+use Rattle.frames.specs.declared.Status.{Status}
+use Rattle.frames.specs.declared.Status.TheVariants.{Normal, StateTransfer, ViewChange, Recovering}
 use Rattle.state.specs.Statuses.{no_report, is_recovering}
 use Rattle.state.specs.Lengths.{stored_place}
 use Rattle.state.specs.declared.Report.{Report}
@@ -24,7 +27,7 @@ module _ (rows : List Report) (i : ℕ) (d : Report) (e : d ≡ get_or rows i no
 
 module _ (h : ℕ) (row : List ℕ) where
   pub row-none : get_or row 16 0 ≡ 0 → h ≡ digest_after h (row_text row)
-  unfolding digest_after row_text when◌then◌else◌
+  unfolding row_text when◌then◌else◌
   row-none e = rw (eq-eqb (get_or row 16 0) 0 e)
 
   pub row-bare : (get_or row 16 0 ≡ 0 → ⊥) → 6 < get_or row 16 0 → digest_after (digest_after h (take 16 row)) (replicate 9 0) ≡ digest_after h (row_text row)
@@ -37,12 +40,12 @@ module _ (h : ℕ) (row : List ℕ) where
 
 module _ (h : ℕ) (mem : List ℕ) (a : ℕ) where
   pub nth-none : length mem < a + 25 → h ≡ digest_after h (row_text (part_at a 25 mem))
-  unfolding digest_after row_text part_at when◌then◌else◌
+  unfolding row_text part_at when◌then◌else◌
   nth-none l = rw (lt-leb (a + 25) (length mem) l)
 
-  pub nth-some : a + 25 ≤ length mem → digest_after h (row_text (take (a + 25 - a) (drop a mem))) ≡ digest_after h (row_text (part_at a 25 mem))
+  pub nth-some : a + 25 ≤ length mem → digest_after h (row_text (take 25 (drop a mem))) ≡ digest_after h (row_text (part_at a 25 mem))
   unfolding part_at when◌then◌else◌
-  nth-some l = let e : a + 25 - a ≡ 25 = omega arith in rw (le-leb (a + 25) (length mem) l, e)
+  nth-some l = rw (le-leb (a + 25) (length mem) l)
 
 pub table-next : (mem : List ℕ) (i h r : ℕ) → h ≡ digest_of (table_text i mem) → r ≡ digest_after h (row_text (part_at (400 + 25 * i) 25 mem))
     → r ≡ digest_of (table_text (i + 1) mem)
@@ -64,7 +67,7 @@ differ-end line vs k h l = let e : k ≡ length vs = omega arith in rw (e, drop-
 
 module _ (h room i : ℕ) (d : Report) (mem : List ℕ) where
   pub report-none : d.there ≡ false → h ≡ digest_after h (report_text room i d mem)
-  unfolding digest_after report_text when◌then◌else◌
+  unfolding report_text when◌then◌else◌
   report-none e = rw e
 
   pub report-some : (a r : ℕ) → d.there ≡ true
@@ -87,20 +90,25 @@ module _ (s : Replica) (mem : List ℕ) where
   unfolding reports_digest when◌then◌else◌
   reports-some h = rw (le-leb s.setup.room 4096 h)
 
-module _ (s : Replica) (b : Bool) (n : ℕ) (p : b ≡ is_recovering s.status) (q : n ≡ at_most_seven s.setup.n) where
-  pub changes-held : b ≡ false → held_set n s.reports.rows ≡ held_as false s
-  unfolding held_as when◌then◌else◌
-  changes-held h = rw (← p, h, q)
+pub not_recovering : (s : Status) → (s ≡ Recovering → ⊥) → false ≡ is_recovering s
+unfolding is_recovering
+not_recovering Normal n = refl
+not_recovering StateTransfer n = refl
+not_recovering ViewChange n = refl
+not_recovering Recovering n = absurd (n refl)
 
-  pub responses-held : b ≡ true → held_set n s.reports.rows ≡ held_as true s
-  unfolding held_as when◌then◌else◌
-  responses-held h = rw (← p, h, q)
+-- r, whether the replica is recovering, isn't whether it is responses that are asked for
+pub held-none : (s : Replica) (r b : Bool) → r ≡ is_recovering s.status → not (beq r b) ≡ true → 0 ≡ held_as b s
+unfolding held_as when◌then◌else◌
+held-none s true true p n = absurd (true≢false (sym n))
+held-none s true false p n = rw (← p)
+held-none s false true p n = rw (← p)
+held-none s false false p n = absurd (true≢false (sym n))
 
-module _ (s : Replica) (b : Bool) (p : b ≡ is_recovering s.status) where
-  pub changes-none : b ≡ true → 0 ≡ held_as false s
-  unfolding held_as when◌then◌else◌
-  changes-none h = rw (← p, h)
-
-  pub responses-none : b ≡ false → 0 ≡ held_as true s
-  unfolding held_as when◌then◌else◌
-  responses-none h = rw (← p, h)
+-- it is
+pub held-some : (s : Replica) (r b : Bool) → r ≡ is_recovering s.status → not (beq r b) ≡ false → held_set (at_most_seven s.setup.n) s.reports.rows ≡ held_as b s
+unfolding held_as when◌then◌else◌
+held-some s true true p e = rw (← p)
+held-some s true false p e = absurd (true≢false e)
+held-some s false true p e = absurd (true≢false e)
+held-some s false false p e = rw (← p)

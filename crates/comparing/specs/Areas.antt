@@ -1,5 +1,6 @@
 -- The lent runs, kept one behind the other in one array with room for n = 7, L = 8 and M = 8, and what a call has to leave alone. Assumes nothing.
-use Rattle.std.specs.Prelude.{ℕ, ◌+◌, ◌-◌, Bool, true, leb, List, [], ◌∷◌, length, take, drop, replicate, nat_eq, nat_le}
+use Rattle.std.specs.Prelude.{ℕ, ◌+◌, ◌-◌, Bool, leb, List, length, take, drop, replicate, nat_le, ◌==◌}
+use Rattle.std.specs.List.{list_all}
 use Rattle.numbers.specs.Words.{when◌then◌else◌, ◌and◌}
 use Rattle.numbers.specs.Numbers.{over, put_at}
 
@@ -16,9 +17,8 @@ unfoldable pub spoilt_to : (n : ℕ) → List ℕ → List ℕ
 spoilt_to n area = when nat_le n (length area) then over (replicate n 165) area else area
 
 -- whether all bytes are 165
-unfoldable pub all_spoilt : List ℕ → Bool
-all_spoilt [] = true
-all_spoilt (b ∷ bs) = nat_eq b 165 and all_spoilt bs
+abbrev pub all_spoilt : List ℕ → Bool
+all_spoilt s = list_all (λ b. b == 165) s
 
 -- whether the bytes from one place to another are there, and all 165
 unfoldable pub left_alone : (from to : ℕ) → List ℕ → Bool

@@ -1,5 +1,5 @@
 -- FORMAT.md: FNV-1a digests of 64 bits, offset basis cbf29ce484222325, prime 100000001b3. Assumes nothing.
-use Rattle.std.specs.Prelude.{ℕ, ◌+◌, ◌*◌, ◌%◌, ◌^◌, List, [], ◌∷◌, length, take, drop, bit_xor, nat_le}
+use Rattle.std.specs.Prelude.{ℕ, ◌+◌, ◌*◌, ◌%◌, ◌^◌, List, [], length, take, drop, bit_xor, nat_le, fold}
 use Rattle.numbers.specs.Words.{when◌then◌else◌}
 
 -- the offset basis
@@ -11,9 +11,8 @@ unfoldable pub hashed : (h b : ℕ) → ℕ
 hashed h b = bit_xor h b * 1099511628211 % 2 ^ 64
 
 -- the digest h with more bytes
-unfoldable pub digest_after : (h : ℕ) → List ℕ → ℕ
-digest_after h [] = h
-digest_after h (b ∷ bs) = digest_after (hashed h b) bs
+abbrev pub digest_after : (h : ℕ) → List ℕ → ℕ
+digest_after h s = fold hashed h s
 
 -- the digest of bytes
 abbrev pub digest_of : List ℕ → ℕ

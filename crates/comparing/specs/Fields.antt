@@ -1,5 +1,6 @@
 -- FORMAT.md's state line: nineteen numbers of the state and of the lent runs, in the line's order; and the line `+ nonce reports` behind it. Assumes nothing.
-use Rattle.std.specs.Prelude.{ℕ, zero, suc, ◌+◌, ◌*◌, Bool, true, false, List, [], ◌∷◌, ◌++◌, get_or, take, replicate, ◌==◌, nat_le, nat_lt, slice_index, slice_index_or}
+use Rattle.std.specs.Prelude.{ℕ, zero, suc, ◌+◌, ◌*◌, Bool, true, false, List, [], ◌∷◌, ◌++◌, get_or, min, take, replicate, ◌==◌, nat_le, nat_lt, slice_index, slice_index_or}
+use Rattle.std.specs.Int.{from_bool}
 use Rattle.numbers.specs.Words.{when◌then◌else◌}
 use Rattle.numbers.specs.Numbers.{big}
 use Rattle.config.specs.Replicas.{with_member}
@@ -12,9 +13,8 @@ use Rattle.comparing.specs.Text.{number_at}
 use Rattle.comparing.specs.Digests.{digest_of, offset_basis, part_at}
 
 -- 0 or 1
-unfoldable pub one_if : Bool → ℕ
-one_if true = 1
-one_if false = 0
+abbrev pub one_if : Bool → ℕ
+one_if b = from_bool b
 
 -- whose report is held among the first n, one bit for each replica id
 unfoldable pub held_set : (n : ℕ) → List Report → ℕ
@@ -22,8 +22,8 @@ held_set zero rows = 0
 held_set (suc i) rows = when (get_or rows i no_report).there then with_member (held_set i rows) i else held_set i rows
 
 -- of seven replicas at most: there are no more rows
-unfoldable pub at_most_seven : ℕ → ℕ
-at_most_seven n = when nat_le n 7 then n else 7
+abbrev pub at_most_seven : ℕ → ℕ
+at_most_seven n = min n 7
 
 -- the rows hold RecoveryResponses in Recovering, else DoViewChanges
 unfoldable pub held_as : (responses : Bool) → Replica → ℕ

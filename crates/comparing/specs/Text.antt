@@ -1,17 +1,16 @@
 -- FORMAT.md: a line's words are parted by one space. Numbers are decimal, a digest is hexadecimal, a byte run is lower-case hexadecimal, or `-` when empty. Numbers are kept to 64 bits.
 -- Assumes nothing.
-use Rattle.std.specs.Prelude.{ℕ, zero, suc, ◌+◌, ◌-◌, ◌*◌, ◌/◌, ◌%◌, ◌^◌, Bool, true, false, List, [], ◌∷◌, ◌++◌, length, take, drop, ◌==◌, nat_eq, nat_le, nat_lt, slice_index}
-use Rattle.numbers.specs.Words.{when◌then◌else◌, ◌and◌}
+use Rattle.std.specs.Prelude.{ℕ, zero, suc, ◌+◌, ◌-◌, ◌*◌, ◌/◌, ◌%◌, ◌^◌, Bool, true, false, List, [], ◌∷◌, ◌++◌, length, take, drop, ◌==◌, nat_le, nat_lt, slice_index, take_while, not, count_by, fold}
+use Rattle.std.specs.Str.{bytes_eq}
+use Rattle.numbers.specs.Words.{when◌then◌else◌}
 
 -- the first place of the byte b, or the length
-unfoldable pub place_of : (b : ℕ) → List ℕ → ℕ
-place_of b [] = 0
-place_of b (x ∷ xs) = when x == b then 0 else suc (place_of b xs)
+abbrev pub place_of : (b : ℕ) → List ℕ → ℕ
+place_of b s = length (take_while (λ x. not (x == b)) s)
 
 -- how often b is there
-unfoldable pub times_in : (b : ℕ) → List ℕ → ℕ
-times_in b [] = 0
-times_in b (x ∷ xs) = (when nat_eq x b then 1 else 0) + times_in b xs
+abbrev pub times_in : (b : ℕ) → List ℕ → ℕ
+times_in b s = count_by (λ x. x == b) s
 
 -- the place behind the space that ends the word at place a; the length where there is none
 unfoldable pub behind_word : List ℕ → (a : ℕ) → ℕ
@@ -49,9 +48,8 @@ unfoldable pub with_digit : (hex : Bool) (x c : ℕ) → ℕ
 with_digit hex x c = (x * base_of hex + digit_of c) % 2 ^ 64
 
 -- the number of a word, after the number x
-unfoldable pub number_after : (hex : Bool) (x : ℕ) → List ℕ → ℕ
-number_after hex x [] = x
-number_after hex x (c ∷ cs) = number_after hex (with_digit hex x c) cs
+abbrev pub number_after : (hex : Bool) (x : ℕ) → List ℕ → ℕ
+number_after hex x s = fold (with_digit hex) x s
 
 -- word k as a number
 unfoldable pub number_at : (hex : Bool) (k : ℕ) → List ℕ → ℕ
@@ -72,11 +70,8 @@ run_text [] = 45 ∷ []
 run_text (b ∷ bs) = hex_text (b ∷ bs)
 
 -- whether two runs are the same
-unfoldable pub same_bytes : List ℕ → List ℕ → Bool
-same_bytes [] [] = true
-same_bytes [] (y ∷ ys) = false
-same_bytes (x ∷ xs) [] = false
-same_bytes (x ∷ xs) (y ∷ ys) = nat_eq x y and same_bytes xs ys
+abbrev pub same_bytes : List ℕ → List ℕ → Bool
+same_bytes s t = bytes_eq s t
 
 -- byte i of a word in hexadecimal
 unfoldable pub byte_at : List ℕ → (i : ℕ) → ℕ

@@ -1,51 +1,18 @@
 // The state line: nineteen numbers, by their place in it; and the digest of the reports that are held.
 ghost use Rattle.std.specs.Prelude.{◌≡◌, ◌+◌, ◌*◌, ◌^◌, ◌<◌, ◌≤◌, true, false, [], ◌∷◌, length};
 ghost use Rattle.numbers.specs.Numbers.{big};
-ghost use Rattle.frames.specs.Looks.{status_number};
 ghost use Rattle.state.specs.Statuses.{is_recovering};
 ghost use Rattle.comparing.specs.Digests.{digest_after, digest_of, part_at};
 ghost use Rattle.comparing.specs.Fields.{one_if, at_most_seven, held_set, held_as, row_text, table_text, state_line, field_in, first_differing, report_text, reports_text, reports_digest};
 
 use crate::{digest, memory, words};
-use clock::Clock;
 use frames::Status;
 use state::{Replica, Report, Reports};
-
-fn flag(b: bool) -> u64
-    ensures { result ≡ one_if b }
-{
-    if b {
-        return 1;
-    }
-    0
-}
-
-fn heard(c: Clock) -> u64
-    ensures { result ≡ one_if c.heard }
-{
-    flag(c.heard)
-}
-
-fn status_number(s: Status) -> u64
-    ensures { result ≡ status_number s }
-{
-    match s {
-        Status::Normal => 0,
-        Status::StateTransfer => 1,
-        Status::ViewChange => 2,
-        Status::Recovering => 3,
-    }
-}
 
 fn is_recovering(s: Status) -> bool
     ensures { result ≡ is_recovering s }
 {
-    match s {
-        Status::Normal => false,
-        Status::StateTransfer => false,
-        Status::ViewChange => false,
-        Status::Recovering => true,
-    }
+    matches!(s, Status::Recovering)
 }
 
 // The set with replica i, if its report is there.
@@ -66,45 +33,20 @@ fn held(t: Reports, n: u8) -> u8
     ensures { result ≡ held_set n t.rows }
 {
     let mut set = 0;
-    let mut i = 0;
-    while i < n {
+    for i in 0..n {
         set = with_held(set, t, i);
-        i += 1;
     }
     set
 }
 
-fn seven(n: u8) -> u8
-    ensures { (result ≡ at_most_seven n) × (result ≤ 7) }
+// RecoveryResponses that are held, none but in Recovering; or DoViewChanges, none there.
+fn held_as(responses: bool, s: Replica) -> u64
+    ensures { result ≡ held_as responses s }
 {
-    if n <= 7 {
-        return n;
-    }
-    7
-}
-
-// DoViewChanges that are held: none in Recovering.
-fn view_changes(s: Replica) -> u64
-    ensures { result ≡ held_as false s }
-{
-    let status = s.status;
-    let rows = s.reports;
-    if is_recovering(status) {
+    if is_recovering(s.status) != responses {
         return 0;
     }
-    held(rows, seven(s.setup.n)) as u64
-}
-
-// RecoveryResponses that are held: none but in Recovering.
-fn responses(s: Replica) -> u64
-    ensures { result ≡ held_as true s }
-{
-    let status = s.status;
-    let rows = s.reports;
-    if is_recovering(status) {
-        return held(rows, seven(s.setup.n)) as u64;
-    }
-    0
+    u64::from(held(s.reports, s.setup.n.min(7)))
 }
 
 // One row of the client table: mark 0 is an unused one, 1 to 6 one with a reply, any other one without.
@@ -112,38 +54,29 @@ fn with_row(h: u64, row: &[u8]) -> u64
     requires { length row.now ≡ 25 }
     ensures { result ≡ digest_after h (row_text row.now) }
 {
-    let mark = row[16];
-    if mark == 0 {
-        return h;
+    match row[16] {
+        0 => h,
+        1..=6 => digest::with_bytes(h, row),
+        _ => digest::with_bytes(digest::with_bytes(h, &row[..16]), &[0; 9]),
     }
-    if 6 < mark {
-        return digest::with_bytes(digest::with_bytes(h, &row[0..16]), &[0; 9]);
-    }
-    digest::with_bytes(h, row)
 }
 
 // Row i, where the memory has so many.
 fn with_nth(h: u64, mem: &[u8], i: u32) -> u64
     ensures { result ≡ digest_after h (row_text (part_at (400 + 25 * i) 25 mem.now)) }
 {
-    let at = memory::TABLE + 25 * (i as usize);
-    if mem.len() < at {
-        return h;
+    match memory::part(mem, memory::TABLE + 25 * i as usize, 25) {
+        Some(row) => with_row(h, row),
+        None => h,
     }
-    if mem.len() - at < 25 {
-        return h;
-    }
-    with_row(h, &mem[at..at + 25])
 }
 
 fn clients(mem: &[u8], room: u32) -> u64
     ensures { result ≡ digest_of (table_text room mem.now) }
 {
     let mut h = digest::EMPTY;
-    let mut i = 0;
-    while i < room {
+    for i in 0..room {
         h = with_nth(h, mem, i);
-        i += 1;
     }
     h
 }
@@ -158,30 +91,27 @@ fn part(mem: &[u8], at: usize, n: usize) -> u64
 pub fn values(s: Replica, mem: &[u8]) -> [u64; 19]
     ensures { result ≡ state_line s mem.now }
 {
-    let status = s.status;
     let c = s.clock;
-    let op = s.op.0 as usize;
-    let commit = s.commit.0 as usize;
     [
-        status_number(status),
-        s.view.0 as u64,
-        s.normal.0 as u64,
-        s.op.0 as u64,
-        s.commit.0 as u64,
-        heard(c),
-        c.waiting as u64,
-        c.stable as u64,
-        c.attempts as u64,
-        s.starts as u64,
-        flag(s.sent),
-        flag(s.catching),
-        view_changes(s),
-        responses(s),
-        part(mem, memory::LOG, 32 * op),
+        u64::from(u8::from(s.status)),
+        u64::from(s.view.0),
+        u64::from(s.normal.0),
+        u64::from(s.op.0),
+        u64::from(s.commit.0),
+        u64::from(c.heard),
+        u64::from(c.waiting),
+        u64::from(c.stable),
+        u64::from(c.attempts),
+        u64::from(s.starts),
+        u64::from(s.sent),
+        u64::from(s.catching),
+        held_as(false, s),
+        held_as(true, s),
+        part(mem, memory::LOG, 32 * s.op.0 as usize),
         clients(mem, s.setup.room),
-        part(mem, memory::TOTALS, 8 * (s.setup.members as usize)),
+        part(mem, memory::TOTALS, 8 * s.setup.members as usize),
         part(mem, memory::ACKS, s.setup.room as usize),
-        part(mem, memory::LOG, 32 * commit),
+        part(mem, memory::LOG, 32 * s.commit.0 as usize),
     ]
 }
 
@@ -200,14 +130,12 @@ fn wanted(line: &[u8], k: usize) -> u64
 pub fn differing(line: &[u8], values: &[u64]) -> usize
     ensures { result ≡ first_differing line.now 0 values.now }
 {
-    let mut k = 0;
-    while k < values.len() {
-        if wanted(line, k) != values[k] {
+    for (k, x) in values.iter().enumerate() {
+        if wanted(line, k) != *x {
             return k;
         }
-        k += 1;
     }
-    k
+    values.len()
 }
 
 // The digest with a number of four bytes more.
@@ -219,20 +147,11 @@ fn with_number(h: u64, x: u32) -> u64
     digest::with_bytes(h, &area)
 }
 
-fn mark(b: bool) -> u8
-    ensures { result ≡ one_if b }
-{
-    if b {
-        return 1;
-    }
-    0
-}
-
 // The numbers of a report.
 fn with_numbers(h: u64, i: u8, d: Report) -> u64
     ensures { result ≡ digest_after (digest_after (digest_after (digest_after h (i ∷ one_if d.full ∷ [])) (big 4 d.view.0)) (big 4 d.op.0)) (big 4 d.commit.0) }
 {
-    let a = digest::with_bytes(h, &[i, mark(d.full)]);
+    let a = digest::with_bytes(h, &[i, u8::from(d.full)]);
     let b = with_number(a, d.view.0);
     let c = with_number(b, d.op.0);
     with_number(c, d.commit.0)
@@ -257,10 +176,8 @@ fn with_reports(t: Reports, n: u8, room: u32, mem: &[u8]) -> u64
     ensures { result ≡ digest_of (reports_text room n t.rows mem.now) }
 {
     let mut h = digest::EMPTY;
-    let mut i = 0;
-    while i < n {
+    for i in 0..n {
         h = with_report(h, i, reports::rows::report_at(t, i), room, mem);
-        i += 1;
     }
     h
 }
@@ -269,9 +186,8 @@ fn with_reports(t: Reports, n: u8, room: u32, mem: &[u8]) -> u64
 pub fn reports(s: Replica, mem: &[u8]) -> u64
     ensures { result ≡ reports_digest s mem.now }
 {
-    let rows = s.reports;
     if 4096 < s.setup.room {
         return digest::EMPTY;
     }
-    with_reports(rows, seven(s.setup.n), s.setup.room, mem)
+    with_reports(s.reports, s.setup.n.min(7), s.setup.room, mem)
 }

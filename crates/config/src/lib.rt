@@ -8,7 +8,7 @@ ghost use Rattle.config.specs.Replicas.{bit, with_member, with_another, count_be
 use numbers::View;
 
 // What is chosen at creation: n replicas, the own id, `primary_timeout` T, log room L and members M.
-#[derive(Clone, Copy)]
+#[derive(Clone, Copy, PartialEq, Eq, Debug)]
 pub struct Setup {
     pub n: u8,
     pub id: u8,

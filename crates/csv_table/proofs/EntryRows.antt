@@ -3,49 +3,21 @@
 --     header-fields, entry-fields  and these do
 -- Assumes nothing.
 use mathlib.Core.Path.{◌≡◌, refl, sym, ap, ◌∙◌, subst}
-use mathlib.Core.Bool.{true}
 use mathlib.Core.List.{List, [], ◌∷◌}
-use Prim.Native.Nat.{ℕ, suc, ◌≤◌}
+use Prim.Native.Nat.{ℕ, suc}
 use native.Mathlib.Nat.{suc_inj}
 use native.Mathlib.Omega.{arith}
 use lib.ListN.{length, get_or, set}
-use Rattle.entries.specs.Entries.{operation_ok, Sendable}
+use Rattle.entries.specs.Entries.{Sendable}
 use Rattle.entries.specs.declared.Entry.{Entry}
-use Rattle.decimal.specs.Decimal.{decimal, said, number_in}
-use Rattle.decimal.specs.declared.Number.{Number}
+use Rattle.std.specs.Prelude.{Some}
 use Rattle.decimal.proofs.DecimalLaws.{number-of-decimal, number-there}
-use Rattle.csv_table.specs.Table.{header_words, kind_word, entry_fields}
-use Rattle.csv_table.specs.Fields.{sense, kind_in, cents_in}
+use Rattle.csv_table.specs.Table.{header_words, entry_fields}
+use Rattle.csv_table.specs.Fields.{sense}
 use Rattle.csv_table.specs.Reading.{no_values, entry_of_values}
 use Rattle.csv_table.proofs.TextLaws.{other, past}
 use Rattle.csv_table.proofs.SenseLaws.{header-says, header-said, op-says, op-said, kind-says, kind-said, cents-says, cents-said, cents-most, sense-header, sense-op, sense-client, sense-request, sense-kind, sense-member, sense-cents}
 use Rattle.csv_table.proofs.RowLaws.{SaysAll, put_all}
-
--- what says a value is there
-said-there : (n : Number) (v : ℕ) → n ≡ said v → n.there ≡ true
-said-there n v e = ap (λ (x : Number). x.there) e
-
-said-value : (n : Number) (v : ℕ) → n ≡ said v → n.value ≡ v
-said-value n v e = ap (λ (x : Number). x.value) e
-
--- a number that is said
-number_is : (most : ℕ) (f : List ℕ) (v : ℕ) → number_in most f ≡ said v → (f ≡ decimal v) × (v ≤ most)
-number_is most f v e =
-    let p = number-there most f (said-there _ v e) in
-    let w = said-value _ v e in
-    (sym p.0 ∙ ap decimal w, omega (arith, p.1))
-
-kind-is : (f : List ℕ) (v : ℕ) → kind_in f ≡ said v → (f ≡ kind_word v) × (v ≤ 3)
-kind-is f v e =
-    let p = kind-says f (said-there _ v e) in
-    let w = said-value _ v e in
-    (p.0 ∙ ap kind_word w, omega (arith, p.2))
-
-cents-are : (o : ℕ) (f : List ℕ) (v : ℕ) → cents_in o f ≡ said v → (f ≡ decimal v) × (operation_ok o v ≡ true)
-cents-are o f v e =
-    let p = cents-says o f (said-there _ v e) in
-    let w = said-value _ v e in
-    (p.0 ∙ ap decimal w, ap (operation_ok o) (sym w) ∙ p.1)
 
 -- ---- six fields
 
@@ -57,7 +29,7 @@ record Cons (n i k : ℕ) (vs : List ℕ) (fs : List (List ℕ)) (ws : List ℕ)
   us : List ℕ
   fs-are : fs ≡ f ∷ gs
   ws-are : ws ≡ w ∷ us
-  says : sense i k (get_or vs 3 0) f ≡ said w
+  says : sense i k (get_or vs 3 0) f ≡ Some w
   count : length gs ≡ n
   others : SaysAll i (suc k) (set vs k w) gs us
 
@@ -119,15 +91,15 @@ header_row fs ws e s =
     ∷ word 3 x.c3.f x.c3.w 0 x.c3.says j ∷ word 4 x.c4.f x.c4.w x.c3.w x.c4.says j
     ∷ word 5 x.c5.f x.c5.w x.c3.w x.c5.says j ∷ [])
   where
-    word : (k : ℕ) (f : List ℕ) (w o : ℕ) → sense 0 k o f ≡ said w → f ≡ get_or header_words k []
-    word k f w o h = header-says k f (said-there _ w (sym (sense-header k o f) ∙ h))
+    word : (k : ℕ) (f : List ℕ) (w o : ℕ) → sense 0 k o f ≡ Some w → f ≡ get_or header_words k []
+    word k f w o h = header-says k w f (sym (sense-header k o f) ∙ h)
 
 pub header-fields : SaysAll 0 0 no_values header_words (0 ∷ 0 ∷ 0 ∷ 0 ∷ 0 ∷ 0 ∷ [])
 unfolding SaysAll header_words
 header-fields =
     (word 0, (word 1, (word 2, (word 3, (word 4, (word 5, tt))))))
   where
-    word : (k : ℕ) → sense 0 k 0 (get_or header_words k []) ≡ said 0
+    word : (k : ℕ) → sense 0 k 0 (get_or header_words k []) ≡ Some 0
     word k = sense-header k 0 (get_or header_words k []) ∙ header-said k
 
 -- ---- an entry
@@ -141,12 +113,12 @@ made : (i : ℕ) (fs : List (List ℕ)) (ws : List ℕ) (x : Six (suc i) fs ws)
     → Made i fs (record { client = x.c1.w; request = x.c2.w; operation = x.c3.w; member = x.c4.w; cents = x.c5.w })
 unfolding entry_fields
 made i fs ws x =
-    let op = op-says (suc i) x.c0.f (said-there _ x.c0.w (sym (sense-op i 0 x.c0.f) ∙ x.c0.says)) in
-    let client = number_is _ x.c1.f x.c1.w (sym (sense-client i 0 x.c1.f) ∙ x.c1.says) in
-    let request = number_is _ x.c2.f x.c2.w (sym (sense-request i 0 x.c2.f) ∙ x.c2.says) in
-    let kind = kind-is x.c3.f x.c3.w (sym (sense-kind i 0 x.c3.f) ∙ x.c3.says) in
-    let member = number_is _ x.c4.f x.c4.w (sym (sense-member i x.c3.w x.c4.f) ∙ x.c4.says) in
-    let cents = cents-are x.c3.w x.c5.f x.c5.w (sym (sense-cents i x.c3.w x.c5.f) ∙ x.c5.says) in
+    let op = op-says (suc i) x.c0.w x.c0.f (sym (sense-op i 0 x.c0.f) ∙ x.c0.says) in
+    let client = number-there _ x.c1.w x.c1.f (sym (sense-client i 0 x.c1.f) ∙ x.c1.says) in
+    let request = number-there _ x.c2.w x.c2.f (sym (sense-request i 0 x.c2.f) ∙ x.c2.says) in
+    let kind = kind-says x.c3.f x.c3.w (sym (sense-kind i 0 x.c3.f) ∙ x.c3.says) in
+    let member = number-there _ x.c4.w x.c4.f (sym (sense-member i x.c3.w x.c4.f) ∙ x.c4.says) in
+    let cents = cents-says x.c3.w x.c5.w x.c5.f (sym (sense-cents i x.c3.w x.c5.f) ∙ x.c5.says) in
     record {
       row = x.fs-is ∙ (λ j. op j ∷ client.0 j ∷ request.0 j ∷ kind.0 j ∷ member.0 j ∷ cents.0 j ∷ []);
       sendable = record {

@@ -16,6 +16,7 @@ use borrow.Author.Tests.{le-leb, lt-leb, leb-false, lt-ltb, le-ltb}
 use lib.Dec.{leb}
 use lib.ListN.{length, drop, length-append}
 use lib.Seq.{drop-drop, drop_at}
+use Rattle.std.specs.Prelude.{Ok}
 use Rattle.numbers.specs.Words.{when◌then◌else◌}
 use Rattle.numbers.specs.Numbers.{Bytes, over, Wrote}
 use Rattle.numbers.specs.Cells.{cells, packed}
@@ -25,8 +26,8 @@ use Rattle.entries.specs.Entries.{entry_of, entries, run_count, run_ok}
 use Rattle.entries.specs.declared.Entry.{Entry}
 use Rattle.entries.proofs.SendableLaws.{entry-fits}
 use Rattle.csv_table.specs.Table.{header_words, entry_fields, entry_rows_after, table, joined_fields, plain_row, exported}
-use Rattle.csv_table.specs.declared.Exported.{Exported}
-use Rattle.csv_table.specs.Calls.{LeftExported, exporting, export_call}
+use Rattle.csv_table.specs.declared.refusal.CsvRefusal.TheVariants.{BadEntry, NoRoom}
+use Rattle.csv_table.specs.Calls.{CallLeft, refused, exporting, export_call}
 use Rattle.csv_table.proofs.ExportRowLaws.{row-most}
 
 -- ---- the table
@@ -131,22 +132,20 @@ room-enough n room s b l h q = sym (le-leb (length (table_of n s)) room (omega (
 
 -- ---- the call
 
-module _ (run area : List ℕ) (r : Exported) where
-  pub export-bad : r ≡ record { code = 2; bytes = 0 } → not (run_ok run) ≡ true → ◌≡◌ {A = LeftExported} (record { answer = r; area = area }) (export_call run area)
+module _ (run area : List ℕ) where
+  pub export-bad : not (run_ok run) ≡ true → refused BadEntry area ≡ export_call run area
   unfolding export_call when◌then◌else◌
-  export-bad p b = rw (p, b)
+  export-bad b = rw b
 
-  pub export-long : r ≡ record { code = 9; bytes = 0 } → not (run_ok run) ≡ false → leb (length (table_of (run_count run) run)) (length area) ≡ false
-      → ◌≡◌ {A = LeftExported} (record { answer = r; area = area }) (export_call run area)
+  pub export-long : not (run_ok run) ≡ false → leb (length (table_of (run_count run) run)) (length area) ≡ false → refused NoRoom area ≡ export_call run area
   unfolding export_call exporting when◌then◌else◌
-  export-long p b l =
+  export-long b l =
       let t = table_of (run_count run) run in
-      rw (p, b, lt-ltb (length area) (length t) (leb-false (length t) (length area) l))
+      rw (b, lt-ltb (length area) (length t) (leb-false (length t) (length area) l))
 
-pub export-done : (run area after : List ℕ) (n : ℕ) → not (run_ok run) ≡ false → length (table_of (run_count run) run) ≤ length area
-    → Wrote (table_of (run_count run) run) area after n
-    → ◌≡◌ {A = LeftExported} (record { answer = record { code = 0; bytes = n }; area = after }) (export_call run area)
-unfolding export_call exporting when◌then◌else◌
-export-done run area after n b l w =
-    let t = table_of (run_count run) run in
-    rw (w.bytes, w.count, b, le-ltb (length area) (length t) l)
+  pub export-done : (after : List ℕ) (n : ℕ) → not (run_ok run) ≡ false → length (table_of (run_count run) run) ≤ length area
+      → Wrote (table_of (run_count run) run) area after n → ◌≡◌ {A = CallLeft} (record { answer = Ok n; area = after }) (export_call run area)
+  unfolding export_call exporting when◌then◌else◌
+  export-done after n b l w =
+      let t = table_of (run_count run) run in
+      rw (w.bytes, w.count, b, le-ltb (length area) (length t) l)

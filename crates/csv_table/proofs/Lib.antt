@@ -1,3 +1,4 @@
+pub mod Views
 pub mod FieldLaws
 pub mod ExportRowLaws
 pub mod ExportLaws

@@ -12,12 +12,12 @@ use Rattle.entries.specs.Entries.{Sendable}
 use Rattle.entries.specs.declared.Entry.{Entry}
 use Rattle.csv_table.specs.Rows.{crlf, RowText, FileText}
 use Rattle.csv_table.specs.Table.{header_words, entry_fields, entry_rows_after, table, joined_fields, plain_row, exported, IsTable}
-use Rattle.csv_table.proofs.SenseLaws.{Some, decimal-text, kind-text, header-text}
+use Rattle.csv_table.proofs.SenseLaws.{Some-text, decimal-text, kind-text, header-text}
 
 -- a row of one field or more, each text of a plain field
 abbrev Plain : List (List ℕ) → Type 0
 Plain [] = ⊥
-Plain (f ∷ fs) = Some f × All Some fs
+Plain (f ∷ fs) = Some-text f × All Some-text fs
 
 joined-text : (fs : List (List ℕ)) → Plain fs → RowText fs (joined_fields fs)
 unfolding RowText joined_fields

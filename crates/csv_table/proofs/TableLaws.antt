@@ -8,17 +8,20 @@ use mathlib.Core.Logic.{inl, inr, ⊎_elim}
 use Prim.Native.Nat.{ℕ, zero, suc, ◌+◌, ◌≤◌, ◌<◌}
 use native.Mathlib.Omega.{arith}
 use lib.ListN.{length, drop, length-append}
+use Rattle.std.specs.Prelude.{Ok}
+use Rattle.std.specs.Result.{is_ok}
 use Rattle.numbers.specs.Words.{All}
 use Rattle.numbers.proofs.NumberLaws.{eq-or-not}
 use Rattle.entries.specs.Entries.{Sendable}
 use Rattle.entries.specs.declared.Entry.{Entry}
 use Rattle.csv_table.specs.Rows.{crlf, RowText, FileText}
 use Rattle.csv_table.specs.Table.{header_words, entry_fields, entry_rows_after, table, IsTable}
-use Rattle.csv_table.specs.Reading.{no_values, entry_of_values, row_in, scanned_as, scanned_after, scanned, row_entries, table_entries}
-use Rattle.csv_table.specs.declared.Scanned.{Scanned}
+use Rattle.csv_table.specs.Reading.{no_values, entry_of_values, row_in, scanned_after, scanned, row_entries, table_entries}
+use Rattle.csv_table.proofs.Views.{Good, good-or-bad, row_used, row_entry}
 use Rattle.csv_table.proofs.TextLaws.{past}
 use Rattle.csv_table.proofs.RowLaws.{SaysAll, put_all}
 use Rattle.csv_table.proofs.EntryRows.{header_row, header-fields, entry_row, entry-fields}
+use Rattle.csv_table.proofs.CopyLaws.{entries-good, table-of-good}
 use Rattle.csv_table.proofs.LookLaws.{RowAt, alone, before, row_is, empty-not, less_none, scan-bad, scan-end, scan-on, row-byte, shorter}
 
 -- ---- a file that is a table
@@ -78,13 +81,12 @@ file-byte fs (r ∷ rs) s l x = omega (arith, ap length x.2, length-append (x.0 
 
 -- the rows of entries, from row i + 1 on
 record GoodRows (n i p : ℕ) (s : List ℕ) (es : List Entry) : Type 0 where
-  scan : scanned_after n (suc i) p s ≡ scanned_as (suc i + length es) 0 0 0
+  scan : scanned_after n (suc i) p s ≡ Ok (suc i + length es)
   read : row_entries (length es) (suc i) s ≡ es
 
-entry_read : (n i : ℕ) (s : List ℕ) (e : Entry) (rest : List ℕ) → (row_in i s).entry ≡ e → drop (row_in i s).used s ≡ rest
+entry_read : (n i : ℕ) (s : List ℕ) (e : Entry) (rest : List ℕ) → Good (row_in i s) → row_entry (row_in i s) ≡ e → drop (row_used (row_in i s)) s ≡ rest
     → row_entries (suc n) i s ≡ e ∷ row_entries n (suc i) rest
-unfolding row_entries
-entry_read n i s e rest p q = λ j. p j ∷ row_entries n (suc i) (q j)
+entry_read n i s e rest g p q = entries-good n i s g ∙ λ j. p j ∷ row_entries n (suc i) (q j)
 
 good-rows : (n i p : ℕ) (s : List ℕ) (e : Entry) (es : List Entry) → All Sendable (e ∷ es) → FileText (entry_rows_after i (e ∷ es)) s → length s < n
     → GoodRows n i p s (e ∷ es)
@@ -95,25 +97,25 @@ good-rows (suc n) i p s e [] k x l =
     let g = d.at in
     let y = d.rest in
     record {
-      scan = scan-end n (suc i) p s g.good y g.left (ap length d.behind) ∙ ap (λ (m : ℕ). scanned_as m 0 0 0) (omega arith);
-      read = entry_read 0 (suc i) s e y g.entry g.left;
+      scan = scan-end n (suc i) p s g.good y g.left (ap length d.behind) ∙ ap Ok (omega arith);
+      read = entry_read 0 (suc i) s e y g.good g.entry g.left;
     }
 good-rows (suc n) i p s e (f ∷ es) k x l =
     let d = entry_first i e (entry_rows_after (suc i) (f ∷ es)) s k.0 x in
     let g = d.at in
     let y = d.rest in
     let m = shorter (suc i) s (entry_fields (suc i) e) d.a y e (six-fields (suc i) e) g in
-    let r = good-rows n (suc i) (p + (row_in (suc i) s).used) y f es k.1 d.behind (omega arith) in
+    let r = good-rows n (suc i) (p + row_used (row_in (suc i) s)) y f es k.1 d.behind (omega arith) in
     record {
       scan =
           scan-on n (suc i) p s g.good y g.left (file-byte (entry_fields (suc (suc i)) f) (entry_rows_after (suc (suc i)) es) y (omega (arith, six-fields (suc (suc i)) f)) d.behind)
-          ∙ r.scan ∙ ap (λ (j : ℕ). scanned_as j 0 0 0) (omega arith);
-      read = entry_read (length (f ∷ es)) (suc i) s e y g.entry g.left ∙ ap (λ (xs : List Entry). e ∷ xs) r.read;
+          ∙ r.scan ∙ ap Ok (omega arith);
+      read = entry_read (length (f ∷ es)) (suc i) s e y g.good g.entry g.left ∙ ap (λ (xs : List Entry). e ∷ xs) r.read;
     }
 
 -- a table of entries that can be sent
 pub record Looked (file : List ℕ) (es : List Entry) : Type 0 where
-  pub scan : scanned file ≡ scanned_as (suc (length es)) 0 0 0
+  pub scan : scanned file ≡ Ok (suc (length es))
   pub read : table_entries (length es) file ≡ es
 
 header-first : (rs : List (List (List ℕ))) (s : List ℕ) → FileText (header_words ∷ rs) s
@@ -129,18 +131,18 @@ pub good-table : (file : List ℕ) (es : List Entry) → IsTable es file → Loo
 unfolding table entry_rows_after scanned table_entries row_entries
 good-table file [] x =
     let d = header-first [] file x.text in
-    record { scan = scan-end (length file) 0 0 file d.at.good d.rest d.at.left (ap length d.behind); read = refl }
+    record { scan = scan-end (length file) 0 0 file d.at.good d.rest d.at.left (ap length d.behind); read = table-of-good 0 file d.at.good }
 good-table file (e ∷ es) x =
     let d = header-first (entry_rows_after 0 (e ∷ es)) file x.text in
     let g = d.at in
     let y = d.rest in
     let m = shorter 0 file header_words d.a y _ six-words g in
-    let r = good-rows (length file) 0 (0 + (row_in 0 file).used) y e es x.sendable d.behind m in
+    let r = good-rows (length file) 0 (0 + row_used (row_in 0 file)) y e es x.sendable d.behind m in
     record {
       scan =
           scan-on (length file) 0 0 file g.good y g.left (file-byte (entry_fields 1 e) (entry_rows_after 1 es) y (omega (arith, six-fields 1 e)) d.behind)
-          ∙ r.scan ∙ ap (λ (j : ℕ). scanned_as j 0 0 0) (omega arith);
-      read = ap (row_entries (length (e ∷ es)) 1) g.left ∙ r.read;
+          ∙ r.scan ∙ ap Ok (omega arith);
+      read = table-of-good (length (e ∷ es)) file g.good ∙ ap (row_entries (length (e ∷ es)) 1) g.left ∙ r.read;
     }
 
 -- ---- a file whose rows are all good
@@ -170,7 +172,7 @@ record AllRows (n i p : ℕ) (s : List ℕ) : Type 0 where
   es : List Entry
   sendable : All Sendable es
   text : FileText (entry_rows_after i es) s
-  rows : (scanned_after n (suc i) p s).rows ≡ suc i + length es
+  rows : scanned_after n (suc i) p s ≡ Ok (suc i + length es)
   read : row_entries (length es) (suc i) s ≡ es
 
 -- the entry of a good row
@@ -181,7 +183,7 @@ pub record EntryAt (i : ℕ) (s : List ℕ) : Type 0 where
   pub sendable : Sendable e
   pub at : RowAt (suc i) s (entry_fields (suc i) e) a rest e
 
-pub entry_at : (i : ℕ) (s : List ℕ) → (row_in (suc i) s).fault ≡ 0 → EntryAt i s
+pub entry_at : (i : ℕ) (s : List ℕ) → Good (row_in (suc i) s) → EntryAt i s
 entry_at i s h =
     let g = row_is (suc i) s h in
     let d = entry_row i g.fs g.ws g.count g.says in
@@ -204,11 +206,11 @@ module _ (n i p : ℕ) (s : List ℕ) where
         es = d.e ∷ [];
         sendable = (d.sendable, tt);
         text = last-file (suc i) s (entry_fields (suc i) d.e) d.a d.rest d.e g (none_left d.rest z);
-        rows = ap (λ (x : Scanned). x.rows) q ∙ omega arith;
-        read = entry_read 0 (suc i) s d.e d.rest g.entry g.left;
+        rows = q ∙ ap Ok (omega arith);
+        read = entry_read 0 (suc i) s d.e d.rest g.good g.entry g.left;
       }
 
-  more : (d : EntryAt i s) → 1 ≤ length d.rest → AllRows n (suc i) (p + (row_in (suc i) s).used) d.rest → AllRows (suc n) i p s
+  more : (d : EntryAt i s) → 1 ≤ length d.rest → AllRows n (suc i) (p + row_used (row_in (suc i) s)) d.rest → AllRows (suc n) i p s
   unfolding entry_rows_after
   more d z r =
       let g = d.at in
@@ -218,35 +220,35 @@ module _ (n i p : ℕ) (s : List ℕ) where
         es = d.e ∷ r.es;
         sendable = (d.sendable, r.sendable);
         text = join-file (entry_fields (suc i) d.e) (entry_rows_after (suc i) r.es) d.a d.rest s c g.row r.text;
-        rows = ap (λ (x : Scanned). x.rows) q ∙ r.rows ∙ omega arith;
-        read = entry_read (length r.es) (suc i) s d.e d.rest g.entry g.left ∙ ap (λ (xs : List Entry). d.e ∷ xs) r.read;
+        rows = q ∙ r.rows ∙ ap Ok (omega arith);
+        read = entry_read (length r.es) (suc i) s d.e d.rest g.good g.entry g.left ∙ ap (λ (xs : List Entry). d.e ∷ xs) r.read;
       }
 
   -- the look goes on there
-  on-from : (d : EntryAt i s) → 1 ≤ length d.rest → (scanned_after (suc n) (suc i) p s).fault ≡ 0
-      → (scanned_after n (suc (suc i)) (p + (row_in (suc i) s).used) d.rest).fault ≡ 0
-  on-from d z h = ap (λ (x : Scanned). x.fault) (sym (scan-on n (suc i) p s d.at.good d.rest d.at.left z)) ∙ h
+  on-from : (d : EntryAt i s) → 1 ≤ length d.rest → Good (scanned_after (suc n) (suc i) p s)
+      → Good (scanned_after n (suc (suc i)) (p + row_used (row_in (suc i) s)) d.rest)
+  on-from d z h = ap is_ok (sym (scan-on n (suc i) p s d.at.good d.rest d.at.left z)) ∙ h
 
   pub less-left : (d : EntryAt i s) → length s < suc n → length d.rest < n
   less-left d l =
       let m = shorter (suc i) s (entry_fields (suc i) d.e) d.a d.rest d.e (six-fields (suc i) d.e) d.at in
       omega arith
 
-  good-here : ((scanned_after (suc n) (suc i) p s).fault ≡ 0) → (row_in (suc i) s).fault ≡ 0
+  good-here : Good (scanned_after (suc n) (suc i) p s) → Good (row_in (suc i) s)
   good-here h =
-      ⊎_elim (λ g. g) (λ b. absurd (b (ap (λ (x : Scanned). x.fault) (sym (scan-bad n (suc i) p s b)) ∙ h))) (eq-or-not (row_in (suc i) s).fault 0)
+      ⊎_elim (λ g. g) (λ b. absurd ((scan-bad n (suc i) p s b).bad h)) (good-or-bad (row_in (suc i) s))
 
 pub pos : (n : ℕ) → (n ≡ 0 → ⊥) → 1 ≤ n
 pos n h = omega arith
 
-all-rows : (n i p : ℕ) (s : List ℕ) → length s < n → (scanned_after n (suc i) p s).fault ≡ 0 → AllRows n i p s
+all-rows : (n i p : ℕ) (s : List ℕ) → length s < n → Good (scanned_after n (suc i) p s) → AllRows n i p s
 all-rows zero i p s l h = absurd (less_none (length s) l)
 all-rows (suc n) i p s l h =
     let d = entry_at i s (good-here n i p s h) in
     ⊎_elim (one n i p s d)
     (λ z.
     let y = pos (length d.rest) z in
-    more n i p s d y (all-rows n (suc i) (p + (row_in (suc i) s).used) d.rest (less-left n i p s d l) (on-from n i p s d y h)))
+    more n i p s d y (all-rows n (suc i) (p + row_used (row_in (suc i) s)) d.rest (less-left n i p s d l) (on-from n i p s d y h)))
     (eq-or-not (length d.rest) 0)
 
 -- a file whose rows are all good is the table of entries that can be sent
@@ -262,20 +264,20 @@ pub record HeaderAt (s : List ℕ) : Type 0 where
   pub e : Entry
   pub at : RowAt 0 s header_words a rest e
 
-pub header_at : (s : List ℕ) → (row_in 0 s).fault ≡ 0 → HeaderAt s
+pub header_at : (s : List ℕ) → Good (row_in 0 s) → HeaderAt s
 header_at s h =
     let g = row_is 0 s h in
     let e = entry_of_values (put_all no_values 0 g.ws) in
     record { a = g.a; rest = g.rest; e = e; at = subst (λ (fs : List (List ℕ)). RowAt 0 s fs g.a g.rest e) (header_row g.fs g.ws g.count g.says) g.at }
 
-header-good : (file : List ℕ) → (scanned file).fault ≡ 0 → (row_in 0 file).fault ≡ 0
+header-good : (file : List ℕ) → Good (scanned file) → Good (row_in 0 file)
 unfolding scanned
 header-good file h =
-    ⊎_elim (λ g. g) (λ b. absurd (b (ap (λ (x : Scanned). x.fault) (sym (scan-bad (length file) 0 0 file b)) ∙ h))) (eq-or-not (row_in 0 file).fault 0)
+    ⊎_elim (λ g. g) (λ b. absurd ((scan-bad (length file) 0 0 file b).bad h)) (good-or-bad (row_in 0 file))
 
 module _ (file : List ℕ) (d : HeaderAt file) where
   abbrev pub u : ℕ
-  u = 0 + (row_in 0 file).used
+  u = 0 + row_used (row_in 0 file)
 
   pub header-less : length d.rest < length file
   header-less = shorter 0 file header_words d.a d.rest d.e six-words d.at
@@ -297,12 +299,12 @@ module _ (file : List ℕ) (d : HeaderAt file) where
   unfolding scanned
   header-on z = scan-on (length file) 0 0 file d.at.good d.rest d.at.left z
 
-pub table_is : (file : List ℕ) → (scanned file).fault ≡ 0 → TableIs file
+pub table_is : (file : List ℕ) → Good (scanned file) → TableIs file
 table_is file h =
     let d = header_at file (header-good file h) in
     ⊎_elim (header-alone file d)
     (λ z.
     let y = pos (length d.rest) z in
     header-then file d y
-    (all-rows (length file) 0 (u file d) d.rest (header-less file d) (ap (λ (x : Scanned). x.fault) (sym (header-on file d y)) ∙ h)))
+    (all-rows (length file) 0 (u file d) d.rest (header-less file d) (ap is_ok (sym (header-on file d y)) ∙ h)))
     (eq-or-not (length d.rest) 0)

@@ -21,7 +21,11 @@ use Rattle.numbers.proofs.WordLaws.{split, if-true, if-false, and_both, and-true
 use Rattle.numbers.proofs.NumberLaws.{eq-or-not, le-or-lt}
 use Rattle.csv_table.specs.Rows.{quote, comma, crlf, is_text, is_quotable, all_of, quotes_doubled, quoted, FieldText}
 use Rattle.csv_table.specs.Fields.{stops, stretch, ending, ending_size, field_as, plain_field, quoted_field, field_at_front, content}
+use Rattle.csv_table.specs.declared.FieldEnd.{FieldEnd}
+use Rattle.csv_table.specs.declared.FieldEnd.TheVariants.{Comma, Line, File}
 use Rattle.csv_table.specs.declared.Field.{Field}
+use Rattle.std.specs.Prelude.{Option, Some, None, unwrap_or}
+use Rattle.std.proofs.lemmas.Option.{none-some}
 use Rattle.csv_table.proofs.FieldLaws.{stretch-le}
 
 -- a byte that ends no field
@@ -90,7 +94,8 @@ stretch-free (b ∷ s) =
 
 -- ---- endings
 
-pub ending-cons : (b : ℕ) (z : List ℕ) → ending (b ∷ z) ≡ (when eqb b comma then 1 else when eqb b 13 and eqb (get_or z 0 0) 10 then 2 else 0)
+pub ending-cons : (b : ℕ) (z : List ℕ)
+    → ending (b ∷ z) ≡ (when eqb b comma then Some Comma else when eqb b 13 and eqb (get_or z 0 0) 10 then Some Line else None)
 unfolding ending
 ending-cons b z = if-false _ _ _ (ne_eqb (suc (length z)) 0 (λ e. omega arith))
 
@@ -100,14 +105,21 @@ other m n h e = omega arith
 pub past : (m n : ℕ) → n < m → m ≡ n → ⊥
 past m n h e = omega arith
 
+-- a number for each way to end, and for none
+way : Option FieldEnd → ℕ
+way None = 0
+way (Some Comma) = 1
+way (Some Line) = 2
+way (Some File) = 3
+
 -- what stands behind a field that isn't the last: a comma
-pub ends-comma : (z : List ℕ) → ending z ≡ 1 → z ≡ comma ∷ drop 1 z
-unfolding ending when◌then◌else◌
-ends-comma [] e = absurd (past 3 1 (omega arith) e)
+pub ends-comma : (z : List ℕ) → ending z ≡ Some Comma → z ≡ comma ∷ drop 1 z
+unfolding ending when◌then◌else◌ way
+ends-comma [] e = absurd (past 3 1 (omega arith) (ap way e))
 ends-comma (b ∷ z) e =
-    let P : ℕ → Type 0 = λ (k : ℕ). k ≡ 1 → b ∷ z ≡ comma ∷ z in
-    split P (eqb b comma) 1 (when eqb b 13 and eqb (get_or z 0 0) 10 then 2 else 0) (λ q _. ap (λ (x : ℕ). x ∷ z) (eqb-true b comma q))
-    (λ _. split P (eqb b 13 and eqb (get_or z 0 0) 10) 2 0 (λ _ d. absurd (past 2 1 (omega arith) d)) (λ _ d. absurd (other 0 1 (omega arith) d)))
+    let P : Option FieldEnd → Type 0 = λ (k : Option FieldEnd). k ≡ Some Comma → b ∷ z ≡ comma ∷ z in
+    split P (eqb b comma) (Some Comma) (when eqb b 13 and eqb (get_or z 0 0) 10 then Some Line else None) (λ q _. ap (λ (x : ℕ). x ∷ z) (eqb-true b comma q))
+    (λ _. split P (eqb b 13 and eqb (get_or z 0 0) 10) (Some Line) None (λ _ d. absurd (past 2 1 (omega arith) (ap way d))) (λ _ d. absurd (other 0 1 (omega arith) (ap way d))))
     (sym (ending-cons b z) ∙ e)
 
 -- behind the last one: CRLF, or nothing
@@ -115,32 +127,35 @@ second : (z : List ℕ) → get_or z 0 0 ≡ 10 → z ≡ 10 ∷ drop 1 z
 second [] e = absurd (other 0 10 (omega arith) e)
 second (c ∷ z) e = ap (λ (x : ℕ). x ∷ z) e
 
-pub ends-row : (z : List ℕ) → ending z ≡ 2 → z ≡ crlf ++ drop 2 z
-unfolding ending when◌then◌else◌
-ends-row [] e = absurd (past 3 2 (omega arith) e)
+pub ends-row : (z : List ℕ) → ending z ≡ Some Line → z ≡ crlf ++ drop 2 z
+unfolding ending when◌then◌else◌ way
+ends-row [] e = absurd (past 3 2 (omega arith) (ap way e))
 ends-row (b ∷ z) e =
-    let P : ℕ → Type 0 = λ (k : ℕ). k ≡ 2 → b ∷ z ≡ 13 ∷ 10 ∷ drop 1 z in
-    split P (eqb b comma) 1 (when eqb b 13 and eqb (get_or z 0 0) 10 then 2 else 0) (λ _ d. absurd (other 1 2 (omega arith) d))
-    (λ _. split P (eqb b 13 and eqb (get_or z 0 0) 10) 2 0
+    let P : Option FieldEnd → Type 0 = λ (k : Option FieldEnd). k ≡ Some Line → b ∷ z ≡ 13 ∷ 10 ∷ drop 1 z in
+    split P (eqb b comma) (Some Comma) (when eqb b 13 and eqb (get_or z 0 0) 10 then Some Line else None) (λ _ d. absurd (other 1 2 (omega arith) (ap way d)))
+    (λ _. split P (eqb b 13 and eqb (get_or z 0 0) 10) (Some Line) None
     (λ q _. let p = and_both (eqb b 13) (eqb (get_or z 0 0) 10) q in λ i. eqb-true b 13 p.0 i ∷ second z (eqb-true (get_or z 0 0) 10 p.1) i)
-    (λ _ d. absurd (other 0 2 (omega arith) d)))
+    (λ _ d. absurd (other 0 2 (omega arith) (ap way d))))
     (sym (ending-cons b z) ∙ e)
 
-pub ends-file : (z : List ℕ) → ending z ≡ 3 → z ≡ []
+pub ends-file : (z : List ℕ) → ending z ≡ Some File → z ≡ []
+unfolding way
 ends-file [] e = refl
 ends-file (b ∷ z) e =
-    let P : ℕ → Type 0 = λ (k : ℕ). k ≡ 3 → b ∷ z ≡ [] in
-    split P (eqb b comma) 1 (when eqb b 13 and eqb (get_or z 0 0) 10 then 2 else 0) (λ _ d. absurd (other 1 3 (omega arith) d))
-    (λ _. split P (eqb b 13 and eqb (get_or z 0 0) 10) 2 0 (λ _ d. absurd (other 2 3 (omega arith) d)) (λ _ d. absurd (other 0 3 (omega arith) d)))
+    let P : Option FieldEnd → Type 0 = λ (k : Option FieldEnd). k ≡ Some File → b ∷ z ≡ [] in
+    split P (eqb b comma) (Some Comma) (when eqb b 13 and eqb (get_or z 0 0) 10 then Some Line else None) (λ _ d. absurd (other 1 3 (omega arith) (ap way d)))
+    (λ _. split P (eqb b 13 and eqb (get_or z 0 0) 10) (Some Line) None (λ _ d. absurd (other 2 3 (omega arith) (ap way d))) (λ _ d. absurd (other 0 3 (omega arith) (ap way d))))
     (sym (ending-cons b z) ∙ e)
 
 -- ---- a text read
 
 -- how a field is read that begins a run
-pub record FieldIs (s f : List ℕ) (used ends : ℕ) : Type 0 where
-  pub ends_so : (field_at_front s).ends ≡ ends
-  pub says : content (field_at_front s) s ≡ f
-  pub takes : (field_at_front s).used ≡ used
+pub record FieldIs (s f : List ℕ) (used : ℕ) (ends : FieldEnd) : Type 0 where
+  pub field : Field
+  pub there : field_at_front s ≡ Some field
+  pub ends_so : field.ends ≡ ends
+  pub says : content field s ≡ f
+  pub takes : field.used ≡ used
 
 first-free : (f z : List ℕ) → 1 ≤ length f → all_of free f ≡ true → eqb (get_or (f ++ z) 0 0) quote ≡ false
 unfolding all_of stops
@@ -170,56 +185,68 @@ quoted-is f z h =
     ∙ drop_at (quote ∷ f ++ quote ∷ []) z (2 + length f) (omega (arith, quotes-length f)) in
     rw n (if-true _ _ _ (eq-eqb _ _ g) ∙ ap (λ (y : List ℕ). field_as 1 (length f) 1 (ending y)) d)
 
-module _ (f z : List ℕ) (l : 1 ≤ length f) (h : all_of free f ≡ true) (e : stretch z ≡ 0) where
-  plain-complete : FieldIs (f ++ z) f (length f + ending_size (ending z)) (ending z)
+module _ (f z : List ℕ) (l : 1 ≤ length f) (h : all_of free f ≡ true) (e : stretch z ≡ 0) (k : FieldEnd) (g : ending z ≡ Some k) where
+  plain-complete : FieldIs (f ++ z) f (length f + ending_size k) k
   plain-complete =
-      let q = plain-is f z l h e in
       record {
-        ends_so = ap (λ (x : Field). x.ends) q;
-        says = ap (λ (x : Field). content x (f ++ z)) q ∙ take_at f z (length f) refl;
-        takes = ap (λ (x : Field). x.used) q ∙ omega arith;
+        field = record { start = 0; size = length f; used = 0 + length f + 0 + ending_size k; ends = k };
+        there = plain-is f z l h e ∙ ap (field_as 0 (length f) 0) g;
+        ends_so = refl;
+        says = take_at f z (length f) refl;
+        takes = omega arith;
       }
 
-  quoted-complete : FieldIs (quote ∷ f ++ quote ∷ [] ++ z) f (length (quote ∷ f ++ quote ∷ []) + ending_size (ending z)) (ending z)
+  quoted-complete : FieldIs (quote ∷ f ++ quote ∷ [] ++ z) f (length (quote ∷ f ++ quote ∷ []) + ending_size k) k
   quoted-complete =
-      let q = quoted-is f z h in
-      subst (λ (y : List ℕ). FieldIs y f (length (quote ∷ f ++ quote ∷ []) + ending_size (ending z)) (ending z))
+      subst (λ (y : List ℕ). FieldIs y f (length (quote ∷ f ++ quote ∷ []) + ending_size k) k)
       (sym (append_assoc (quote ∷ f) (quote ∷ []) z))
       (record {
-        ends_so = ap (λ (x : Field). x.ends) q;
-        says = ap (λ (x : Field). content x (quote ∷ f ++ quote ∷ z)) q ∙ take_at f (quote ∷ z) (length f) refl;
-        takes = ap (λ (x : Field). x.used) q ∙ omega (arith, quotes-length f);
+        field = record { start = 1; size = length f; used = 1 + length f + 1 + ending_size k; ends = k };
+        there = quoted-is f z h ∙ ap (field_as 1 (length f) 1) g;
+        ends_so = refl;
+        says = take_at f (quote ∷ z) (length f) refl;
+        takes = omega (arith, quotes-length f);
       })
 
-  pub field-complete : (t : List ℕ) → Text f t → FieldIs (t ++ z) f (length t + ending_size (ending z)) (ending z)
+  pub field-complete : (t : List ℕ) → Text f t → FieldIs (t ++ z) f (length t + ending_size k) k
   field-complete t =
-      ⊎_elim (λ p. subst (λ (y : List ℕ). FieldIs (y ++ z) f (length y + ending_size (ending z)) (ending z)) (sym p) plain-complete)
-      (λ p. subst (λ (y : List ℕ). FieldIs (y ++ z) f (length y + ending_size (ending z)) (ending z)) (sym p) quoted-complete)
+      ⊎_elim (λ p. subst (λ (y : List ℕ). FieldIs (y ++ z) f (length y + ending_size k) k) (sym p) plain-complete)
+      (λ p. subst (λ (y : List ℕ). FieldIs (y ++ z) f (length y + ending_size k) k) (sym p) quoted-complete)
 
 -- ---- a field that is read
 
-pub record Stands (s : List ℕ) : Type 0 where
+pub record Stands (s : List ℕ) (x : Field) : Type 0 where
   pub t : List ℕ
   pub z : List ℕ
   pub is : s ≡ t ++ z
-  pub text : Text (content (field_at_front s) s) t
-  pub free-content : all_of free (content (field_at_front s) s) ≡ true
-  pub ends_so : (field_at_front s).ends ≡ ending z
-  pub takes : (field_at_front s).used ≡ length t + ending_size (ending z)
+  pub text : Text (content x s) t
+  pub free-content : all_of free (content x s) ≡ true
+  pub ends_so : ending z ≡ Some x.ends
+  pub takes : x.used ≡ length t + ending_size x.ends
 
-plain-sound : (s : List ℕ) → field_at_front s ≡ plain_field s → Stands s
+-- a field of these parts
+module _ (s : List ℕ) (x : Field) (a n q : ℕ) where
+  parts-by : (e : Option FieldEnd) → field_as a n q e ≡ Some x
+      → ((k : FieldEnd) → e ≡ Some k → Stands s (record { start = a; size = n; used = a + n + q + ending_size k; ends = k })) → Stands s x
+  parts-by None h g = absurd (none-some x h)
+  parts-by (Some k) h g =
+      let r : Field = record { start = a; size = n; used = a + n + q + ending_size k; ends = k } in
+      let i : r ≡ x = ap (λ (y : Option Field). unwrap_or y r) h in
+      subst (Stands s) i (g k refl)
+
+plain-sound : (s : List ℕ) (x : Field) → plain_field s ≡ Some x → Stands s x
 unfolding plain_field
-plain-sound s q =
+plain-sound s x q =
     let n = stretch s in
-    let c : content (field_at_front s) s ≡ take n s = ap (λ (x : Field). content x s) q in
+    parts-by s x 0 n 0 (ending (drop n s)) q λ k e.
     record {
       t = take n s;
       z = drop n s;
       is = sym (take-append-drop n s);
-      text = inl (sym c);
-      free-content = ap (all_of free) c ∙ stretch-free s;
-      ends_so = ap (λ (x : Field). x.ends) q;
-      takes = ap (λ (x : Field). x.used) q ∙ omega (arith, length-take-le n s (stretch-le s));
+      text = inl refl;
+      free-content = stretch-free s;
+      ends_so = e;
+      takes = omega (arith, length-take-le n s (stretch-le s));
     }
 
 one-behind : (b n : ℕ) (s : List ℕ) → get_or (b ∷ s) (1 + n) 0 ≡ get_or s n 0
@@ -235,33 +262,30 @@ closed_is n s g =
     ∙ ap (λ (y : List ℕ). take n s ++ y) (drop-cons s n 0 (there s n g) ∙ ap (λ (b : ℕ). b ∷ drop (suc n) s) g)
     ∙ sym (append_assoc (take n s) (quote ∷ []) (drop (suc n) s)))
 
-quoted-sound : (s : List ℕ) → field_at_front (quote ∷ s) ≡ quoted_field (quote ∷ s) → ((field_at_front (quote ∷ s)).ends ≡ 0 → ⊥) → Stands (quote ∷ s)
+quoted-sound : (s : List ℕ) (x : Field) → quoted_field (quote ∷ s) ≡ Some x → Stands (quote ∷ s) x
 unfolding quoted_field
-quoted-sound s q h =
+quoted-sound s x =
     let n = stretch s in
-    let P : Field → Type 0 = λ (x : Field). field_at_front (quote ∷ s) ≡ x → Stands (quote ∷ s) in
-    split P (eqb (get_or (quote ∷ s) (1 + n) 0) quote) _ _
-    (λ g r.
+    split (λ (y : Option Field). y ≡ Some x → Stands (quote ∷ s) x) (eqb (get_or (quote ∷ s) (1 + n) 0) quote) _ _
+    (λ g q.
     let d : drop (2 + n) (quote ∷ s) ≡ drop (suc n) s = (let e : 2 + n ≡ suc (suc n) = omega arith in ap (λ (k : ℕ). drop k (quote ∷ s)) e) in
-    let c : content (field_at_front (quote ∷ s)) (quote ∷ s) ≡ take n s = ap (λ (x : Field). content x (quote ∷ s)) r in
+    parts-by (quote ∷ s) x 1 n 1 (ending (drop (2 + n) (quote ∷ s))) q λ k e.
     record {
       t = quote ∷ take n s ++ quote ∷ [];
       z = drop (suc n) s;
       is = closed_is n s (sym (one-behind quote n s) ∙ eqb-true _ _ g);
-      text = inr (ap (λ (y : List ℕ). quote ∷ y ++ quote ∷ []) (sym c));
-      free-content = ap (all_of free) c ∙ stretch-free s;
-      ends_so = ap (λ (x : Field). x.ends) r ∙ ap ending d;
-      takes = ap (λ (x : Field). x.used) r ∙ ap (λ (y : List ℕ). 1 + n + 1 + ending_size (ending y)) d
-          ∙ omega (arith, quotes-length (take n s), length-take-le n s (stretch-le s));
+      text = inr refl;
+      free-content = stretch-free s;
+      ends_so = sym (ap ending d) ∙ e;
+      takes = omega (arith, quotes-length (take n s), length-take-le n s (stretch-le s));
     })
-    (λ _ r. absurd (h (ap (λ (x : Field). x.ends) r)))
-    q
+    (λ _ q. absurd (none-some x q))
 
-pub field-sound : (s : List ℕ) → ((field_at_front s).ends ≡ 0 → ⊥) → Stands s
+pub field-sound : (s : List ℕ) (x : Field) → field_at_front s ≡ Some x → Stands s x
 unfolding field_at_front when◌then◌else◌
-field-sound [] h = plain-sound [] refl
-field-sound (b ∷ s) h =
+field-sound [] x q = plain-sound [] x q
+field-sound (b ∷ s) x q =
     ⊎_elim
-    (λ e. subst (λ (x : ℕ). ((field_at_front (x ∷ s)).ends ≡ 0 → ⊥) → Stands (x ∷ s)) (sym e) (quoted-sound s refl) h)
-    (λ e. plain-sound (b ∷ s) (if-false _ _ _ (ne_eqb b quote e)))
+    (λ e. subst (λ (c : ℕ). field_at_front (c ∷ s) ≡ Some x → Stands (c ∷ s) x) (sym e) (quoted-sound s x) q)
+    (λ e. plain-sound (b ∷ s) x (sym (if-false _ _ _ (ne_eqb b quote e)) ∙ q))
     (eq-or-not b quote)

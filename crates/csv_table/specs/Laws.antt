@@ -1,29 +1,37 @@
--- What holds of export and import. Import in both directions: what it accepts is the table of the entries that it gives, and no such table is refused but by
--- 9; the row that 13 names is the first bad one. Importing an export gives the same entries; exporting an import gives the unquoted form with every CRLF. A
--- call that is refused leaves what was lent as it was. Assumes nothing.
-use Rattle.std.specs.Prelude.{◌≡◌, List, [], ◌++◌, ◌⊎◌, ℕ, zero, suc, ◌+◌, ◌-◌, ◌*◌, ◌≤◌, length, take}
+-- What holds of export and import. Import in both directions: what it accepts is the table of the entries that it gives, and no such table is refused but for
+-- want of room; the row that is named is the first bad one. Importing an export gives the same entries; exporting an import gives the unquoted form with every
+-- CRLF. A call that is refused leaves what was lent as it was. Assumes nothing.
+use Rattle.std.specs.Prelude.{◌≡◌, List, [], ◌++◌, ◌⊎◌, ℕ, zero, suc, ◌+◌, ◌-◌, ◌*◌, ◌≤◌, length, take, Ok, Err}
+use Rattle.std.specs.Result.{result_unwrap_or}
 use Rattle.numbers.specs.Words.{All}
 use Rattle.numbers.specs.Numbers.{over}
 use Rattle.entries.specs.Entries.{entries, run_count, Sendable}
 use Rattle.entries.specs.declared.Entry.{Entry}
 use Rattle.csv_table.specs.Rows.{crlf, RowText, RowsText}
 use Rattle.csv_table.specs.Table.{header_words, entry_fields, table, exported, IsTable}
-use Rattle.csv_table.specs.Calls.{LeftExported, not_exported, export_call, LeftImported, not_imported, importing, import_call}
+use Rattle.csv_table.specs.Calls.{CallLeft, export_call, importing, import_call}
+use Rattle.csv_table.specs.declared.refusal.CsvRefusal.{CsvRefusal}
 
--- the text that a call wrote, and the run of entries that a call gave
-abbrev pub text_of : LeftExported → List ℕ
-text_of d = take d.answer.bytes d.area
+-- how many bytes or entries a call wrote; the text, and the run of entries and these
+abbrev pub how_many : CallLeft → ℕ
+how_many d = result_unwrap_or d.answer 0
 
-abbrev pub run_of : LeftImported → List ℕ
-run_of d = take (32 * d.answer.entries) d.area
+abbrev pub text_of : CallLeft → List ℕ
+text_of d = take (how_many d) d.area
+
+abbrev pub run_of : CallLeft → List ℕ
+run_of d = take (32 * how_many d) d.area
+
+abbrev pub entries_of : CallLeft → List Entry
+entries_of d = entries (how_many d) d.area
 
 -- ---- import, in both directions
 
 -- An import that is done: the file is the table of the entries that it left.
-abbrev pub AcceptsOnly : (file : List ℕ) → LeftImported → Type 0
-AcceptsOnly file d = IsTable (entries d.answer.entries d.area) file
+abbrev pub AcceptsOnly : (file : List ℕ) → CallLeft → Type 0
+AcceptsOnly file d = (n : ℕ) → d.answer ≡ Ok n → IsTable (entries n d.area) file
 
--- A file that is the table of some entries: these are what an import gives, into any area that holds them; 9 is all that can refuse it.
+-- A file that is the table of some entries: these are what an import gives, into any area that holds them; want of room is all that can refuse it.
 abbrev pub AcceptsAll : (es : List Entry) (file : List ℕ) → Type 0
 AcceptsAll es file = (area : List ℕ) → import_call file area ≡ importing es area
 
@@ -57,24 +65,19 @@ pub record FirstBad (r : ℕ) (file : List ℕ) : Type 0 where
 abbrev pub ImportsBack : (run area : List ℕ) → Type 0
 ImportsBack run area =
     (into : List ℕ) → length run ≤ length into
-    → import_call (text_of (export_call run area)) into
-    ≡ record { answer = record { code = 0; entries = run_count run; row = 0; column = 0; fault = 0; offset = 0 }; area = over run into }
+    → import_call (text_of (export_call run area)) into ≡ record { answer = Ok (run_count run); area = over run into }
 
 -- What was imported of a file is exported, into any area that holds it: the table of the same entries, with no quotes and every CRLF.
 abbrev pub ExportsBack : (file area : List ℕ) → Type 0
 ExportsBack file area =
-    (into : List ℕ) → length (exported (entries (import_call file area).answer.entries (import_call file area).area)) ≤ length into
+    (into : List ℕ) → length (exported (entries_of (import_call file area))) ≤ length into
     → export_call (run_of (import_call file area)) into
     ≡ record {
-      answer = record { code = 0; bytes = length (exported (entries (import_call file area).answer.entries (import_call file area).area)) };
-      area = over (exported (entries (import_call file area).answer.entries (import_call file area).area)) into;
+      answer = Ok (length (exported (entries_of (import_call file area))));
+      area = over (exported (entries_of (import_call file area))) into;
     }
 
 -- ---- refused calls
 
-abbrev pub UntouchedByExport : (area : List ℕ) → LeftExported → Type 0
-UntouchedByExport area d = (d.answer.code ≡ 0 → ⊥) → d ≡ not_exported d.answer.code area
-
-pub record UntouchedByImport (area : List ℕ) (d : LeftImported) : Type 0 where
-  pub as_before : (d.answer.code ≡ 0 → ⊥) → d ≡ not_imported d.answer.code d.answer.row d.answer.column d.answer.fault d.answer.offset area
-  pub else-nothing : (d.answer.code ≡ 13 → ⊥) → (d.answer.row ≡ 0) × (d.answer.column ≡ 0) × (d.answer.fault ≡ 0) × (d.answer.offset ≡ 0)
+abbrev pub UntouchedByRefusal : (area : List ℕ) → CallLeft → Type 0
+UntouchedByRefusal area d = (r : CsvRefusal) → d.answer ≡ Err r → d.area ≡ area

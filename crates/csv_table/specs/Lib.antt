@@ -1,3 +1,4 @@
+pub mod Refusal
 pub mod Rows
 pub mod Table
 pub mod Fields

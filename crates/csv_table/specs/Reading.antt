@@ -1,11 +1,16 @@
 -- How a file is read: six fields a row, row after row up to the first bad one, until nothing is left. Rows and fields count from 0 here, row 0 being the header
 -- and row i that of op i. Assumes nothing.
-use Rattle.std.specs.Prelude.{not, List, [], ◌∷◌, ℕ, zero, suc, ◌+◌, eqb, length, get_or, set, drop, replicate}
+use Rattle.std.specs.Prelude.{Result, Ok, Err, List, [], ◌∷◌, ℕ, zero, suc, ◌+◌, eqb, length, get_or, set, drop, replicate}
 use Rattle.numbers.specs.Words.{when◌then◌else◌}
 use Rattle.entries.specs.declared.Entry.{Entry}
+use Rattle.csv_table.specs.Refusal.{◌>>=◌}
 use Rattle.csv_table.specs.Fields.{field_told}
+use Rattle.csv_table.specs.declared.refusal.FieldFault.{FieldFault}
+use Rattle.csv_table.specs.declared.refusal.CsvRefusal.{CsvRefusal}
+use Rattle.csv_table.specs.declared.refusal.CsvRefusal.TheVariants.{BadRow}
+use Rattle.csv_table.specs.declared.FieldRead.{FieldRead}
+use Rattle.csv_table.specs.declared.BadField.{BadField}
 use Rattle.csv_table.specs.declared.RowRead.{RowRead}
-use Rattle.csv_table.specs.declared.Scanned.{Scanned}
 
 -- what the six fields say, none yet; and the entry that they make
 abbrev pub no_values : List ℕ
@@ -15,47 +20,52 @@ abbrev pub entry_of_values : (values : List ℕ) → Entry
 entry_of_values vs =
     record { client = get_or vs 1 0; request = get_or vs 2 0; operation = get_or vs 3 0; member = get_or vs 4 0; cents = get_or vs 5 0 }
 
--- a row that takes so many bytes; one whose field number k, from 1 on, is bad, p bytes behind the row's beginning
-abbrev pub good_row : (used : ℕ) (values : List ℕ) → RowRead
-good_row n vs = record { fault = 0; column = 0; place = 0; used = n; entry = entry_of_values vs }
+-- a row that takes so many bytes
+abbrev pub good_row : (used : ℕ) (values : List ℕ) → Result RowRead BadField
+good_row n vs = Ok (record { used = n; entry = entry_of_values vs })
 
-abbrev pub bad_row : (fault column p : ℕ) → RowRead
-bad_row f k p = record { fault = f; column = k; place = p; used = 0; entry = entry_of_values no_values }
+-- a field, or what is wrong with it in field number k, from 1 on, p bytes behind the row's beginning
+abbrev pub field_of_row : (column p : ℕ) → Result FieldRead FieldFault → Result FieldRead BadField
+field_of_row k p (Ok t) = Ok t
+field_of_row k p (Err f) = Err (record { fault = f; column = k; place = p })
 
 -- what is left of row i behind its first k fields, which took p bytes and said these values; n more come
-unfoldable pub row_from : (n k i : ℕ) (vs : List ℕ) (p : ℕ) (s : List ℕ) → RowRead
+unfoldable pub row_from : (n k i : ℕ) (vs : List ℕ) (p : ℕ) (s : List ℕ) → Result RowRead BadField
 row_from zero k i vs p s = good_row p vs
-row_from (suc n) k i vs p s =
-    let t = field_told i k (get_or vs 3 0) s in
-    when eqb t.fault 0 then row_from n (suc k) i (set vs k t.value) (p + t.used) (drop t.used s) else
-    bad_row t.fault (k + 1) p
+row_from (suc n) k i vs p s = do
+  t ← field_of_row (k + 1) p (field_told i k (get_or vs 3 0) s)
+  row_from n (suc k) i (set vs k t.value) (p + t.used) (drop t.used s)
 
 -- row i, at the front
-unfoldable pub row_in : (i : ℕ) → List ℕ → RowRead
+unfoldable pub row_in : (i : ℕ) → List ℕ → Result RowRead BadField
 row_in i s = row_from 6 0 i no_values 0 s
 
--- so many good rows, and where and how the next is bad; fault 0: none is
-abbrev pub scanned_as : (rows fault column offset : ℕ) → Scanned
-scanned_as i f k p = record { rows = i; fault = f; column = k; offset = p }
+-- a row, or that it is the bad one: row number r of the file, the header being 1, which begins behind p bytes
+abbrev pub row_of_file : (r p : ℕ) → Result RowRead BadField → Result RowRead CsvRefusal
+row_of_file r p (Ok x) = Ok x
+row_of_file r p (Err b) = Err (BadRow r b.column b.fault (p + b.place))
 
--- What is left of a file behind i good rows, which took p bytes, where at most so many come: a row takes a byte or more.
-unfoldable pub scanned_after : (most i p : ℕ) (s : List ℕ) → Scanned
-scanned_after zero i p s = scanned_as i 0 0 0
-scanned_after (suc n) i p s =
-    let r = row_in i s in
-    let rest = drop r.used s in
-    when not (eqb r.fault 0) then scanned_as i r.fault r.column (p + r.place) else
-    when eqb (length rest) 0 then scanned_as (suc i) 0 0 0 else
-    scanned_after n (suc i) (p + r.used) rest
+-- What is left of a file behind i good rows, which took p bytes, where at most so many come: how many rows the file has, or which is the first bad one. A row
+-- takes a byte or more.
+unfoldable pub scanned_after : (most i p : ℕ) (s : List ℕ) → Result ℕ CsvRefusal
+scanned_after zero i p s = Ok i
+scanned_after (suc n) i p s = do
+  r ← row_of_file (suc i) p (row_in i s)
+  when eqb (length (drop r.used s)) 0 then Ok (suc i) else scanned_after n (suc i) (p + r.used) (drop r.used s)
 
-unfoldable pub scanned : (file : List ℕ) → Scanned
+unfoldable pub scanned : (file : List ℕ) → Result ℕ CsvRefusal
 scanned file = scanned_after (suc (length file)) 0 0 file
+
+-- what a good row gives; a bad one nothing
+abbrev pub of_good : (RowRead → List Entry) → Result RowRead BadField → List Entry
+of_good f (Ok r) = f r
+of_good f (Err b) = []
 
 -- the entries of n rows, from row i on
 unfoldable pub row_entries : (n i : ℕ) (s : List ℕ) → List Entry
 row_entries zero i s = []
-row_entries (suc n) i s = let r = row_in i s in r.entry ∷ row_entries n (suc i) (drop r.used s)
+row_entries (suc n) i s = of_good (λ r. r.entry ∷ row_entries n (suc i) (drop r.used s)) (row_in i s)
 
 -- those of the first n rows behind the header
 unfoldable pub table_entries : (n : ℕ) (file : List ℕ) → List Entry
-table_entries n file = row_entries n 1 (drop (row_in 0 file).used file)
+table_entries n file = of_good (λ r. row_entries n 1 (drop r.used file)) (row_in 0 file)

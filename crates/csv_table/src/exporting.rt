@@ -99,14 +99,12 @@ pub fn fits(run: &[u8], room: usize) -> bool
     if n <= left / 113 {
         return true;
     }
-    let mut i: usize = 0;
-    while i < n {
+    for i in 0..n {
         let size = row_size((i + 1) as u64, entries::entry_at(run, 32 * i));
         if left < size {
             return false;
         }
         left -= size;
-        i += 1;
     }
     true
 }
@@ -119,14 +117,12 @@ pub fn write_table(run: &[u8], area: &mut [u8]) -> usize
     numbers::copy(area, &HEADER, 37);
     let n = run.len() / 32;
     let mut at: usize = 37;
-    let mut i: usize = 0;
-    while i < n {
+    for i in 0..n {
         at += put_row(
             &mut area[at..],
             (i + 1) as u64,
             entries::entry_at(run, 32 * i),
         );
-        i += 1;
     }
     at
 }

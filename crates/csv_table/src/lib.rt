@@ -9,121 +9,72 @@ use entries::Entry;
 mod exporting; // rows into an area
 mod fields; // a field of a row: where it stands, how it ends, what it says
 mod reading; // rows of a file, up to the first bad one
+mod refusal; // why a call is refused, and the numbers for it
 
-// The refusal's number, 0 where the call is done, and how many bytes were written.
-#[derive(Clone, Copy)]
-pub struct Exported {
-    pub code: u8,
-    pub bytes: usize,
+pub use refusal::{CsvRefusal, FieldFault};
+
+// How a field ends: by a comma, by CRLF, or by the file's end.
+#[derive(Clone, Copy, Debug, PartialEq, Eq)]
+pub enum FieldEnd {
+    Comma,
+    Line,
+    File,
 }
 
-// A field of a file, from its front: where its content begins and how many bytes it has, how many bytes the field takes with its end, and how it ends: 1 a comma, 2 CRLF, 3 the file's end. 0: it is none.
+// A field of a file, from its front: where its content begins and how many bytes it has, how many bytes the field takes with its end, and how it ends.
 #[derive(Clone, Copy)]
 pub struct Field {
     pub start: usize,
     pub size: usize,
     pub used: usize,
-    pub ends: u8,
+    pub ends: FieldEnd,
 }
 
-// A field judged: what is wrong with it, by number: 1 its quotes or what stands behind it, 2 what it says, 3 the row ends behind it too early, 4 the row goes on behind its last field. 0: nothing;
-// then what it says, and how many bytes it takes with its end.
+// What a good field says, and how many bytes it takes with its end.
 #[derive(Clone, Copy)]
-pub struct FieldTold {
-    pub fault: u8,
+pub struct FieldRead {
     pub value: u64,
     pub used: usize,
 }
 
-// A row judged: what is wrong with its first bad field, its column, 1 to 6, and how far behind the row's beginning it stands. Fault 0: nothing; then how many bytes the row takes, and its entry.
+// How many bytes a good row takes, and its entry.
 #[derive(Clone, Copy)]
 pub struct RowRead {
-    pub fault: u8,
-    pub column: u8,
-    pub place: usize,
     pub used: usize,
     pub entry: Entry,
 }
 
-// So many good rows, and what is wrong with the next, in which column, and where in the file that field begins. Fault 0: none is bad.
+// The first bad field of a row: what is wrong with it, its column, and how far behind the row's beginning it stands.
+// A column stays a number, 1 to 6: it is a position, and what it names is the header's.
 #[derive(Clone, Copy)]
-pub struct Scanned {
-    pub rows: usize,
-    pub fault: u8,
+pub struct BadField {
+    pub fault: FieldFault,
     pub column: u8,
-    pub offset: usize,
+    pub place: usize,
 }
 
-// The refusal's number, how many entries were imported, and with 13 the first bad row, the header being 1, the column of its first bad field, what is wrong with that, and where in the file it begins.
-#[derive(Clone, Copy)]
-pub struct Imported {
-    pub code: u8,
-    pub entries: usize,
-    pub row: usize,
-    pub column: u8,
-    pub fault: u8,
-    pub offset: usize,
-}
-
-fn not_exported(code: u8) -> Exported
-    ensures { result ≡ (record { code = code; bytes = 0 }) }
-{
-    Exported { code, bytes: 0 }
-}
-
-// The table of a run of entries, 32 bytes each, into the area.
-pub fn export(run: &[u8], area: &mut [u8]) -> Exported
+// The table of a run of entries, 32 bytes each, into the area: how many bytes it has.
+pub fn export(run: &[u8], area: &mut [u8]) -> Result<usize, CsvRefusal>
     ensures { (record { answer = result; area = area.new }) ≡ export_call run.now area.old }
 {
     if !entries::run_ok(run) {
-        return not_exported(2);
+        return Err(CsvRefusal::BadEntry);
     }
     if !exporting::fits(run, area.len()) {
-        return not_exported(9);
+        return Err(CsvRefusal::NoRoom);
     }
-    let bytes = exporting::write_table(run, area);
-    Exported { code: 0, bytes }
+    Ok(exporting::write_table(run, area))
 }
 
-fn not_imported(code: u8) -> Imported
-    ensures { result ≡ (record { code = code; entries = 0; row = 0; column = 0; fault = 0; offset = 0 }) }
-{
-    Imported {
-        code,
-        entries: 0,
-        row: 0,
-        column: 0,
-        fault: 0,
-        offset: 0,
-    }
-}
-
-// A table's entries into the area, 32 bytes each. The whole file is looked over before any byte is written: what is lent keeps no trace of a bad one.
-pub fn import(file: &[u8], area: &mut [u8]) -> Imported
+// A table's entries into the area, 32 bytes each: how many they are. The whole file is looked over before any byte is written: what is lent keeps no trace of a bad one.
+pub fn import(file: &[u8], area: &mut [u8]) -> Result<usize, CsvRefusal>
     ensures { (record { answer = result; area = area.new }) ≡ import_call file.now area.old }
 {
-    let t = reading::scan(file);
-    if t.fault != 0 {
-        return Imported {
-            code: 13,
-            entries: 0,
-            row: t.rows + 1,
-            column: t.column,
-            fault: t.fault,
-            offset: t.offset,
-        };
-    }
-    let n = t.rows - 1;
+    let rows = reading::scan(file)?;
+    let n = rows - 1;
     if area.len() / 32 < n {
-        return not_imported(9);
+        return Err(CsvRefusal::NoRoom);
     }
     reading::copy_entries(file, n, area);
-    Imported {
-        code: 0,
-        entries: n,
-        row: 0,
-        column: 0,
-        fault: 0,
-        offset: 0,
-    }
+    Ok(n)
 }

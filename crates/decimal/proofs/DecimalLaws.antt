@@ -1,12 +1,12 @@
 -- Laws of numbers in decimal.
 --     decimal-value, value-decimal    the figures of a number stand for it; the figures of the number that figures stand for
 --     decimal-figures, decimal-there, decimal-leading, decimal-is    a number's figures are figures, one at least, with no 0 in front of others
---     decimal-short                   a number below 2 ^ 64 has at most 20 figures
+--     decimal-short, decimal-long     a number below 2 ^ 64 has at most 20 figures; how many one has by the power of ten that it reaches
 --     number-of-decimal               the text of a number not above the bound says that number
---     number-there, number_bound      a number that a text says has that text, and is not above the bound
+--     number-there                    a number that a text says has that text, and is not above the bound
 -- Assumes nothing.
-use mathlib.Core.Path.{◌≡◌, refl, sym, ◌∙◌}
-use mathlib.Core.Bool.{true, false, not, false≢true}
+use mathlib.Core.Path.{◌≡◌, refl, sym, ap, ◌∙◌}
+use mathlib.Core.Bool.{true, false, not}
 use mathlib.Core.List.{List, [], ◌∷◌, ◌++◌, append-nil, append_assoc}
 use Prim.Native.Nat.{ℕ, zero, suc, ◌+◌, ◌-◌, ◌*◌, ◌/◌, ◌%◌, ◌^◌, ◌≤◌, ◌<◌}
 use native.Mathlib.Omega.{arith}
@@ -14,12 +14,13 @@ use native.Mathlib.Nat.{pow-succ'}
 use borrow.Author.Tests.{leb-true, le-leb, ne_eqb, eqb-false, not-true}
 use lib.Dec.{leb}
 use lib.ListN.{length, get_or, get_or-append}
+use Rattle.std.specs.Prelude.{Option, Some, None}
+use Rattle.std.proofs.lemmas.Option.{none-some, cond_some}
 use Rattle.numbers.specs.Words.{when◌then◌else◌, ◌and◌}
 use Rattle.numbers.specs.Numbers.{within}
 use Rattle.numbers.proofs.WordLaws.{split, and_both}
 use Rattle.numbers.proofs.NumberLaws.{within_both, both-within}
-use Rattle.decimal.specs.declared.Number.{Number}
-use Rattle.decimal.specs.Decimal.{figure, decimal, value_from, all_figures, leading_zero, is_decimal, said, no_number, number_in}
+use Rattle.decimal.specs.Decimal.{figure, decimal, value_from, all_figures, leading_zero, is_decimal, number_in}
 use Rattle.decimal.proofs.FigureLaws.{by_size, decimal-one, decimal-more, by-tenths, length-one, length_more}
 
 -- ---- the value
@@ -74,6 +75,20 @@ short-by (suc k) n h =
 
 pub decimal-short : (n : ℕ) → n < 2 ^ 64 → length (decimal n) ≤ 20
 decimal-short n h = short-by 19 n (omega arith)
+
+ten-some : (k : ℕ) → 1 ≤ 10 ^ k
+ten-some zero = omega arith
+ten-some (suc k) = rw pow-succ' (omega (arith, ten-some k))
+
+long-by : (k n : ℕ) → 10 ^ k ≤ n → suc k ≤ length (decimal n)
+long-by zero n h = decimal-there n
+long-by (suc k) n h =
+    let g : 10 * 10 ^ k ≤ n = rw pow-succ' at h in
+    by_size n (λ l. omega (arith, length_more n l, long-by k (n / 10) (omega arith))) (λ l. absurd (omega (arith, ten-some k)))
+
+-- by the power of ten that it reaches
+pub decimal-long : (n k : ℕ) → 10 ^ k ≤ n → n < 10 * 10 ^ k → length (decimal n) ≡ k + 1
+decimal-long n k h g = omega (arith, long-by k n h, short-by k n (rw pow-succ' g))
 
 -- ---- no 0 in front
 
@@ -154,24 +169,18 @@ value-decimal (b ∷ c ∷ s) e =
 
 -- ---- what a text says
 
-pub number-of-decimal : (most n : ℕ) → n ≤ most → number_in most (decimal n) ≡ said n
+pub number-of-decimal : (most n : ℕ) → n ≤ most → number_in most (decimal n) ≡ Some n
 unfolding number_in when◌then◌else◌ ◌and◌
 number-of-decimal most n h = rw (decimal-is n, decimal-value n, le-leb n most h)
 
-pub number-there : (most : ℕ) (s : List ℕ) → (number_in most s).there ≡ true → (decimal (number_in most s).value ≡ s) × ((number_in most s).value ≤ most)
+pub number-there : (most n : ℕ) (s : List ℕ) → number_in most s ≡ Some n → (s ≡ decimal n) × (n ≤ most)
 unfolding number_in
-number-there most s =
-    split (λ (r : Number). r.there ≡ true → (decimal r.value ≡ s) × (r.value ≤ most)) (is_decimal s and leb (value_from 0 s) most)
-    (said (value_from 0 s)) no_number yes (λ e z. absurd (false≢true z))
+number-there most n s =
+    split (λ (r : Option ℕ). r ≡ Some n → (s ≡ decimal n) × (n ≤ most)) (is_decimal s and leb (value_from 0 s) most)
+    (Some (value_from 0 s)) None yes (λ e z. absurd (none-some n z))
   where
-    yes : (is_decimal s and leb (value_from 0 s) most) ≡ true → true ≡ true → (decimal (value_from 0 s) ≡ s) × (value_from 0 s ≤ most)
+    yes : (is_decimal s and leb (value_from 0 s) most) ≡ true → Some (value_from 0 s) ≡ Some n → (s ≡ decimal n) × (n ≤ most)
     yes e z =
         let p = and_both (is_decimal s) (leb (value_from 0 s) most) e in
-        (value-decimal s p.0, leb-true (value_from 0 s) most p.1)
-
-pub number_bound : (most : ℕ) (s : List ℕ) → (number_in most s).value ≤ most
-unfolding number_in
-number_bound most s =
-    split (λ (r : Number). r.value ≤ most) (is_decimal s and leb (value_from 0 s) most) (said (value_from 0 s)) no_number
-    (λ e. leb-true (value_from 0 s) most (and_both (is_decimal s) (leb (value_from 0 s) most) e).1)
-    (λ e. omega arith)
+        let v : value_from 0 s ≡ n = (cond_some true (value_from 0 s) n z).1 in
+        (sym (value-decimal s p.0) ∙ ap decimal v, omega (arith, leb-true (value_from 0 s) most p.1))

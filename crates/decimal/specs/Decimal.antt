@@ -1,9 +1,8 @@
 -- Document 02, "decimal without leading zeros": a number as the figures 0 to 9, the bytes 48 to 57, the highest first; no figure 0 in front of others.
 -- One definition serves numbers of any width: a bound, 2^64-1 or 2^32-1, is a number beside it. Assumes nothing.
-use Rattle.std.specs.Prelude.{Bool, true, false, not, List, [], ◌∷◌, ◌++◌, ℕ, zero, suc, ◌+◌, ◌-◌, ◌*◌, ◌/◌, ◌%◌, eqb, leb, ltb, length, get_or}
+use Rattle.std.specs.Prelude.{Bool, true, not, Option, Some, None, List, [], ◌∷◌, ◌++◌, ℕ, zero, suc, ◌+◌, ◌-◌, ◌*◌, ◌/◌, ◌%◌, eqb, leb, ltb, length, get_or}
 use Rattle.numbers.specs.Words.{when◌then◌else◌, ◌and◌}
 use Rattle.numbers.specs.Numbers.{within}
-use Rattle.decimal.specs.declared.Number.{Number}
 
 -- the figure of a number below 10
 abbrev pub figure : ℕ → ℕ
@@ -35,14 +34,8 @@ leading_zero s = leb 2 (length s) and eqb (get_or s 0 0) 48
 unfoldable pub is_decimal : List ℕ → Bool
 is_decimal s = leb 1 (length s) and not (leading_zero s) and all_figures s
 
--- What a text says: a number in decimal, not above the bound; or it is none.
-abbrev pub said : ℕ → Number
-said n = record { there = true; value = n }
-
-abbrev pub no_number : Number
-no_number = record { there = false; value = 0 }
-
-unfoldable pub number_in : (most : ℕ) → List ℕ → Number
+-- what a text says: a number in decimal, not above the bound, or none
+unfoldable pub number_in : (most : ℕ) → List ℕ → Option ℕ
 number_in most s =
-    when is_decimal s and leb (value_from 0 s) most then said (value_from 0 s) else
-    no_number
+    when is_decimal s and leb (value_from 0 s) most then Some (value_from 0 s) else
+    None

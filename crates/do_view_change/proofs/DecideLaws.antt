@@ -26,11 +26,12 @@ use Rattle.do_view_change.specs.Begin.{first_length, start_views_length, entered
 use Rattle.do_view_change.specs.Record.{decided_by, decided}
 use Rattle.do_view_change.specs.declared.Decision.{Decision}
 use Rattle.do_view_change.specs.declared.Decision.TheVariants.{Keep, No, Start}
+use Rattle.frames.specs.declared.Refusal.TheVariants.{Uncommits, NoRoomForMessages, NoRoomForReplies}
 
 -- ---- `decided_by`
 
 module _ (t : Replica) (first : Bool) (area replies k : ℕ) (ek : k ≡ first_length first t) where
-  pub wait-short : area < k → No 9 ≡ decided_by Wait t first area replies
+  pub wait-short : area < k → No NoRoomForMessages ≡ decided_by Wait t first area replies
   unfolding decided_by when◌then◌else◌
   wait-short h = rw (← ek, lt-ltb area k h)
 
@@ -39,12 +40,12 @@ module _ (t : Replica) (first : Bool) (area replies k : ℕ) (ek : k ≡ first_l
   wait-keeps h = rw (← ek, le-ltb area k h)
 
   module _ (best : Best) (g : Op) (m : ℕ) (em : m ≡ start_views_length (entered t best.report.op)) where
-    pub begin-short : area < k + m → No 9 ≡ decided_by (Begin best g) t first area replies
+    pub begin-short : area < k + m → No NoRoomForMessages ≡ decided_by (Begin best g) t first area replies
     unfolding decided_by when◌then◌else◌
     begin-short h = rw (← ek, ← em, lt-ltb area (k + m) h)
 
     module _ (h : k + m ≤ area) (w : ℕ) (ew : w ≡ 36 * owed t g) where
-      pub begin-owes : replies < w → No 10 ≡ decided_by (Begin best g) t first area replies
+      pub begin-owes : replies < w → No NoRoomForReplies ≡ decided_by (Begin best g) t first area replies
       unfolding decided_by when◌then◌else◌
       begin-owes l = rw (← ek, ← em, le-ltb area (k + m) h, ← ew, lt-ltb replies w l)
 
@@ -61,11 +62,11 @@ Said j t first a b (Start best g) =
 
 said : (j : Judged) (t : Replica) (first : Bool) (a b : ℕ) → Said j t first a b (decided_by j t first a b)
 unfolding Said decided_by
-said Wait t first a b = split (Said Wait t first a b) (ltb a (first_length first t)) (No 9) Keep (λ _. tt) (λ e. ltb-false _ _ e)
+said Wait t first a b = split (Said Wait t first a b) (ltb a (first_length first t)) (No NoRoomForMessages) Keep (λ _. tt) (λ e. ltb-false _ _ e)
 said Refuse t first a b = tt
 said (Begin best g) t first a b =
-    split (Said (Begin best g) t first a b) _ (No 9) _ (λ _. tt) λ e.
-    split (Said (Begin best g) t first a b) _ (No 10) (Start best g) (λ _. tt) λ f. (refl, (ltb-false _ _ e, ltb-false _ _ f))
+    split (Said (Begin best g) t first a b) _ (No NoRoomForMessages) _ (λ _. tt) λ e.
+    split (Said (Begin best g) t first a b) _ (No NoRoomForReplies) (Start best g) (λ _. tt) λ f. (refl, (ltb-false _ _ e, ltb-false _ _ f))
 
 -- ---- `decided`
 
@@ -79,9 +80,9 @@ module _ (t : Replica) (rows : Reports) (r : ℕ) (first : Bool) (area replies :
     unfolding decided
     decides k a e p = p ∙ ap (λ (x : Judged). decided_by x t first area replies) (sym e ∙ ej)
 
-    pub refuses : j ≡ Refuse → No 7 ≡ decided t rows r first area replies log stored fresh
+    pub refuses : j ≡ Refuse → No Uncommits ≡ decided t rows r first area replies log stored fresh
     unfolding decided_by
-    refuses e = decides Refuse (No 7) e refl
+    refuses e = decides Refuse (No Uncommits) e refl
 
     pub begins-long : Fits rows t.setup.n r t.setup.room stored fresh → (b : Best) (g : Op) → j ≡ Begin b g
         → b.report.op.0 ≤ t.setup.room

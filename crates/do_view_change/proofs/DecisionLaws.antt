@@ -23,16 +23,17 @@ use Rattle.do_view_change.specs.Record.{decided_by, decided}
 use Rattle.do_view_change.specs.DecisionNumber.{decision_number, decide_numbers, Decides}
 use Rattle.do_view_change.specs.declared.Decision.{Decision}
 use Rattle.do_view_change.specs.declared.Decision.TheVariants.{Keep, No, Start}
+use Rattle.frames.specs.declared.Refusal.TheVariants.{NoRoomForMessages, NoRoomForReplies}
 
 -- below a quorum
-waits : (short : Bool) → decision_number (when short then No 9 else Keep) ≡ (when short then numbered 9 [] else numbered 0 [])
+waits : (short : Bool) → decision_number (when short then No NoRoomForMessages else Keep) ≡ (when short then numbered 9 [] else numbered 0 [])
 unfolding when◌then◌else◌
 waits true = refl
 waits false = refl
 
 -- with a log to begin with
 begins : (best : Best) (g : Op) (short owes : Bool)
-    → decision_number (when short then No 9 else when owes then No 10 else Start best g)
+    → decision_number (when short then No NoRoomForMessages else when owes then No NoRoomForReplies else Start best g)
     ≡ (when short then numbered 9 [] else when owes then numbered 10 [] else numbered 0 (best_values best g.0))
 unfolding when◌then◌else◌
 begins best g true o = refl

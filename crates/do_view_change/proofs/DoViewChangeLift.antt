@@ -55,6 +55,7 @@ use Rattle.view_change.proofs.StartViewLift.{changing-reads, sent-start-view-sho
 use Rattle.do_view_change.proofs.BeginLift.{memory_of, of_recorded, Changing, First}
 use Rattle.do_view_change.proofs.RecordLift.{record-shown}
 use Rattle.reports.proofs.StoredLift.{StoredOk}
+use Rattle.frames.specs.declared.Refusal.TheVariants.{NoRoomForMessages}
 
 -- nothing goes out first, and StartViewChange of the view that is changed to
 pub first-none : (t : Replica) → First t false []
@@ -129,7 +130,7 @@ module _ (c : Given) (t : Replica) (table : List ClientEntry) (applied : List En
 
   pub said-shown : (ms : List Sent) (w : List ℕ) (k : ℕ) → messages_out ms ≡ w → length w ≡ k
       → Shown c
-      (of_spoke c (when ltb (length c.out) k then spoke (refusal 9 c.state) c.out else spoke (completed t k 0 false) (over w c.out)))
+      (of_spoke c (when ltb (length c.out) k then spoke (refusal NoRoomForMessages c.state) c.out else spoke (completed t k 0 false) (over w c.out)))
       (model_of c.state c.runs table applied).book
       (fitted (length c.out) (length c.reps) (done (model_of t c.runs table applied) ms []))
   said-shown =

@@ -44,6 +44,7 @@ use Rattle.do_view_change.specs.declared.Decision.{Decision}
 use Rattle.do_view_change.specs.declared.Decision.TheVariants.{Keep, No, Start}
 use Rattle.do_view_change.proofs.BeginLaws.{first-long}
 use Rattle.do_view_change.proofs.DecideLaws.{begins-over, keep-fits, start_fits}
+use Rattle.frames.specs.declared.Refusal.{Refusal}
 
 -- the log that is installed is one that fits ours, and the areas have room for what is sent
 record Starts (t : Replica) (r : ℕ) (first : Bool) (fresh : List ℕ) (m : Memory) (b : Best) (g : Op) : Type 0 where
@@ -156,7 +157,7 @@ module _ (s t : Replica) (r : ℕ) (d : Report) (first : Bool) (fresh : List ℕ
     pub keep-room : j ≡ Keep → first_length first t ≤ length m.out
     keep-room e = keep-fits t u r first (length m.out) (length m.reps) m.runs.log m.stored fresh j ej e
 
-    pub says-no : (k : ℕ) (a : Returned) → j ≡ No k → a ≡ refusal k s → recorded a m ≡ record_step s t r d first fresh m
+    pub says-no : (k : Refusal) (a : Returned) → j ≡ No k → a ≡ refusal k s → recorded a m ≡ record_step s t r d first fresh m
     unfolding by_decision
     says-no k a e p = ap (λ (x : Returned). recorded x m) p ∙ ap (λ (x : Decision). by_decision x s t u r d.op first fresh m) (sym e) ∙ goes
 

@@ -57,6 +57,8 @@ use Rattle.reports.proofs.StoredLift.{recorded-filled, recorded-greatest, record
 use Rattle.reports.proofs.ReportLift.{report_in}
 use Rattle.reports.proofs.ChosenLift.{run-bytes, keeps-chosen}
 use Rattle.do_view_change.proofs.BeginLift.{memory_of, of_recorded, Changing, First, begun-messages, begun-replies, begun-did}
+use Rattle.frames.specs.declared.Refusal.TheVariants.{Uncommits, NoRoomForMessages, NoRoomForReplies}
+use Rattle.frames.specs.declared.Refusal.{Refusal}
 
 -- the two causes of refusal 7, in either order
 swapped : {A : Type 0} (a b : Bool) (x y : A) → (when not a then x else when b then x else y) ≡ (when b then x else when a then y else x)
@@ -123,13 +125,13 @@ module _ (c : Given) (t : Replica) (table : List ClientEntry) (applied : List En
     Agree j a =
         Shown c (by (decided_by j t first (length c.out) (length c.reps))) book (fitted (length c.out) (length c.reps) a)
 
-    no-shown : (i : ℕ) → Shown c (by (No i)) book (refused i)
+    no-shown : (i : Refusal) → Shown c (by (No i)) book (refused i)
     unfolding by_decision
     no-shown i = refl
 
-    refuse-shown : Agree Refuse (refused 7)
+    refuse-shown : Agree Refuse (refused Uncommits)
     unfolding decided_by fitted
-    refuse-shown = no-shown 7
+    refuse-shown = no-shown Uncommits
 
     -- ---- more are waited for
 
@@ -158,10 +160,10 @@ module _ (c : Given) (t : Replica) (table : List ClientEntry) (applied : List En
     wait-shown : Agree Wait (done next ms [])
     unfolding decided_by by_decision
     wait-shown =
-        subst (Shown c (by (when ltb (length c.out) (first_length first t) then No 9 else Keep)) book)
+        subst (Shown c (by (when ltb (length c.out) (first_length first t) then No NoRoomForMessages else Keep)) book)
         (sym (sends-only (length c.out) (length c.reps) next ms))
         (split₂ (λ (z : Decision) (a : Answer). Shown c (by z) book a) _ _ _ _ _ _ (ap (ltb (length c.out)) (sym first-long))
-        (λ _. no-shown 9) (λ _. wait-did))
+        (λ _. no-shown NoRoomForMessages) (λ _. wait-did))
 
     -- ---- a quorum
 
@@ -207,14 +209,14 @@ module _ (c : Given) (t : Replica) (table : List ClientEntry) (applied : List En
     begins = done begun (ms ++ start_view_to_others u begun) (commit_replies m.place.view anew g.0)
 
     start_is : start_view u next (entries bo.0 part) g.0 ms
-        ≡ (when ltb bo.0 g.0 then refused 7 else when keep then begins else refused 7)
+        ≡ (when ltb bo.0 g.0 then refused Uncommits else when keep then begins else refused Uncommits)
     unfolding start_view report_noted set_store started_with enter_normal cleared_store
     start_is =
         (λ i.
-        when not (keep-is i) then refused 7 else
-        when ltb (cells-length 32 entry_of bo.0 part i) g.0 then refused 7 else
+        when not (keep-is i) then refused Uncommits else
+        when ltb (cells-length 32 entry_of bo.0 part i) g.0 then refused Uncommits else
         begins)
-        ∙ swapped keep (ltb bo.0 g.0) (refused 7) begins
+        ∙ swapped keep (ltb bo.0 g.0) (refused Uncommits) begins
 
     chosen-starts : 0 < filled_in rows
         → start_chosen u next (chosen next.store.reports) ms ≡ start_view u next (entries bo.0 part) g.0 ms
@@ -247,11 +249,11 @@ module _ (c : Given) (t : Replica) (table : List ClientEntry) (applied : List En
           split₂ (λ (z : Decision) (a : Answer). Shown c (by z) book a) _ _ _ _ _ _
           (ap (ltb (length c.out))
           (sym (begun-messages c t table applied h first ms f bo g part w.short c-le g-le w.long w.rules part_bytes)))
-          (λ _. no-shown 9) λ _.
+          (λ _. no-shown NoRoomForMessages) λ _.
           split₂ (λ (z : Decision) (a : Answer). Shown c (by z) book a) _ _ _ _ _ _
           (ap (ltb (length c.reps))
           (sym (begun-replies c t table applied h first ms f bo g part w.short c-le g-le w.long w.rules part_bytes)))
-          (λ _. no-shown 10) (λ _. begin-did)
+          (λ _. no-shown NoRoomForReplies) (λ _. begin-did)
 
     weigh-shown : 0 < filled_in rows
         → Agree (weighed best g r u.room t.commit.0 c.runs.log stored fresh) (start_chosen u next (chosen next.store.reports) ms)

@@ -31,10 +31,11 @@ use Rattle.do_view_change.specs.Begin.{owed, begun_in, begin_step}
 use Rattle.do_view_change.specs.Record.{report_of, own_report, decided_by, decided, kept_by, started_by, by_decision, record_step, told_primary, send_step, do_view_change_step}
 use Rattle.do_view_change.specs.declared.Decision.{Decision}
 use Rattle.do_view_change.proofs.RecordSuffices.{rows, verdict, begin-short}
+use Rattle.state.specs.Answers.{replies_written}
 
 -- what a step leaves, with memory m
 abbrev pub Answers : Memory → Recorded → Type 0
-Answers m d = Replying m.reps d.memory.reps d.answer.replies
+Answers m d = Replying m.reps d.memory.reps (replies_written d.answer)
 
 -- ---- record_do_view_change, from state t; s is the state as it was
 

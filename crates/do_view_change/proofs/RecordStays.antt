@@ -34,6 +34,8 @@ use Rattle.do_view_change.specs.declared.Decision.{Decision}
 use Rattle.steps.proofs.Held.{Held, Kept, as_it_was, moves, settled-held, still_kept, sent-kept}
 use Rattle.reports.proofs.ReportStays.{row_ok, set-ok, rows_fit, begin-keeps, kept-length, installed-held}
 use Rattle.view_change.proofs.ChangeStays.{sent-start-view-held}
+use Rattle.frames.specs.declared.Refusal.{Refusal}
+use Rattle.frames.specs.declared.Refusal.TheVariants.{NoRoomForMessages, NoRoomForReplies, Uncommits}
 
 -- ---- record_do_view_change
 
@@ -44,7 +46,7 @@ own-acks-length u c o = simp (length-append, length-replicate) (omega (arith, c,
 -- from state t; s is the state as it was
 module _ (s t : Replica) (m : Memory) (hs : Held t.setup s m.runs) (ht : Held t.setup t m.runs)
     (acks-long : length m.acks ≡ acks_length t.setup) (stored-long : length m.stored ≡ stored_length t.setup) where
-  refused-kept : (k : ℕ) → Kept t.setup (recorded (refusal k s) m)
+  refused-kept : (k : Refusal) → Kept t.setup (recorded (refusal k s) m)
   refused-kept k = record { held = hs; acks-long = acks-long; stored-long = stored-long }
 
   -- replica r tells the report d, whose log is in `fresh`
@@ -93,11 +95,11 @@ module _ (s t : Replica) (m : Memory) (hs : Held t.setup s m.runs) (ht : Held t.
 
     judged-kept : (j : Judged) (a b : ℕ) → verdict ≡ j → Kept t.setup (by_decision (decided_by j t first a b) s t rows r d.op first fresh m)
     unfolding decided_by by_decision
-    judged-kept Wait a b e = split D _ _ _ (λ _. refused-kept 9) (λ _. kept-kept)
-    judged-kept Refuse a b e = refused-kept 7
+    judged-kept Wait a b e = split D _ _ _ (λ _. refused-kept NoRoomForMessages) (λ _. kept-kept)
+    judged-kept Refuse a b e = refused-kept Uncommits
     judged-kept (Begin best g) a b e =
-        split D _ _ _ (λ _. refused-kept 9) (λ _.
-        split D _ _ _ (λ _. refused-kept 10) (λ _. started-kept best g e))
+        split D _ _ _ (λ _. refused-kept NoRoomForMessages) (λ _.
+        split D _ _ _ (λ _. refused-kept NoRoomForReplies) (λ _. started-kept best g e))
 
     pub recorded-kept : Kept t.setup (record_step s t r d first fresh m)
     unfolding record_step decided

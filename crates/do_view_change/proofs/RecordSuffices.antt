@@ -35,6 +35,7 @@ use Rattle.book.specs.Memory.{Memory}
 use Rattle.do_view_change.specs.Begin.{first_length, start_views_length, entered, owed, begun_in, begin_step}
 use Rattle.do_view_change.specs.Record.{report_of, own_report, decided_by, decided, kept_by, started_by, by_decision, record_step, report_length, told_primary, send_step, do_view_change_step}
 use Rattle.do_view_change.specs.declared.Decision.{Decision}
+use Rattle.state.specs.Answers.{code_of}
 
 -- ---- lengths
 
@@ -64,7 +65,7 @@ module _ (t : Replica) (ok : setup_ok t.setup ≡ true) (first : Bool) where
 
 module _ (s t : Replica) (m : Memory) (ht : Held t.setup t m.runs) (stored-long : length m.stored ≡ stored_length t.setup) where
   abbrev pub Enough : Recorded → Type 0
-  Enough d = Answers t.setup (length m.out) (length m.reps) d.answer.code
+  Enough d = Answers t.setup (length m.out) (length m.reps) (code_of d.answer)
 
   -- replica r tells the report d, whose log is in `fresh`
   module _ (first : Bool) (r : ℕ) (d : Report) (fresh : List ℕ) (lt : r < t.setup.n) (there : d.there ≡ true)
@@ -114,14 +115,14 @@ module _ (s t : Replica) (m : Memory) (ht : Held t.setup t m.runs) (stored-long 
       split Enough _ _ _
       (λ _. recorded-suffices first t.setup.id (own_report t) m.runs.log (sized t.setup a.sized).own refl a.op_le a.commit-le (omega (arith, a.op_le, a.log-long)))
       (λ _.
-      split (λ (d : Spoke). Answers t.setup (length m.out) (length m.reps) d.answer.code) _ _ _
+      split (λ (d : Spoke). Answers t.setup (length m.out) (length m.reps) (code_of d.answer)) _ _ _
       (no_room _ (report-fits t a.sized first a.op_le)) (λ _. done))
 
 -- ---- DoViewChange
 
 module _ (s : Replica) (m : Memory) (h : Gathering s m) where
   abbrev EnoughHere : Recorded → Type 0
-  EnoughHere d = Answers s.setup (length m.out) (length m.reps) d.answer.code
+  EnoughHere d = Answers s.setup (length m.out) (length m.reps) (code_of d.answer)
 
   pub do-view-change-suffices : (v : View) (r : ℕ) (l : View) (o c : Op) (part : List ℕ)
       → (r < s.setup.n) × ((o.0 ≤ s.setup.room) × ((c.0 ≤ o.0) × (32 * o.0 ≤ length part)))

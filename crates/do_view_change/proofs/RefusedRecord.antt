@@ -16,6 +16,7 @@ use Rattle.do_view_change.specs.declared.Decision.{Decision}
 use Rattle.do_view_change.specs.declared.Decision.TheVariants.{Keep, No, Start}
 use Rattle.steps.proofs.RefusedSteps.{Untouched, Speaks, done, refused}
 use Rattle.view_change.proofs.RefusedChange.{sent-start-view-untouched}
+use Rattle.frames.specs.declared.Refusal.TheVariants.{NoRoomForMessages}
 
 module _ (s : Replica) (m : Memory) where
   -- ---- record_do_view_change and send_do_view_change, from state t
@@ -35,7 +36,7 @@ module _ (s : Replica) (m : Memory) where
   unfolding send_step told_primary
   send-untouched t first =
       split (Untouched s m) _ _ _ (λ _. record-untouched t _ _ first m.runs.log) λ _.
-      split (Speaks s m) _ _ _ (λ _. refused s m 9) (λ _. done s m refl)
+      split (Speaks s m) _ _ _ (λ _. refused s m NoRoomForMessages) (λ _. done s m refl)
 
   -- ---- DoViewChange
 

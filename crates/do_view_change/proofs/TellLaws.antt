@@ -40,11 +40,12 @@ use Rattle.do_view_change.specs.Record.{Told, report_of, own_report}
 use Rattle.do_view_change.specs.Record.{record_step}
 use Rattle.do_view_change.specs.Record.{report_length, report_to, told_primary, send_step, do_view_change_step}
 use Rattle.do_view_change.proofs.BeginLaws.{first_small, first-long}
+use Rattle.frames.specs.declared.Refusal.TheVariants.{NoRoomForMessages}
 
 -- ---- tell_primary
 
 module _ (s t : Replica) (first : Bool) (log out : List ℕ) (k : ℕ) (ek : k ≡ first_length first t) where
-  pub tell-short : (a : Returned) → length out < k + report_length t → a ≡ refusal 9 s → spoke a out ≡ told_primary s t first log out
+  pub tell-short : (a : Returned) → length out < k + report_length t → a ≡ refusal NoRoomForMessages s → spoke a out ≡ told_primary s t first log out
   unfolding told_primary when◌then◌else◌
   tell-short a h p = rw (← ek, lt-ltb (length out) (k + report_length t) h, p)
 

@@ -14,10 +14,11 @@ use Rattle.do_view_change.specs.Begin.{first_length, start_views_length, entered
 use Rattle.do_view_change.specs.Record.{decided}
 use Rattle.do_view_change.specs.declared.Decision.{Decision}
 use Rattle.do_view_change.specs.declared.Decision.TheVariants.{Keep, No, Start}
+use Rattle.frames.specs.Refusals.{number_of}
 
 abbrev pub decision_number : Decision → Numbered
 decision_number Keep = numbered 0 []
-decision_number (No k) = numbered k []
+decision_number (No k) = numbered (number_of k) []
 decision_number (Start b g) = numbered 0 (best_values b g.0)
 
 -- By the rules, over areas of a and b bytes, of the report of replica r, which is among the rows. Below a quorum only what goes out first must fit, else 9. With one:

@@ -27,6 +27,7 @@ use Rattle.view_change.specs.StartView.{sent_start_view}
 use Rattle.do_view_change.specs.Begin.{calls_first, first_length, start_views_length, entered, owed, Begun, begin_step}
 use Rattle.do_view_change.specs.declared.Decision.{Decision}
 use Rattle.do_view_change.specs.declared.Decision.TheVariants.{Keep, No, Start}
+use Rattle.frames.specs.declared.Refusal.TheVariants.{Uncommits, NoRoomForMessages, NoRoomForReplies}
 
 -- what refusals 3 to 5 leave of a report of replica r, whose log is in `fresh`
 pub record Told (s : Replica) (r : ℕ) (o c : Op) (fresh : List ℕ) : Type 0 where
@@ -45,11 +46,11 @@ own_report s = report_of s.normal s.op s.commit
 
 -- 7, then 9 and 10, over areas of a and b bytes: the sums of all frames of the call
 unfoldable pub decided_by : Judged → (t : Replica) (first : Bool) (a b : ℕ) → Decision
-decided_by Wait t first a b = when ltb a (first_length first t) then No 9 else Keep
-decided_by Refuse t first a b = No 7
+decided_by Wait t first a b = when ltb a (first_length first t) then No NoRoomForMessages else Keep
+decided_by Refuse t first a b = No Uncommits
 decided_by (Begin best g) t first a b =
-    when ltb a (first_length first t + start_views_length (entered t best.report.op)) then No 9 else
-    when ltb b (36 * owed t g) then No 10 else
+    when ltb a (first_length first t + start_views_length (entered t best.report.op)) then No NoRoomForMessages else
+    when ltb b (36 * owed t g) then No NoRoomForReplies else
     Start best g
 
 -- with the rows that hold the new report, that of replica r
@@ -112,7 +113,7 @@ report_to t log =
 
 unfoldable pub told_primary : (s t : Replica) (first : Bool) (log out : List ℕ) → Spoke
 told_primary s t first log out =
-    when ltb (length out) (first_length first t + report_length t) then spoke (refusal 9 s) out else
+    when ltb (length out) (first_length first t + report_length t) then spoke (refusal NoRoomForMessages s) out else
     spoke (completed t (first_length first t + report_length t) 0 false) (over (calls_first first t ++ report_to t log) out)
 
 -- send_do_view_change

@@ -1,6 +1,7 @@
 // DoViewChange: sent, kept, and with a quorum of them the view begins.
 #![tactic(auto)]
 
+use frames::Refusal;
 use numbers::Op;
 use reports::Best;
 
@@ -11,6 +12,6 @@ pub mod record; // record_do_view_change, send_do_view_change, on_do_view_change
 #[derive(Clone, Copy)]
 pub enum Decision {
     Keep,
-    No { code: u8 },
+    No { refusal: Refusal },
     Start { best: Best, commit: Op },
 }

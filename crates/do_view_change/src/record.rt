@@ -12,6 +12,7 @@ ghost use Rattle.do_view_change.specs.DecisionNumber.{Decides};
 ghost use Rattle.book.specs.Memory.{memory};
 
 use crate::{Decision, begin};
+use frames::Refusal;
 use numbers::{Op, View};
 use reports::{Best, Judged};
 use state::{Replica, Report, Reports, Returned};
@@ -22,7 +23,9 @@ fn settle_wait(t: Replica, first: bool, area: usize, replies: usize) -> Decision
     ensures { result ≡ decided_by Wait t first area replies }
 {
     if area < begin::first_len(first, t) {
-        return Decision::No { code: 9 };
+        return Decision::No {
+            refusal: Refusal::NoRoomForMessages,
+        };
     }
     Decision::Keep
 }
@@ -44,10 +47,14 @@ fn settle_begin(best: Best, g: Op, t: Replica, first: bool, area: usize, replies
 {
     let o = best.report.op;
     if area < begin::first_len(first, t) + begin::start_views_len(t, o) {
-        return Decision::No { code: 9 };
+        return Decision::No {
+            refusal: Refusal::NoRoomForMessages,
+        };
     }
     if replies < replies_len(t, g) {
-        return Decision::No { code: 10 };
+        return Decision::No {
+            refusal: Refusal::NoRoomForReplies,
+        };
     }
     Decision::Start { best, commit: g }
 }
@@ -72,7 +79,9 @@ fn decide<'a>(
     let c = t.commit;
     match reports::judge::judge(rows, n, r, room, c, log, stored, fresh) {
         Judged::Wait => settle_wait(t, first, area, replies),
-        Judged::Refuse => Decision::No { code: 7 },
+        Judged::Refuse => Decision::No {
+            refusal: Refusal::Uncommits,
+        },
         Judged::Begin { best, commit } => settle_begin(best, commit, t, first, area, replies),
     }
 }
@@ -99,7 +108,7 @@ fn record_frame(
     let held = t.reports;
     let rows = reports::rows::with_report(held, r, d);
     match decide(t, rows, r, first, out.len(), reps.len(), log, stored, fresh) {
-        Decision::No { code } => state::refused(code, s),
+        Decision::No { refusal } => state::refused(refusal, s),
         Decision::Keep => {
             let o = d.op;
             reports::store::keep(stored, fresh, t.setup.room, r, o);
@@ -135,7 +144,7 @@ fn record_own(
     let held = t.reports;
     let rows = reports::rows::with_report(held, me, d);
     match decide(t, rows, me, first, out.len(), reps.len(), log, stored, log) {
-        Decision::No { code } => state::refused(code, s),
+        Decision::No { refusal } => state::refused(refusal, s),
         Decision::Keep => {
             let o = t.op;
             reports::store::keep(stored, log, t.setup.room, me, o);
@@ -178,7 +187,7 @@ fn tell_primary(s: Replica, t: Replica, first: bool, log: &[u8], out: &mut [u8])
     ensures { spoke result out.new ≡ told_primary s t first log.now out.old }
 {
     if out.len() < begin::first_len(first, t) + (24 + 32 * (t.op.0 as usize)) {
-        return state::refused(9, s);
+        return state::refused(Refusal::NoRoomForMessages, s);
     }
     let v = t.view;
     let normal = t.normal;

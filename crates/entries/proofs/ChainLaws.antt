@@ -4,18 +4,25 @@
 --     sought-next    and goes on, at a place of another client, to the one before of that remainder
 --     linked-next    one place more
 -- Assumes nothing.
-use mathlib.Core.Path.{◌≡◌, sym, ◌∙◌}
-use mathlib.Core.List.{List}
+use mathlib.Core.Path.{◌≡◌, refl, sym, ◌∙◌}
 use mathlib.Core.Logic.{⊎_elim}
-use Prim.Native.Nat.{ℕ, ◌+◌, ◌-◌, ◌%◌, ◌<◌, ◌≤◌}
+use Prim.Native.Nat.{ℕ, zero, suc, ◌+◌, ◌-◌, ◌<◌, ◌≤◌}
 use native.Mathlib.Omega.{arith}
-use lib.ListN.{length, get_or, set, replicate, length-set, length-replicate, get_or-replicate}
+use lib.ListN.{length, get_or, length-set, length-replicate, get_or-replicate}
 use lib.Seq.{get_or-set_same, get_or-set_other}
+use Rattle.std.specs.Prelude.{Option, Some, None}
 use Rattle.numbers.proofs.NumberLaws.{eq-or-not, le-or-lt}
+use Rattle.entries.specs.Chains.{entry_held, chain_of, no_chains, latest_in_chain, earlier_in_chain, chained}
+use Rattle.entries.specs.declared.chains.Chains.{Chains}
 
--- the remainder of a client's id, of which each has its chain
-abbrev pub chain_of : ℕ → ℕ
-chain_of c = c % 1021
+-- what a place holds: one more than an entry's number, or 0
+abbrev pub held : Option ℕ → ℕ
+held None = 0
+held (Some i) = suc i
+
+held-place : (x : ℕ) → held (entry_held x) ≡ x
+held-place zero = refl
+held-place (suc i) = refl
 
 -- no place from j on, below i, is of client c
 abbrev pub NoneOf : (ℕ → ℕ) → ℕ → ℕ → ℕ → Type 0
@@ -28,11 +35,11 @@ pub record Latest (who : ℕ → ℕ) (h i x : ℕ) : Type 0 where
   pub ends : 0 < x → chain_of (who (x - 1)) ≡ h
 
 -- the chains of the places below i
-pub record Linked (who : ℕ → ℕ) (latest earlier : List ℕ) (i : ℕ) : Type 0 where
-  pub chains : length latest ≡ 1021
-  pub places : length earlier ≡ 4096
-  pub heads : (h : ℕ) → h < 1021 → Latest who h i (get_or latest h 0)
-  pub links : (m : ℕ) → m < i → Latest who (chain_of (who m)) m (get_or earlier m 0)
+pub record Linked (who : ℕ → ℕ) (t : Chains) (i : ℕ) : Type 0 where
+  pub chains : length t.latest ≡ 1021
+  pub places : length t.earlier ≡ 4096
+  pub heads : (h : ℕ) → h < 1021 → Latest who h i (get_or t.latest h 0)
+  pub links : (m : ℕ) → m < i → Latest who (chain_of (who m)) m (get_or t.earlier m 0)
 
 -- below i client c is sought, and has been as far down as j, which is one more than a place of its chain
 pub record Sought (who : ℕ → ℕ) (c i j : ℕ) : Type 0 where
@@ -40,7 +47,7 @@ pub record Sought (who : ℕ → ℕ) (c i j : ℕ) : Type 0 where
   pub none : NoneOf who c j i
   pub ends : 0 < j → chain_of (who (j - 1)) ≡ chain_of c
 
-pub linked-start : (who : ℕ → ℕ) → Linked who (replicate 1021 0) (replicate 4096 0) 0
+pub linked-start : (who : ℕ → ℕ) → Linked who no_chains 0
 linked-start who =
     record {
       chains = length-replicate {A = ℕ} 1021 0;
@@ -49,14 +56,17 @@ linked-start who =
       links = λ m u. absurd (omega arith);
     }
 
-module _ (who : ℕ → ℕ) (latest earlier : List ℕ) (i : ℕ) (k : Linked who latest earlier i) where
-  pub sought-start : (c : ℕ) → Sought who c i (get_or latest (chain_of c) 0)
-  sought-start c =
+module _ (who : ℕ → ℕ) (t : Chains) (i : ℕ) (k : Linked who t i) where
+  first : (c : ℕ) → Sought who c i (get_or t.latest (chain_of c) 0)
+  first c =
       let l = k.heads (chain_of c) (omega arith) in
       record { low = l.low; none = λ p u v e. l.none p u v (rw e); ends = l.ends }
 
-  pub sought-next : (c j : ℕ) → 0 < j → Sought who c i j → (who (j - 1) ≡ c → ⊥) → Sought who c i (get_or earlier (j - 1) 0)
-  sought-next c j u s n =
+  pub sought-start : (c : ℕ) → Sought who c i (held (latest_in_chain c t))
+  sought-start c = rw (held-place (get_or t.latest (chain_of c) 0)) (first c)
+
+  further : (c j : ℕ) → 0 < j → Sought who c i j → (who (j - 1) ≡ c → ⊥) → Sought who c i (get_or t.earlier (j - 1) 0)
+  further c j u s n =
       let l = k.links (j - 1) (omega arith) in
       record {
         low = omega arith;
@@ -68,6 +78,11 @@ module _ (who : ℕ → ℕ) (latest earlier : List ℕ) (i : ℕ) (k : Linked w
         ends = λ v. l.ends v ∙ s.ends u;
       }
 
+  pub sought-next : (c j : ℕ) → Sought who c i (suc j) → (who j ≡ c → ⊥) → Sought who c i (held (earlier_in_chain j t))
+  sought-next c j s n =
+      let e : suc j - 1 ≡ j = omega arith in
+      rw (held-place (get_or t.earlier j 0)) (rw e at (further c (suc j) (omega arith) s (rw e n)))
+
   grown : (h : ℕ) (x : ℕ) → (chain_of (who i) ≡ h → ⊥) → Latest who h i x → Latest who h (i + 1) x
   grown h x n l =
       record {
@@ -77,18 +92,18 @@ module _ (who : ℕ → ℕ) (latest earlier : List ℕ) (i : ℕ) (k : Linked w
         ends = l.ends;
       }
 
-  pub linked-next : i < 4096 → Linked who (set latest (chain_of (who i)) (i + 1)) (set earlier i (get_or latest (chain_of (who i)) 0)) (i + 1)
+  pub linked-next : i < 4096 → Linked who (chained i (who i) t) (i + 1)
   linked-next u =
       let c = chain_of (who i) in
       record {
-        chains = length-set latest c (i + 1) ∙ k.chains;
-        places = length-set earlier i (get_or latest c 0) ∙ k.places;
+        chains = length-set t.latest c (i + 1) ∙ k.chains;
+        places = length-set t.earlier i (get_or t.latest c 0) ∙ k.places;
         heads = λ h v.
-            ⊎_elim (λ (z : h ≡ c). rw (z, get_or-set_same latest c (i + 1) 0 (omega arith)) (record { low = omega arith; none = λ p l m e. absurd (omega arith); ends = λ l. let e : i + 1 - 1 ≡ i = omega arith in rw e }))
-            (λ (z : h ≡ c → ⊥). rw (get_or-set_other latest c h (i + 1) 0 z) (grown h (get_or latest h 0) (λ y. z (sym y)) (k.heads h v)))
+            ⊎_elim (λ (z : h ≡ c). rw (z, get_or-set_same t.latest c (i + 1) 0 (omega arith)) (record { low = omega arith; none = λ p l m e. absurd (omega arith); ends = λ l. let e : i + 1 - 1 ≡ i = omega arith in rw e }))
+            (λ (z : h ≡ c → ⊥). rw (get_or-set_other t.latest c h (i + 1) 0 z) (grown h (get_or t.latest h 0) (λ y. z (sym y)) (k.heads h v)))
             (eq-or-not h c);
         links = λ m v.
-            ⊎_elim (λ (z : m ≡ i). rw (z, get_or-set_same earlier i (get_or latest c 0) 0 (omega arith)) (k.heads c (omega arith)))
-            (λ (z : m ≡ i → ⊥). rw (get_or-set_other earlier i m (get_or latest c 0) 0 z) (k.links m (omega (arith, z))))
+            ⊎_elim (λ (z : m ≡ i). rw (z, get_or-set_same t.earlier i (get_or t.latest c 0) 0 (omega arith)) (k.heads c (omega arith)))
+            (λ (z : m ≡ i → ⊥). rw (get_or-set_other t.earlier i m (get_or t.latest c 0) 0 z) (k.links m (omega (arith, z))))
             (eq-or-not m i);
       }

@@ -7,8 +7,12 @@ ghost use Rattle.entries.specs.Entries.{operation_number, operation_of, operatio
 ghost use Rattle.entries.specs.Places.{cell_of, entry_place, result_place, ack_place, entry_in};
 ghost use Rattle.entries.specs.Rising.{breaks_at, rising};
 
+use chains::Chains;
+
+pub mod chains; // by which the entries of a client are found
+
 // A charge as a client asks for it. The operation is the wire's byte: memory that no call produced may hold any.
-#[derive(Clone, Copy)]
+#[derive(Clone, Copy, PartialEq, Eq, Debug)]
 pub struct Entry {
     pub client: u64,
     pub request: u64,
@@ -17,24 +21,29 @@ pub struct Entry {
     pub cents: u64,
 }
 
-#[derive(Clone, Copy)]
+#[derive(Clone, Copy, PartialEq, Eq, Debug)]
 pub enum Operation {
     Fee,
     Refund,
     Ask,
 }
 
-pub fn operation_number(op: Operation) -> u8
-    ensures { result ≡ operation_number op }
-{
-    match op {
-        Operation::Fee => 1,
-        Operation::Refund => 2,
-        Operation::Ask => 3,
+impl From<Operation> for u8 {
+    ghost from_gives = { λ op number. number ≡ operation_number op };
+
+    fn from(op: Operation) -> u8
+        ensures { result ≡ operation_number op }
+    {
+        match op {
+            Operation::Fee => 1,
+            Operation::Refund => 2,
+            Operation::Ask => 3,
+        }
     }
 }
 
 // Any number but 1 and 2 is read as Ask.
+// Kept: no `From<u8>`, which would say that each byte is an operation's number; nor `TryFrom`, since a byte that no frame brings is read, not refused.
 pub fn operation_of(number: u8) -> Operation
     ensures { result ≡ operation_of number }
 {
@@ -50,8 +59,7 @@ pub fn operation_ok(operation: u8, cents: u64) -> bool
     ensures { result ≡ operation_ok operation cents }
 {
     match operation {
-        1 => numbers::within(1, 1_000_000, cents),
-        2 => numbers::within(1, 1_000_000, cents),
+        1 | 2 => numbers::within(1, 1_000_000, cents),
         3 => cents == 0,
         _ => false,
     }
@@ -137,14 +145,10 @@ pub fn entries_ok(s: &[u8], at: usize, k: usize) -> bool
     requires { at + 32 * k ≤ length s.now }
     ensures { result ≡ entries_ok k (drop at s.now) }
 {
-    let mut i = 0;
-    let mut p = at;
-    while i < k {
-        if !entry_ok(s, p) {
+    for i in 0..k {
+        if !entry_ok(s, at + 32 * i) {
             return false;
         }
-        p += 32;
-        i += 1;
     }
     true
 }
@@ -176,13 +180,10 @@ pub fn is_rising(s: &[u8], k: usize) -> bool
     requires { 32 * k ≤ length s.now }
     ensures { result ≡ rising (entries k s.now) }
 {
-    if k <= 16 {
-        return rises_by_pairs(s, k);
+    match k {
+        17..=4096 => rises_by_chain(s, k),
+        _ => rises_by_pairs(s, k),
     }
-    if 4096 < k {
-        return rises_by_pairs(s, k);
-    }
-    rises_by_chain(s, k)
 }
 
 // Each entry is compared with every later one.
@@ -190,59 +191,43 @@ fn rises_by_pairs(s: &[u8], k: usize) -> bool
     requires { 32 * k ≤ length s.now }
     ensures { result ≡ rising (entries k s.now) }
 {
-    let mut ok = true;
-    let mut i = 0;
-    'pairs: while i < k {
+    for i in 0..k {
         let e = entry_at(s, 32 * i);
-        let mut j = i + 1;
-        while j < k {
+        for j in i + 1..k {
             if breaks(e, s, 32 * j) {
-                ok = false;
-                break 'pairs;
+                return false;
             }
-            j += 1;
         }
-        i += 1;
     }
-    ok
+    true
 }
 
-// Each entry is compared with the nearest earlier one of its client: the entries up to there rise, so none before that has to be looked at.
-// It is found along the chain of the places whose client ids have one remainder by 1,021. `latest` has for each remainder one more than the latest place, 0 where there is none;
-// `earlier` has for each place what `latest` held before it. 1,021 is a prime, so that ids that rise by a power of two get different remainders.
+// Each entry is compared with the nearest earlier one of its client, found along its chain: the entries up to there rise, so none before that has to be looked at.
 // Clients choose their ids: where too many have one remainder, a chain is slower than the pairs, which are then looked at instead. 4,096 ids that spread take 2 looks each.
 fn rises_by_chain(s: &[u8], k: usize) -> bool
     requires { (k ≤ 4096) × (32 * k ≤ length s.now) }
     ensures { result ≡ rising (entries k s.now) }
 {
-    let mut latest: [u16; 1021] = [0; 1021];
-    let mut earlier: [u16; 4096] = [0; 4096];
+    let mut chains = Chains::new();
     let mut looks = 16 * k;
-    let mut ok = true;
-    let mut i = 0;
-    'pairs: while i < k {
+    for i in 0..k {
         let c = numbers::read_u64(s, 32 * i);
         let r = numbers::read_u64(s, 32 * i + 8);
-        let h = (c % 1021) as usize;
-        let mut j = latest[h] as usize;
-        while 0 < j {
+        let mut at = chains.latest(c);
+        while let Some(j) = at {
             if looks == 0 {
                 return rises_by_pairs(s, k);
             }
             looks -= 1;
-            j -= 1;
             if numbers::read_u64(s, 32 * j) == c {
                 if r <= numbers::read_u64(s, 32 * j + 8) {
-                    ok = false;
-                    break 'pairs;
+                    return false;
                 }
                 break;
             }
-            j = earlier[j] as usize;
+            at = chains.earlier(j);
         }
-        earlier[i] = latest[h];
-        latest[h] = (i + 1) as u16;
-        i += 1;
+        chains.push(i, c);
     }
-    ok
+    true
 }

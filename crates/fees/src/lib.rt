@@ -17,37 +17,34 @@ const LIMIT: u64 = 1_000_000_000;
 pub const MOST: u64 = 4_096_000_000_000;
 
 // The outcome's number, 1 to 6, and the total after it.
-#[derive(Clone, Copy)]
+// Kept: a number, no enum: results are read from memory that may hold any byte (`result_at`).
+#[derive(Clone, Copy, PartialEq, Eq, Debug)]
 pub struct Outcome {
     pub code: u8,
     pub total: u64,
 }
 
-// A total that no call produced may be above the limit: the sum is made only where it fits.
 fn fee(total: u64, cents: u64) -> Outcome
     ensures { result ≡ rule total Operation.Fee cents }
 {
-    if LIMIT < total {
-        return Outcome { code: 5, total };
-    }
-    if LIMIT - total < cents {
-        return Outcome { code: 5, total };
-    }
-    Outcome {
-        code: 1,
-        total: total + cents,
+    match total.checked_add(cents) {
+        Some(sum) if sum <= LIMIT => Outcome {
+            code: 1,
+            total: sum,
+        },
+        _ => Outcome { code: 5, total },
     }
 }
 
 fn refund(total: u64, cents: u64) -> Outcome
     ensures { result ≡ rule total Operation.Refund cents }
 {
-    if total < cents {
-        return Outcome { code: 6, total };
-    }
-    Outcome {
-        code: 2,
-        total: total - cents,
+    match total.checked_sub(cents) {
+        None => Outcome { code: 6, total },
+        Some(rest) => Outcome {
+            code: 2,
+            total: rest,
+        },
     }
 }
 
@@ -81,31 +78,21 @@ pub fn apply(totals: &mut [u8], members: u32, e: Entry) -> Outcome
 fn add(takings: u64, cents: u64) -> u64
     ensures { result ≡ added takings cents }
 {
-    if MOST < takings {
-        return MOST;
-    }
-    if MOST - takings < cents {
-        return MOST;
-    }
-    takings + cents
+    takings.saturating_add(cents).min(MOST)
 }
 
 // Cents less. A sum that no call produced may be below them: it stops at 0.
 fn take(takings: u64, cents: u64) -> u64
     ensures { result ≡ takings - cents }
 {
-    if takings < cents {
-        return 0;
-    }
-    takings - cents
+    takings.saturating_sub(cents)
 }
 
 // The takings after an entry of so many cents gave this outcome: only a Fee or a Refund that took effect changes them.
 pub fn takings_after(takings: u64, o: Outcome, cents: u64) -> u64
     ensures { result ≡ takings_after takings o cents }
 {
-    let code = o.code;
-    match code {
+    match o.code {
         1 => add(takings, cents),
         2 => take(takings, cents),
         _ => takings,

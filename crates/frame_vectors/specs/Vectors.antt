@@ -1,17 +1,21 @@
 -- The vectors: a frame of each kind to replica 1, with the first of four entries, in 192 bytes; and a frame with a part changed. Assumes nothing.
-use Rattle.std.specs.Prelude.{ℕ, ◌-◌, ◌*◌, List, [], length, take, replicate, ◌==◌, nat_le, nat_lt}
+use Rattle.std.specs.Prelude.{ℕ, ◌-◌, ◌*◌, List, [], length, take, replicate, ◌==◌, nat_le, nat_lt, Some, None}
 use Rattle.numbers.specs.Words.{when◌then◌else◌}
 use Rattle.numbers.specs.Numbers.{over}
 use Rattle.numbers.specs.declared.View.{View}
 use Rattle.numbers.specs.declared.Op.{Op}
 use Rattle.entries.specs.Entries.{encode_entry}
 use Rattle.entries.specs.declared.Entry.{Entry}
-use Rattle.frames.specs.declared.RecoveryState.TheVariants.{Absent, Present}
+use Rattle.frames.specs.Messages.{progress}
 use Rattle.frames.specs.declared.Message.{Message}
 use Rattle.frames.specs.declared.Message.TheVariants.{Request, Prepare, PrepareOk, Commit, GetState, NewState, StartViewChange, DoViewChange, StartView, Recovery, RecoveryResponse}
 use Rattle.writers.specs.Writers.{encode, reply, size_of, length_of}
 use Rattle.comparing.specs.Areas.{stored_at}
 use Rattle.frame_vectors.specs.declared.vector.Vector.{Vector}
+use Rattle.frame_vectors.specs.declared.vector.ShortKind.{ShortKind}
+use Rattle.frame_vectors.specs.declared.vector.ShortKind.TheVariants.{Request as ShortRequest, Prepare as ShortPrepare, PrepareOk as ShortPrepareOk, Commit as ShortCommit, GetState as ShortGetState, StartViewChange as ShortStartViewChange, Recovery as ShortRecovery, RecoveryResponse as ShortRecoveryResponse}
+use Rattle.frame_vectors.specs.declared.vector.LoggedKind.{LoggedKind}
+use Rattle.frame_vectors.specs.declared.vector.LoggedKind.TheVariants.{NewState as LoggedNewState, DoViewChange as LoggedDoViewChange, StartView as LoggedStartView, RecoveryResponse as LoggedRecoveryResponse}
 
 -- a fee of 4500 cents, of member 3
 abbrev pub tried_entry : (client request : ℕ) → Entry
@@ -32,24 +36,22 @@ abbrev pub nonce_of : ℕ
 nonce_of = 72623859790382856
 
 -- by kind, a message that carries no log
-unfoldable pub short_message : ℕ → Message
-short_message kind =
-    when kind == 1 then Request (tried_entry 7 5) else
-    when kind == 2 then Prepare seventh (numbered_op 1) (numbered_op 0) (tried_entry 7 5) else
-    when kind == 3 then PrepareOk seventh (numbered_op 1) 2 else
-    when kind == 4 then Commit seventh (numbered_op 1) else
-    when kind == 5 then GetState 2 seventh (numbered_op 1) else
-    when kind == 7 then StartViewChange seventh 2 else
-    when kind == 10 then Recovery 2 nonce_of seventh else
-    RecoveryResponse seventh nonce_of 2 Absent
+abbrev pub short_message : ShortKind → Message
+short_message ShortRequest = Request (tried_entry 7 5)
+short_message ShortPrepare = Prepare seventh (numbered_op 1) (numbered_op 0) (tried_entry 7 5)
+short_message ShortPrepareOk = PrepareOk seventh (numbered_op 1) 2
+short_message ShortCommit = Commit seventh (numbered_op 1)
+short_message ShortGetState = GetState 2 seventh (numbered_op 1)
+short_message ShortStartViewChange = StartViewChange seventh 2
+short_message ShortRecovery = Recovery 2 nonce_of seventh
+short_message ShortRecoveryResponse = RecoveryResponse seventh nonce_of 2 None
 
 -- by kind, a message that carries a log of k entries, all committed
-unfoldable pub logged_message : ℕ → ℕ → Message
-logged_message kind k =
-    when kind == 6 then NewState seventh (numbered_op 0) (numbered_op k) (numbered_op k) else
-    when kind == 8 then DoViewChange seventh 2 (record { 0 = 6 }) (numbered_op k) (numbered_op k) else
-    when kind == 9 then StartView seventh (numbered_op k) (numbered_op k) else
-    RecoveryResponse seventh nonce_of 2 (Present (numbered_op k) (numbered_op k))
+abbrev pub logged_message : LoggedKind → ℕ → Message
+logged_message LoggedNewState k = NewState seventh (numbered_op 0) (numbered_op k) (numbered_op k)
+logged_message LoggedDoViewChange k = DoViewChange seventh 2 (record { 0 = 6 }) (numbered_op k) (numbered_op k)
+logged_message LoggedStartView k = StartView seventh (numbered_op k) (numbered_op k)
+logged_message LoggedRecoveryResponse k = RecoveryResponse seventh nonce_of 2 (Some (progress (numbered_op k) (numbered_op k)))
 
 -- a message's frame to replica 1, with the first entries of a run; nothing where 192 bytes do not hold it
 unfoldable pub tried_frame : List ℕ → Message → List ℕ

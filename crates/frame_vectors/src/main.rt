@@ -9,25 +9,35 @@ mod log; // carried entries
 mod last; // what no single frame shows
 
 use std::io;
+use std::io::Write;
+use vector::{LoggedKind, ShortKind};
 
 fn main(rt: HostRuntime) -> io::Result<()> {
     let mut writer = io::writer(&rt);
-    text::say(
-        &mut writer,
-        b"Replica 1 of 3, L = 3. value:number stands for a frame with that value in the named place, and for its refusal number; 0: none.\n",
+    writeln!(
+        writer,
+        "Replica 1 of 3, L = 3. value:number stands for a frame with that value in the named place, and for its refusal number; 0: none."
     )?;
-    every::short(&mut writer, 1)?;
-    every::short(&mut writer, 2)?;
-    every::short(&mut writer, 3)?;
-    every::short(&mut writer, 4)?;
-    every::short(&mut writer, 5)?;
-    every::short(&mut writer, 7)?;
-    every::short(&mut writer, 10)?;
-    every::short(&mut writer, 11)?;
-    every::logged(&mut writer, 6)?;
-    every::logged(&mut writer, 8)?;
-    every::logged(&mut writer, 9)?;
-    every::logged(&mut writer, 11)?;
+    for kind in [
+        ShortKind::Request,
+        ShortKind::Prepare,
+        ShortKind::PrepareOk,
+        ShortKind::Commit,
+        ShortKind::GetState,
+        ShortKind::StartViewChange,
+        ShortKind::Recovery,
+        ShortKind::RecoveryResponse,
+    ] {
+        every::short(&mut writer, kind)?;
+    }
+    for kind in [
+        LoggedKind::NewState,
+        LoggedKind::DoViewChange,
+        LoggedKind::StartView,
+        LoggedKind::RecoveryResponse,
+    ] {
+        every::logged(&mut writer, kind)?;
+    }
     log::limits(&mut writer)?;
     log::risings(&mut writer)?;
     last::spans(&mut writer)?;

@@ -1,5 +1,5 @@
 // Frames of every kind, as replica 1 gets them, and frames with a part changed.
-ghost use Rattle.std.specs.Prelude.{◌≡◌, ◌≤◌, [], ◌∷◌, length};
+ghost use Rattle.std.specs.Prelude.{◌≡◌, ◌<◌, ◌≤◌, [], ◌∷◌, length, take, MatchOption};
 ghost use Rattle.numbers.specs.Numbers.{big, Wrote};
 ghost use Rattle.entries.specs.Entries.{encode_entry};
 ghost use Rattle.comparing.specs.Areas.{stored_at};
@@ -7,14 +7,48 @@ ghost use Rattle.frame_vectors.specs.Vectors.{tried_entry, entries_run, tried_fr
 
 use comparing::memory;
 use entries::Entry;
-use frames::{Message, RecoveryState};
+use frames::{Message, Progress};
 use numbers::{Op, View};
 
+const NONCE: u64 = 0x0102030405060708;
+
+// The kinds that carry no log, by their kind byte; a RecoveryResponse in its form 0.
+#[derive(Clone, Copy)]
+pub enum ShortKind {
+    Request = 1,
+    Prepare = 2,
+    PrepareOk = 3,
+    Commit = 4,
+    GetState = 5,
+    StartViewChange = 7,
+    Recovery = 10,
+    RecoveryResponse = 11,
+}
+
+// The kinds that carry a log; a RecoveryResponse in its form 1.
+#[derive(Clone, Copy)]
+pub enum LoggedKind {
+    NewState = 6,
+    DoViewChange = 8,
+    StartView = 9,
+    RecoveryResponse = 11,
+}
+
 // A frame, and room behind it.
+// Kept: a Vec would let each function here fail for memory, and none of them fails.
 #[derive(Clone, Copy)]
 pub struct Vector {
     pub bytes: [u8; 192],
     pub len: usize,
+}
+
+impl Vector {
+    // The frame, where it is no longer than its room.
+    pub fn as_slice(&self) -> Option<&[u8]>
+        ensures { MatchOption result (length self.now.bytes < self.now.len) (λ s. s.now ≡ take self.now.len self.now.bytes) }
+    {
+        self.bytes.get(..self.len)
+    }
 }
 
 fn entry(client: u64, request: u64) -> Entry
@@ -38,6 +72,7 @@ fn put_entry(s: &mut [u8], at: usize, e: Entry)
 }
 
 // Four entries that rise, two of client 7, two of client 9, and room.
+// Kept: as of `Vector`.
 fn entries_run() -> [u8; 192]
     ensures { result ≡ entries_run }
 {
@@ -49,68 +84,67 @@ fn entries_run() -> [u8; 192]
     s
 }
 
-// A message that carries no log; of kind 11 the form 0.
-fn short_message(kind: u8) -> Message
+fn short_message(kind: ShortKind) -> Message
     ensures { result ≡ short_message kind }
 {
     let view = View(7);
     let op = Op(1);
     match kind {
-        1 => Message::Request { entry: entry(7, 5) },
-        2 => Message::Prepare {
+        ShortKind::Request => Message::Request { entry: entry(7, 5) },
+        ShortKind::Prepare => Message::Prepare {
             view,
             op,
             commit: Op(0),
             entry: entry(7, 5),
         },
-        3 => Message::PrepareOk { view, op, from: 2 },
-        4 => Message::Commit { view, commit: op },
-        5 => Message::GetState { from: 2, view, op },
-        7 => Message::StartViewChange { view, from: 2 },
-        10 => Message::Recovery {
+        ShortKind::PrepareOk => Message::PrepareOk { view, op, from: 2 },
+        ShortKind::Commit => Message::Commit { view, commit: op },
+        ShortKind::GetState => Message::GetState { from: 2, view, op },
+        ShortKind::StartViewChange => Message::StartViewChange { view, from: 2 },
+        ShortKind::Recovery => Message::Recovery {
             from: 2,
-            nonce: 0x0102030405060708,
+            nonce: NONCE,
             view,
         },
-        _ => Message::RecoveryResponse {
+        ShortKind::RecoveryResponse => Message::RecoveryResponse {
             view,
-            nonce: 0x0102030405060708,
+            nonce: NONCE,
             from: 2,
-            state: RecoveryState::Absent,
+            state: None,
         },
     }
 }
 
-// A message that carries a log of k entries, all committed; of kind 11 the form 1.
-fn logged_message(kind: u8, k: u32) -> Message
+// A log of k entries, all committed.
+fn logged_message(kind: LoggedKind, k: u32) -> Message
     ensures { result ≡ logged_message kind k }
 {
     let view = View(7);
     let op = Op(k);
     match kind {
-        6 => Message::NewState {
+        LoggedKind::NewState => Message::NewState {
             view,
             start: Op(0),
             end: op,
             commit: op,
         },
-        8 => Message::DoViewChange {
+        LoggedKind::DoViewChange => Message::DoViewChange {
             view,
             from: 2,
             last_normal: View(6),
             op,
             commit: op,
         },
-        9 => Message::StartView {
+        LoggedKind::StartView => Message::StartView {
             view,
             op,
             commit: op,
         },
-        _ => Message::RecoveryResponse {
+        LoggedKind::RecoveryResponse => Message::RecoveryResponse {
             view,
-            nonce: 0x0102030405060708,
+            nonce: NONCE,
             from: 2,
-            state: RecoveryState::Present { op, commit: op },
+            state: Some(Progress { op, commit: op }),
         },
     }
 }
@@ -135,15 +169,15 @@ fn of(m: Message) -> Vector
     Vector { bytes, len }
 }
 
-// A frame of a kind that carries no log, of kind 11 the form 0.
-pub fn short(kind: u8) -> Vector
+// A frame of a kind that carries no log.
+pub fn short(kind: ShortKind) -> Vector
     ensures { result ≡ vector_of (tried_frame entries_run (short_message kind)) }
 {
     of(short_message(kind))
 }
 
 // A frame of a kind that carries a log, with the first k entries of the run.
-pub fn logged(kind: u8, k: u32) -> Vector
+pub fn logged(kind: LoggedKind, k: u32) -> Vector
     ensures { result ≡ vector_of (tried_frame entries_run (logged_message kind k)) }
 {
     of(logged_message(kind, k))
@@ -161,8 +195,7 @@ pub fn reply() -> Vector
 fn put_byte(s: &mut [u8], at: usize, b: u8)
     ensures { s.new ≡ stored_at at (b ∷ []) s.old }
 {
-    let run = [b];
-    memory::store(s, at, &run);
+    memory::store(s, at, &[b]);
 }
 
 // A byte put at a place of the frame or of its room; elsewhere there is none.
@@ -171,7 +204,7 @@ pub fn with_byte(v: Vector, at: usize, b: u8) -> Vector
 {
     let mut bytes = v.bytes;
     put_byte(&mut bytes, at, b);
-    Vector { bytes, len: v.len }
+    Vector { bytes, ..v }
 }
 
 fn put_long(s: &mut [u8], at: usize, x: u32)
@@ -188,27 +221,23 @@ pub fn with_long(v: Vector, at: usize, x: u32) -> Vector
 {
     let mut bytes = v.bytes;
     put_long(&mut bytes, at, x);
-    Vector { bytes, len: v.len }
+    Vector { bytes, ..v }
 }
 
 // The first n bytes of the frame and its room.
 pub fn cut(v: Vector, n: usize) -> Vector
     ensures { result ≡ cut_to n v }
 {
-    let bytes = v.bytes;
-    Vector { bytes, len: n }
+    Vector { len: n, ..v }
 }
 
 fn rest_of(n: usize) -> u32
     ensures { result ≡ fitted_length n }
 {
-    if n < 4 {
-        return 0;
+    match n {
+        4..=192 => (n - 4) as u32,
+        _ => 0,
     }
-    if 192 < n {
-        return 0;
-    }
-    (n - 4) as u32
 }
 
 // The first n bytes, with the length field put right.

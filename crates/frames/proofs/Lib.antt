@@ -1,8 +1,8 @@
 pub mod KindLaws
 pub mod MessageLaws
 pub mod RefusalLaws
-pub mod NumberedLaws
 pub mod TableLaws
+pub mod NumberedLaws
 pub mod OneAnswer
 pub mod EntryPlaces
 pub mod LiveLaws

@@ -1,9 +1,9 @@
 -- Laws of what a frame says.
 --     parsed               what a parsed frame and its message keep: `Said`
---     kind-low, kind-high  the kind of a message is 1 to 11
 --     bytes-none, bytes-are    the entries of a message's frame
 --     accepted, malformed-back, malformed-exactly     refusal 2 is given exactly where `well_formed` is false
 -- Assumes nothing.
+use Rattle.std.specs.Prelude.{Option, Some, None, Result, Ok, Err}
 use mathlib.Core.Path.{◌≡◌, refl, sym, ap, ◌∙◌}
 use mathlib.Core.Bool.{Bool, true, false}
 use mathlib.Core.List.{List}
@@ -13,58 +13,36 @@ use native.Mathlib.Omega.{arith}
 use lib.Dec.{eqb, lit≤}
 use lib.ListN.{length, take, drop, length-drop, drop_of_length-le}
 use lib.Seq.{take_all}
-use Rattle.numbers.specs.Words.{when◌then◌else◌, ◌and◌}
-use Rattle.numbers.specs.Numbers.{num, within, op_at}
+use Rattle.numbers.specs.Words.{when◌then◌else◌}
+use Rattle.numbers.specs.Numbers.{num, op_at}
 use Rattle.numbers.specs.declared.Op.{Op}
 use Rattle.numbers.proofs.WordLaws.{if-true, if-false}
-use Rattle.numbers.proofs.NumberLaws.{within_both}
-use Rattle.frames.specs.Kinds.{room_of, count_of, well_formed}
+use Rattle.frames.specs.Kinds.{kind_number, room_of, count_of, well_formed}
 use Rattle.frames.specs.FrameRules.{offset_of}
-use Rattle.frames.specs.Messages.{response_state, message_of, parse_frame, state_row, carried_of, carried_bytes}
+use Rattle.frames.specs.Messages.{progress, addressed, response_state, message_of, parse_frame, state_row, carried_of, carried_bytes}
 use Rattle.frames.specs.Numbered.{parsed_number}
-use Rattle.frames.specs.declared.RecoveryState.{RecoveryState}
-use Rattle.frames.specs.declared.RecoveryState.TheVariants.{Absent, Present}
+use Rattle.frames.specs.declared.Progress.{Progress}
 use Rattle.frames.specs.declared.Message.{Message}
-use Rattle.frames.specs.declared.Message.TheVariants.{Request, Prepare, PrepareOk, Commit, GetState, NewState, StartViewChange, DoViewChange, StartView, Recovery, RecoveryResponse}
-use Rattle.frames.specs.declared.Parsed.{Parsed}
-use Rattle.frames.specs.declared.Parsed.TheVariants.{Frame, Malformed}
+use Rattle.frames.specs.declared.Addressed.{Addressed}
+use Rattle.frames.specs.declared.Refusal.{Refusal}
+use Rattle.frames.specs.declared.Refusal.TheVariants.{Malformed}
 use Rattle.frames.proofs.KindLaws.{each-kind, WellFormed, well-formed}
 use Rattle.numbers.specs.Numbers.{Bytes}
 use Rattle.numbers.proofs.NumberLaws.{drop-bytes}
 
 -- ---- the kind of a message
 
-state-kind : (r : ℕ) (t : RecoveryState) → (state_row r t).kind ≡ 11
+state-kind : (r : ℕ) (t : Option Progress) → kind_number (state_row r t).kind ≡ 11
 unfolding state_row
-state-kind r Absent = refl
-state-kind r (Present o c) = refl
-
-kind-within : (m : Message) → within 1 11 (carried_of m).kind ≡ true
-unfolding within ◌and◌ carried_of
-kind-within (Request e) = refl
-kind-within (Prepare v o c e) = refl
-kind-within (PrepareOk v o r) = refl
-kind-within (Commit v c) = refl
-kind-within (GetState r v o) = refl
-kind-within (NewState v a z c) = refl
-kind-within (StartViewChange v r) = refl
-kind-within (DoViewChange v r l o c) = refl
-kind-within (StartView v o c) = refl
-kind-within (Recovery r x v) = refl
-kind-within (RecoveryResponse v x r t) = rw (state-kind r t)
-
-pub kind-low : (m : Message) → 1 ≤ (carried_of m).kind
-kind-low m = (within_both 1 11 (carried_of m).kind (kind-within m)).0
-
-pub kind-high : (m : Message) → (carried_of m).kind ≤ 11
-kind-high m = (within_both 1 11 (carried_of m).kind (kind-within m)).1
+state-kind r None = refl
+state-kind r (Some p) = refl
 
 -- ---- what a well-formed frame says
 
-kind-said : (s : List ℕ) (k : ℕ) → 1 ≤ k → k ≤ 11 → (carried_of (message_of k s)).kind ≡ k
+kind-said : (s : List ℕ) (k : ℕ) → 1 ≤ k → k ≤ 11 → kind_number (carried_of (message_of k s)).kind ≡ k
 unfolding message_of carried_of when◌then◌else◌
 kind-said s =
-    each-kind (λ k. (carried_of (message_of k s)).kind ≡ k)
+    each-kind (λ k. kind_number (carried_of (message_of k s)).kind ≡ k)
     record {
       k1 = refl;
       k2 = refl;
@@ -81,7 +59,7 @@ kind-said s =
 
 -- a carried log stands in the frame: of a RecoveryResponse
 state-size : (r : ℕ) (b : Bool) (o c : Op)
-    → (state_row r (when b then Present o c else Absent)).start + 32 * (state_row r (when b then Present o c else Absent)).whole ≤ (when b then 29 else 21) + 32 * (when b then o.0 else 0)
+    → (state_row r (when b then Some (progress o c) else None)).start + 32 * (state_row r (when b then Some (progress o c) else None)).whole ≤ (when b then 29 else 21) + 32 * (when b then o.0 else 0)
 unfolding state_row when◌then◌else◌
 state-size r true o c = le_refl (29 + 32 * o.0)
 state-size r false o c = lit≤ tt
@@ -120,19 +98,19 @@ module _ (m : Message) (s : List ℕ) (at : ℕ) (e : at ≡ (carried_of m).star
 
 -- ---- refusal 2, in both directions
 
-pub accepted : (s : List ℕ) → well_formed s ≡ true → parse_frame s ≡ Frame (num 1 6 s) (message_of (num 1 5 s) s)
+pub accepted : (s : List ℕ) → well_formed s ≡ true → parse_frame s ≡ Ok (addressed (num 1 6 s) (message_of (num 1 5 s) s))
 unfolding parse_frame
-accepted s h = if-true (well_formed s) (Frame (num 1 6 s) (message_of (num 1 5 s) s)) (Malformed (offset_of s)) h
+accepted s h = if-true (well_formed s) (Ok (addressed (num 1 6 s) (message_of (num 1 5 s) s))) (Err (Malformed (offset_of s))) h
 
-pub malformed-back : (s : List ℕ) → well_formed s ≡ false → parse_frame s ≡ Malformed (offset_of s)
+pub malformed-back : (s : List ℕ) → well_formed s ≡ false → parse_frame s ≡ Err (Malformed (offset_of s))
 unfolding parse_frame
-malformed-back s h = if-false (well_formed s) (Frame (num 1 6 s) (message_of (num 1 5 s) s)) (Malformed (offset_of s)) h
+malformed-back s h = if-false (well_formed s) (Ok (addressed (num 1 6 s) (message_of (num 1 5 s) s))) (Err (Malformed (offset_of s))) h
 
 pub malformed-exactly : (s : List ℕ) → (parsed_number (parse_frame s)).number ≡ 2 → well_formed s ≡ false
 malformed-exactly s h = go (well_formed s) refl
   where
     go : (b : Bool) → well_formed s ≡ b → well_formed s ≡ false
-    go true e = absurd (omega (arith, sym h ∙ ap (λ (p : Parsed). (parsed_number p).number) (accepted s e)))
+    go true e = absurd (omega (arith, sym h ∙ ap (λ (p : Result Addressed Refusal). (parsed_number p).number) (accepted s e)))
     go false e = e
 
 -- ---- what a caller has from a parsed frame
@@ -141,21 +119,22 @@ pub record Said (s : List ℕ) (to : ℕ) (m : Message) : Type 0 where
   pub form : WellFormed s
   pub addressee : to ≡ num 1 6 s
   pub message : m ≡ message_of (num 1 5 s) s
-  pub kind : (carried_of m).kind ≡ num 1 5 s
+  pub kind : kind_number (carried_of m).kind ≡ num 1 5 s
   pub size : (carried_of m).start + 32 * (carried_of m).whole ≤ length s
 
-pub parsed : (s : List ℕ) (to : ℕ) (m : Message) → parse_frame s ≡ Frame to m → Said s to m
-parsed s to m h = go (well_formed s) refl
+pub parsed : (s : List ℕ) (f : Addressed) → parse_frame s ≡ Ok f → Said s f.to f.message
+parsed s f h = go (well_formed s) refl
   where
-    go : (b : Bool) → well_formed s ≡ b → Said s to m
-    go false e = absurd (omega (arith, ap (λ (p : Parsed). (parsed_number p).number) (sym h ∙ malformed-back s e)))
+    go : (b : Bool) → well_formed s ≡ b → Said s f.to f.message
+    go false e = absurd (omega (arith, ap (λ (p : Result Addressed Refusal). (parsed_number p).number) (sym h ∙ malformed-back s e)))
     go true e =
         let w = well-formed s e in
-        let p : Frame to m ≡ Frame (num 1 6 s) (message_of (num 1 5 s) s) = sym h ∙ accepted s e in
-        let q : m ≡ message_of (num 1 5 s) s = cc p in
+        let p : Ok f ≡ Ok (addressed (num 1 6 s) (message_of (num 1 5 s) s)) = sym h ∙ accepted s e in
+        let same : f ≡ addressed (num 1 6 s) (message_of (num 1 5 s) s) = cc p in
+        let q : f.message ≡ message_of (num 1 5 s) s = ap (λ (x : Addressed). x.message) same in
         record {
           form = w;
-          addressee = cc p;
+          addressee = ap (λ (x : Addressed). x.to) same;
           message = q;
           kind = rw q (kind-said s (num 1 5 s) w.low w.high);
           size = rw q (omega (arith, size-said s (num 1 5 s) w.low w.high, w.exact));

@@ -4,13 +4,14 @@
 --     checked-number     those of a check likewise: 2 to 6 by the refusal table, or 0 with the message
 --     parses, checks     so that who answers the definition keeps the whole promise
 -- Assumes nothing.
+use Rattle.std.specs.Prelude.{Option, Some, None, Result, Ok, Err}
 use mathlib.Core.Path.{◌≡◌, refl, sym, ap, ◌∙◌}
-use mathlib.Core.Bool.{Bool, true, false}
+use mathlib.Core.Bool.{Bool, true, false, not}
 use mathlib.Core.List.{List, [], ◌∷◌}
 use Prim.Native.Nat.{ℕ, ◌≤◌}
 use lib.Dec.{eqb}
 use lib.ListN.{drop}
-use borrow.Author.Tests.{eqb-true}
+use borrow.Author.Tests.{ne_eqb}
 use Rattle.numbers.specs.Words.{when◌then◌else◌, ◌or◌}
 use Rattle.numbers.specs.Numbers.{num, op_at}
 use Rattle.numbers.specs.Cells.{cells}
@@ -20,18 +21,18 @@ use Rattle.numbers.proofs.NumberLaws.{num-drop}
 use Rattle.entries.specs.Entries.{entry_of, entries}
 use Rattle.config.specs.declared.Setup.{Setup}
 use Rattle.frames.specs.Kinds.{room_of, count_of, well_formed}
-use Rattle.frames.specs.Messages.{response_state, message_of, parse_frame, state_row, carried_of}
-use Rattle.frames.specs.Refusals.{whole_log, refusal_of, verdict, check_parsed, check_frame}
+use Rattle.frames.specs.Messages.{progress, response_state, message_of, parse_frame, state_row, carried_of}
+use Rattle.frames.specs.Refusals.{number_of, whole_log, refusal_of, verdict, check_parsed, check_frame}
 use Rattle.frames.specs.Numbered.{numbered, entry_values, state_values, fields_of, parsed_number, checked_number, in_turn, entry_numbers, fields_in, sender_in, op_in, commit_in, log_in, earned_by, parse_numbers, check_numbers, Parses, Checks}
-use Rattle.frames.specs.declared.RecoveryState.{RecoveryState}
-use Rattle.frames.specs.declared.RecoveryState.TheVariants.{Absent, Present}
+use Rattle.frames.specs.declared.Progress.{Progress}
 use Rattle.frames.specs.declared.Message.{Message}
-use Rattle.frames.specs.declared.Parsed.{Parsed}
-use Rattle.frames.specs.declared.Checked.{Checked}
-use Rattle.frames.specs.declared.Checked.TheVariants.{Passed, Refused}
+use Rattle.frames.specs.declared.Addressed.{Addressed}
+use Rattle.frames.specs.declared.Refusal.TheVariants.{NotForUs, PastRoom, PastLog, NotRising}
+use Rattle.frames.specs.declared.Refusal.{Refusal}
 use Rattle.frames.proofs.KindLaws.{each-kind, well-formed}
 use Rattle.frames.proofs.MessageLaws.{accepted, malformed-back}
 use Rattle.frames.proofs.PointLaws.{parsed-points, checked-points}
+use Rattle.frames.proofs.RefusalLaws.{number-some}
 
 -- ---- the fields
 
@@ -43,7 +44,7 @@ entry-19 : (s : List ℕ) → entry_values (entry_of (drop 19 s)) ≡ entry_numb
 unfolding entry_of in_turn
 entry-19 s = rw (num-drop 8 19 0 s, num-drop 8 19 8 s, num-drop 1 19 16 s, num-drop 4 19 20 s, num-drop 8 19 24 s)
 
-state-said : (b : Bool) (s : List ℕ) → state_values (when b then Present (op_at 21 s) (op_at 25 s) else Absent) ≡ (when b then 1 ∷ in_turn (4 ∷ 4 ∷ []) 21 s else 0 ∷ [])
+state-said : (b : Bool) (s : List ℕ) → state_values (when b then Some (progress (op_at 21 s) (op_at 25 s)) else None) ≡ (when b then 1 ∷ in_turn (4 ∷ 4 ∷ []) 21 s else 0 ∷ [])
 unfolding state_values in_turn when◌then◌else◌
 state-said true s = refl
 state-said false s = refl
@@ -76,23 +77,23 @@ record Judges (s : List ℕ) (k : ℕ) : Type 0 where
   log : whole_log (carried_of (message_of k s)) s ≡ log_in k s
 
 -- of a RecoveryResponse
-state-sender : (r : ℕ) (t : RecoveryState) → (state_row r t).sender ≡ r
+state-sender : (r : ℕ) (t : Option Progress) → (state_row r t).sender ≡ r
 unfolding state_row
-state-sender r Absent = refl
-state-sender r (Present o c) = refl
+state-sender r None = refl
+state-sender r (Some p) = refl
 
 module _ (r : ℕ) (o c : Op) where
-  state-op : (b : Bool) → (state_row r (when b then Present o c else Absent)).op.0 ≡ (when b then o.0 else 0)
+  state-op : (b : Bool) → (state_row r (when b then Some (progress o c) else None)).op.0 ≡ (when b then o.0 else 0)
   unfolding state_row when◌then◌else◌
   state-op true = refl
   state-op false = refl
 
-  state-commit : (b : Bool) → (state_row r (when b then Present o c else Absent)).commit.0 ≡ (when b then c.0 else 0)
+  state-commit : (b : Bool) → (state_row r (when b then Some (progress o c) else None)).commit.0 ≡ (when b then c.0 else 0)
   unfolding state_row when◌then◌else◌
   state-commit true = refl
   state-commit false = refl
 
-  state-log : (s : List ℕ) (b : Bool) → whole_log (state_row r (when b then Present o c else Absent)) s ≡ entries (when b then o.0 else 0) (drop (when b then 29 else 21) s)
+  state-log : (s : List ℕ) (b : Bool) → whole_log (state_row r (when b then Some (progress o c) else None)) s ≡ entries (when b then o.0 else 0) (drop (when b then 29 else 21) s)
   unfolding whole_log state_row when◌then◌else◌
   state-log s true = refl
   state-log s false = refl
@@ -134,20 +135,32 @@ parsed-number s = go (well_formed s) refl
         ∙ sym (if-true (well_formed s) _ _ e)
     go false e = ap parsed_number (malformed-back s e) ∙ sym (if-false (well_formed s) _ _ e)
 
-verdict-number : (k : ℕ) (m : Message) → checked_number (verdict k m) ≡ numbered k (when eqb k 0 then fields_of m else [])
-unfolding verdict
-verdict-number k m =
-    split (λ (x : Checked). checked_number x ≡ numbered k (when eqb k 0 then fields_of m else [])) (eqb k 0) (Passed m) (Refused k 0)
-    (λ e. ap (λ (j : ℕ). numbered j (fields_of m)) (sym (eqb-true k 0 e)) ∙ ap (numbered k) (sym (if-true (eqb k 0) _ _ e)))
-    (λ e. ap (numbered k) (sym (if-false (eqb k 0) _ _ e)))
+-- the number of a judgement: 0 where nothing is refused
+abbrev judged_number : Result (Unit {0}) Refusal → ℕ
+judged_number (Ok i) = 0
+judged_number (Err r) = number_of r
+
+verdict-number : (j : Result (Unit {0}) Refusal) (m : Message) → checked_number (verdict j m) ≡ numbered (judged_number j) (when eqb (judged_number j) 0 then fields_of m else [])
+unfolding verdict when◌then◌else◌
+verdict-number (Ok i) m = refl
+verdict-number (Err r) m = rw (ne_eqb (number_of r) 0 (number-some r))
 
 module _ (u : Setup) (s : List ℕ) where
-  earned-true : well_formed s ≡ true → refusal_of u (num 1 6 s) (carried_of (message_of (num 1 5 s) s)) s ≡ earned_by u s
-  unfolding earned_by refusal_of when◌then◌else◌
+  -- the number of what the refusal table says first
+  judged-by : (a b d e : Bool) → judged_number (when a then Err NotForUs else when b then Err PastRoom else when d then Err PastLog else when e then Err NotRising else Ok tt) ≡ (when a then 3 else when b then 4 else when d then 5 else when e then 6 else 0)
+  unfolding when◌then◌else◌
+  judged-by true b d e = refl
+  judged-by false true d e = refl
+  judged-by false false true e = refl
+  judged-by false false false true = refl
+  judged-by false false false false = refl
+
+  earned-true : well_formed s ≡ true → judged_number (refusal_of u (num 1 6 s) (carried_of (message_of (num 1 5 s) s)) s) ≡ earned_by u s
+  unfolding earned_by refusal_of
   earned-true e =
       let w = well-formed s e in
       let j = judges s (num 1 5 s) w.low w.high in
-      rw (e, j.log, j.sender, j.op, j.commit)
+      judged-by _ _ _ _ ∙ sym (if-false (not (well_formed s)) 2 _ (ap not e) ∙ sym (rw (j.log, j.sender, j.op, j.commit)))
 
   earned-false : well_formed s ≡ false → earned_by u s ≡ 2
   unfolding earned_by when◌then◌else◌
@@ -161,18 +174,18 @@ module _ (u : Setup) (s : List ℕ) where
       go true e =
           let w = well-formed s e in
           let m = message_of (num 1 5 s) s in
-          ap (λ (p : Parsed). checked_number (check_parsed u s p)) (accepted s e)
+          ap (λ (p : Result Addressed Refusal). checked_number (check_parsed u s p)) (accepted s e)
           ∙ verdict-number (refusal_of u (num 1 6 s) (carried_of m) s) m
           ∙ ap (λ (k : ℕ). numbered k (when eqb k 0 then fields_of m else [])) (earned-true e)
           ∙ ap (λ (x : List ℕ). numbered (earned_by u s) (when eqb (earned_by u s) 0 then x else [])) (fields-said s (num 1 5 s) w.low w.high)
       go false e =
-          ap (λ (p : Parsed). checked_number (check_parsed u s p)) (malformed-back s e)
+          ap (λ (p : Result Addressed Refusal). checked_number (check_parsed u s p)) (malformed-back s e)
           ∙ ap (λ (k : ℕ). numbered k (when eqb k 0 then fields_in (num 1 5 s) s else [])) (sym (earned-false e))
 
 -- ---- the promises
 
-pub parses : (s : List ℕ) (r : Parsed) → r ≡ parse_frame s → Parses s r
+pub parses : (s : List ℕ) (r : Result Addressed Refusal) → r ≡ parse_frame s → Parses s r
 parses s r e = record { exact = e; number = ap parsed_number e ∙ parsed-number s; points = rw e (parsed-points s) }
 
-pub checks : (u : Setup) (s : List ℕ) (r : Checked) → r ≡ check_frame u s → Checks u s r
+pub checks : (u : Setup) (s : List ℕ) (r : Result Message Refusal) → r ≡ check_frame u s → Checks u s r
 checks u s r e = record { exact = e; number = ap checked_number e ∙ checked-number u s; points = rw e (checked-points u s) }

@@ -3,6 +3,7 @@
 --     parsed-points       a parse
 --     checked-points      a check
 -- Assumes nothing.
+use Rattle.std.specs.Prelude.{Result, Ok, Err}
 use mathlib.Core.Path.{◌≡◌, refl, subst, sym}
 use mathlib.Core.Bool.{Bool, true, false}
 use mathlib.Core.List.{List}
@@ -21,9 +22,9 @@ use Rattle.frames.specs.Refusals.{refusal_of, verdict, check_parsed, check_frame
 use Rattle.frames.specs.Numbered.{parsed_number, parsed_offset, checked_number, checked_offset}
 use Rattle.frames.specs.declared.Message.{Message}
 use Rattle.frames.specs.declared.Carried.{Carried}
-use Rattle.frames.specs.declared.Parsed.{Parsed}
-use Rattle.frames.specs.declared.Checked.{Checked}
-use Rattle.frames.specs.declared.Checked.TheVariants.{Passed, Refused}
+use Rattle.frames.specs.declared.Addressed.{Addressed}
+use Rattle.frames.specs.declared.Refusal.TheVariants.{NotForUs, PastRoom, PastLog, NotRising}
+use Rattle.frames.specs.declared.Refusal.{Refusal}
 use Rattle.frames.proofs.BodyLaws.{frame-rules}
 use Rattle.frames.proofs.MessageLaws.{accepted, malformed-back}
 
@@ -36,7 +37,7 @@ unfolding offset_of
 wrong-points s = points well_formed s frame_rule frame-rules
 
 -- a parse
-abbrev ParsedPoints : List ℕ → Parsed → Type 0
+abbrev ParsedPoints : List ℕ → Result Addressed Refusal → Type 0
 ParsedPoints s p = Points well_formed s (parsed_number p).number (parsed_offset p)
 
 pub parsed-points : (s : List ℕ) → Points well_formed s (parsed_number (parse_frame s)).number (parsed_offset (parse_frame s))
@@ -47,22 +48,18 @@ parsed-points s = go (well_formed s) refl
     go false e = subst (ParsedPoints s) (sym (malformed-back s e)) (wrong-points s)
 
 -- a check
-abbrev CheckedPoints : List ℕ → Checked → Type 0
+abbrev CheckedPoints : List ℕ → Result Message Refusal → Type 0
 CheckedPoints s p = Points well_formed s (checked_number p).number (checked_offset p)
 
 -- refusals 3 to 6 are others
-other-number : (u : Setup) (to : ℕ) (x : Carried) (s : List ℕ) → refusal_of u to x s ≡ 2 → ⊥
-unfolding refusal_of
-other-number u to x s =
-    split (λ (k : ℕ). k ≡ 2 → ⊥) _ 3 _ (λ b q. omega (arith, q)) (λ b.
-    split (λ (k : ℕ). k ≡ 2 → ⊥) _ 4 _ (λ b q. omega (arith, q)) (λ b.
-    split (λ (k : ℕ). k ≡ 2 → ⊥) _ 5 _ (λ b q. omega (arith, q)) (λ b.
-    split (λ (k : ℕ). k ≡ 2 → ⊥) _ 6 0 (λ b q. omega (arith, q)) (λ b q. omega (arith, q)))))
-
-verdict-points : (s : List ℕ) (k : ℕ) (m : Message) → (k ≡ 2 → ⊥) → CheckedPoints s (verdict k m)
-unfolding verdict
-verdict-points s k m h =
-    split (CheckedPoints s) (eqb k 0) (Passed m) (Refused k 0) (λ _. other-points s 0 (λ q. omega (arith, q))) (λ _. other-points s k h)
+judged-points : (u : Setup) (to : ℕ) (x : Carried) (s : List ℕ) (m : Message) → CheckedPoints s (verdict (refusal_of u to x s) m)
+unfolding refusal_of verdict
+judged-points u to x s m =
+    let P : Result (Unit {0}) Refusal → Type 0 = λ j. CheckedPoints s (verdict j m) in
+    split P _ (Err NotForUs) _ (λ b. other-points s 3 (λ q. omega (arith, q))) (λ b.
+    split P _ (Err PastRoom) _ (λ b. other-points s 4 (λ q. omega (arith, q))) (λ b.
+    split P _ (Err PastLog) _ (λ b. other-points s 5 (λ q. omega (arith, q))) (λ b.
+    split P _ (Err NotRising) (Ok tt) (λ b. other-points s 6 (λ q. omega (arith, q))) (λ b. other-points s 0 (λ q. omega (arith, q))))))
 
 pub checked-points : (u : Setup) (s : List ℕ) → Points well_formed s (checked_number (check_frame u s)).number (checked_offset (check_frame u s))
 unfolding check_frame check_parsed
@@ -71,6 +68,6 @@ checked-points u s = go (well_formed s) refl
     go : (b : Bool) → well_formed s ≡ b → CheckedPoints s (check_parsed u s (parse_frame s))
     go true e =
         let m = message_of (num 1 5 s) s in
-        subst (λ (p : Parsed). CheckedPoints s (check_parsed u s p)) (sym (accepted s e))
-        (verdict-points s (refusal_of u (num 1 6 s) (carried_of m) s) m (other-number u (num 1 6 s) (carried_of m) s))
-    go false e = subst (λ (p : Parsed). CheckedPoints s (check_parsed u s p)) (sym (malformed-back s e)) (wrong-points s)
+        subst (λ (p : Result Addressed Refusal). CheckedPoints s (check_parsed u s p)) (sym (accepted s e))
+        (judged-points u (num 1 6 s) (carried_of m) s m)
+    go false e = subst (λ (p : Result Addressed Refusal). CheckedPoints s (check_parsed u s p)) (sym (malformed-back s e)) (wrong-points s)

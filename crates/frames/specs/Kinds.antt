@@ -1,9 +1,30 @@
 -- Document 01, "Frames", and refusal 2 on a frame. A frame: length (4 bytes, of what follows), version 1, kind, addressee, fields.
 -- All places are counted from the frame's first byte. Assumes nothing.
-use Rattle.std.specs.Prelude.{Bool, true, List, [], ◌∷◌, ℕ, ◌+◌, ◌-◌, ◌*◌, leb, eqb, length, get_or, drop}
+use Rattle.std.specs.Prelude.{◌≡◌, Bool, true, false, Option, Some, None, List, [], ◌∷◌, ℕ, ◌+◌, ◌-◌, ◌*◌, leb, eqb, length, get_or, drop}
 use Rattle.numbers.specs.Words.{when◌then◌else◌, ◌and◌}
 use Rattle.numbers.specs.Numbers.{num, within}
 use Rattle.entries.specs.Entries.{entries_ok}
+use Rattle.frames.specs.declared.Kind.{Kind}
+use Rattle.frames.specs.declared.Kind.TheVariants.{Request, Prepare, PrepareOk, Commit, GetState, NewState, StartViewChange, DoViewChange, StartView, Recovery, RecoveryResponse}
+
+-- the number of each kind
+abbrev pub kind_number : Kind → ℕ
+kind_number Request = 1
+kind_number Prepare = 2
+kind_number PrepareOk = 3
+kind_number Commit = 4
+kind_number GetState = 5
+kind_number NewState = 6
+kind_number StartViewChange = 7
+kind_number DoViewChange = 8
+kind_number StartView = 9
+kind_number Recovery = 10
+kind_number RecoveryResponse = 11
+
+-- where a test is passed the kind that has number k, where it isn't none
+abbrev pub KindIf : (test : Bool) (k : ℕ) → Option Kind → Type 0
+KindIf b k None = b ≡ false
+KindIf b k (Some kind) = (b ≡ true) × (kind_number kind ≡ k)
 
 -- the kind that a frame names
 abbrev pub kind_of : List ℕ → ℕ

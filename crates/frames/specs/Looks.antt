@@ -3,6 +3,8 @@
 use Rattle.std.specs.Prelude.{Bool, ℕ, eqb}
 use Rattle.numbers.specs.Words.{◌or◌}
 use Rattle.numbers.specs.Numbers.{within}
+use Rattle.frames.specs.Kinds.{kind_number}
+use Rattle.frames.specs.declared.Kind.{Kind}
 use Rattle.frames.specs.declared.Status.{Status}
 use Rattle.frames.specs.declared.Status.TheVariants.{Normal, StateTransfer, ViewChange, Recovering}
 
@@ -13,12 +15,12 @@ status_number StateTransfer = 1
 status_number ViewChange = 2
 status_number Recovering = 3
 
-unfoldable pub changing : ℕ → Bool
-changing k = eqb k 2 or eqb k 4 or within 6 10 k
+unfoldable pub changing : Kind → Bool
+changing k = eqb (kind_number k) 2 or eqb (kind_number k) 4 or within 6 10 (kind_number k)
 
--- whether a status looks at kind k, 1 to 11
-unfoldable pub looks_at : Status → ℕ → Bool
-looks_at Normal k = within 1 10 k
+-- whether a status looks at a kind
+unfoldable pub looks_at : Status → Kind → Bool
+looks_at Normal k = within 1 10 (kind_number k)
 looks_at StateTransfer k = changing k
 looks_at ViewChange k = changing k
-looks_at Recovering k = eqb k 11
+looks_at Recovering k = eqb (kind_number k) 11

@@ -1,23 +1,29 @@
 -- Document 01, "Frames": what a well-formed frame says, and what its numbers are for the refusals that follow. The carried log is no part
 -- of the message: it stays in the frame, from `start` on. Assumes nothing.
-use Rattle.std.specs.Prelude.{List, ℕ, eqb, drop}
+use Rattle.std.specs.Prelude.{List, ℕ, eqb, drop, Option, Some, None, Result, Ok, Err}
 use Rattle.numbers.specs.Words.{when◌then◌else◌}
 use Rattle.numbers.specs.Numbers.{num, view_at, op_at}
 use Rattle.numbers.specs.declared.Op.{Op}
 use Rattle.entries.specs.Entries.{entry_of}
-use Rattle.frames.specs.Kinds.{kind_of, fields_end, response_mark, state_end, well_formed}
+use Rattle.frames.specs.Kinds.{kind_number, kind_of, fields_end, response_mark, state_end, well_formed}
 use Rattle.frames.specs.FrameRules.{offset_of}
-use Rattle.frames.specs.declared.RecoveryState.{RecoveryState}
-use Rattle.frames.specs.declared.RecoveryState.TheVariants.{Absent, Present}
+use Rattle.frames.specs.declared.Kind.{Kind}
+use Rattle.frames.specs.declared.Kind.TheVariants as kind
+use Rattle.frames.specs.declared.Progress.{Progress}
 use Rattle.frames.specs.declared.Message.{Message}
 use Rattle.frames.specs.declared.Message.TheVariants.{Request, Prepare, PrepareOk, Commit, GetState, NewState, StartViewChange, DoViewChange, StartView, Recovery, RecoveryResponse}
 use Rattle.frames.specs.declared.Carried.{Carried}
-use Rattle.frames.specs.declared.Parsed.{Parsed}
-use Rattle.frames.specs.declared.Parsed.TheVariants.{Frame, Malformed}
+use Rattle.frames.specs.declared.Addressed.{Addressed}
+use Rattle.frames.specs.declared.Refusal.{Refusal}
+use Rattle.frames.specs.declared.Refusal.TheVariants.{Malformed}
+
+-- how far a log has come
+abbrev pub progress : (o c : Op) → Progress
+progress o c = record { op = o; commit = c }
 
 -- the end of a RecoveryResponse: 0, or 1 o c
-unfoldable pub response_state : List ℕ → RecoveryState
-response_state s = when eqb (response_mark s) 1 then Present (op_at 21 s) (op_at 25 s) else Absent
+unfoldable pub response_state : List ℕ → Option Progress
+response_state s = when eqb (response_mark s) 1 then Some (progress (op_at 21 s) (op_at 25 s)) else None
 
 -- the message of a frame of kind k
 unfoldable pub message_of : ℕ → List ℕ → Message
@@ -34,37 +40,40 @@ message_of k s =
     when eqb k 10 then Recovery (num 1 7 s) (num 8 8 s) (view_at 16 s) else
     RecoveryResponse (view_at 7 s) (num 8 11 s) (num 1 19 s) (response_state s)
 
+abbrev pub addressed : (to : ℕ) → Message → Addressed
+addressed to m = record { to = to; message = m }
+
 -- addressee and message, or refusal 2 with the offset of the first wrong byte
-unfoldable pub parse_frame : List ℕ → Parsed
-parse_frame s = when well_formed s then Frame (num 1 6 s) (message_of (kind_of s) s) else Malformed (offset_of s)
+unfoldable pub parse_frame : List ℕ → Result Addressed Refusal
+parse_frame s = when well_formed s then Ok (addressed (num 1 6 s) (message_of (kind_of s) s)) else Err (Malformed (offset_of s))
 
 abbrev pub no_op : Op
 no_op = record { 0 = 0 }
 
 -- a kind_row by the table of kinds
-abbrev pub kind_row : (kind sender : ℕ) (op commit : Op) (whole : ℕ) → Carried
-kind_row k r o c n = record { kind = k; sender = r; op = o; commit = c; start = fields_end k; whole = n }
+abbrev pub kind_row : (kind : Kind) (sender : ℕ) (op commit : Op) (whole : ℕ) → Carried
+kind_row k r o c n = record { kind = k; sender = r; op = o; commit = c; start = fields_end (kind_number k); whole = n }
 
 -- the kind_row of a RecoveryResponse, without and with a log
-unfoldable pub state_row : ℕ → RecoveryState → Carried
-state_row r Absent = kind_row 11 r no_op no_op 0
-state_row r (Present o c) = record { kind = 11; sender = r; op = o; commit = c; start = state_end; whole = o.0 }
+unfoldable pub state_row : ℕ → Option Progress → Carried
+state_row r None = kind_row kind.RecoveryResponse r no_op no_op 0
+state_row r (Some p) = record { kind = kind.RecoveryResponse; sender = r; op = p.op; commit = p.commit; start = state_end; whole = p.op.0 }
 
--- One kind_row a kind, for what is judged of a frame alone. Columns: the document's number of the kind; the sender, 0 where the kind names none
+-- One kind_row a kind, for what is judged of a frame alone. Columns: the kind; the sender, 0 where the kind names none
 -- (0 is below every n); the carried o, or end, that L bounds, 0 where there is none; the carried c that this bounds, of kinds 6, 8, 9 and
 -- 11 only (a Prepare's and a Commit's c are bounded by nothing); how many entries a whole carried log has (a NewState carries a part of
 -- one). From `start` on the frame has its entries, of every kind: a carried log, or the one entry of a Request or Prepare, or nothing.
 unfoldable pub carried_of : Message → Carried
-carried_of (Request e) = kind_row 1 0 no_op no_op 0
-carried_of (Prepare v o c e) = kind_row 2 0 o no_op 0
-carried_of (PrepareOk v o r) = kind_row 3 r o no_op 0
-carried_of (Commit v c) = kind_row 4 0 no_op no_op 0
-carried_of (GetState r v o) = kind_row 5 r o no_op 0
-carried_of (NewState v a z c) = kind_row 6 0 z c 0
-carried_of (StartViewChange v r) = kind_row 7 r no_op no_op 0
-carried_of (DoViewChange v r l o c) = kind_row 8 r o c o.0
-carried_of (StartView v o c) = kind_row 9 0 o c o.0
-carried_of (Recovery r x v) = kind_row 10 r no_op no_op 0
+carried_of (Request e) = kind_row kind.Request 0 no_op no_op 0
+carried_of (Prepare v o c e) = kind_row kind.Prepare 0 o no_op 0
+carried_of (PrepareOk v o r) = kind_row kind.PrepareOk r o no_op 0
+carried_of (Commit v c) = kind_row kind.Commit 0 no_op no_op 0
+carried_of (GetState r v o) = kind_row kind.GetState r o no_op 0
+carried_of (NewState v a z c) = kind_row kind.NewState 0 z c 0
+carried_of (StartViewChange v r) = kind_row kind.StartViewChange r no_op no_op 0
+carried_of (DoViewChange v r l o c) = kind_row kind.DoViewChange r o c o.0
+carried_of (StartView v o c) = kind_row kind.StartView 0 o c o.0
+carried_of (Recovery r x v) = kind_row kind.Recovery r no_op no_op 0
 carried_of (RecoveryResponse v x r t) = state_row r t
 
 -- the entries of a message's frame, as bytes: all that follows its fields

@@ -1,7 +1,7 @@
 -- Document 01, "Form by location": for each answer that is an enum, the document's number and values for each of the enum's cases. Of a message the values are
 -- its kind and its fields, in the order of the frame table; of an entry its client, request, operation, member and cents. What number and values a frame
 -- earns is said here from its bytes alone, by the frame table and the refusal table; the contracts promise both. Assumes nothing.
-use Rattle.std.specs.Prelude.{◌≡◌, not, List, [], ◌∷◌, ◌++◌, ℕ, ◌+◌, eqb, leb, ltb, drop}
+use Rattle.std.specs.Prelude.{◌≡◌, not, List, [], ◌∷◌, ◌++◌, ℕ, ◌+◌, eqb, leb, ltb, drop, Option, Some, None, Result, Ok, Err}
 use Rattle.numbers.specs.Words.{when◌then◌else◌, ◌or◌}
 use Rattle.numbers.specs.Numbers.{num}
 use Rattle.entries.specs.Entries.{entries}
@@ -11,15 +11,12 @@ use Rattle.config.specs.declared.Setup.{Setup}
 use Rattle.offsets.specs.Offsets.{Points}
 use Rattle.frames.specs.Kinds.{kind_of, response_mark, room_of, count_of, well_formed}
 use Rattle.frames.specs.Messages.{parse_frame}
-use Rattle.frames.specs.Refusals.{check_frame}
-use Rattle.frames.specs.declared.RecoveryState.{RecoveryState}
-use Rattle.frames.specs.declared.RecoveryState.TheVariants.{Absent, Present}
+use Rattle.frames.specs.Refusals.{number_of, offset_with, check_frame}
+use Rattle.frames.specs.declared.Progress.{Progress}
 use Rattle.frames.specs.declared.Message.{Message}
 use Rattle.frames.specs.declared.Message.TheVariants.{Request, Prepare, PrepareOk, Commit, GetState, NewState, StartViewChange, DoViewChange, StartView, Recovery, RecoveryResponse}
-use Rattle.frames.specs.declared.Parsed.{Parsed}
-use Rattle.frames.specs.declared.Parsed.TheVariants.{Frame, Malformed}
-use Rattle.frames.specs.declared.Checked.{Checked}
-use Rattle.frames.specs.declared.Checked.TheVariants.{Passed, Refused}
+use Rattle.frames.specs.declared.Addressed.{Addressed}
+use Rattle.frames.specs.declared.Refusal.{Refusal}
 
 -- an answer as the document's number and the values that come with it
 pub record Numbered : Type 0 where
@@ -35,9 +32,9 @@ abbrev pub entry_values : Entry → List ℕ
 entry_values e = e.client ∷ e.request ∷ e.operation ∷ e.member ∷ e.cents ∷ []
 
 -- 0, or 1 o c
-unfoldable pub state_values : RecoveryState → List ℕ
-state_values Absent = 0 ∷ []
-state_values (Present o c) = 1 ∷ o.0 ∷ c.0 ∷ []
+unfoldable pub state_values : Option Progress → List ℕ
+state_values None = 0 ∷ []
+state_values (Some p) = 1 ∷ p.op.0 ∷ p.commit.0 ∷ []
 
 -- the kind and the fields
 unfoldable pub fields_of : Message → List ℕ
@@ -54,23 +51,23 @@ fields_of (Recovery r x v) = 10 ∷ r ∷ x ∷ v.0 ∷ []
 fields_of (RecoveryResponse v x r t) = 11 ∷ v.0 ∷ x ∷ r ∷ state_values t
 
 -- 0 with the addressee and the message, or refusal 2
-abbrev pub parsed_number : Parsed → Numbered
-parsed_number (Frame to m) = numbered 0 (to ∷ fields_of m)
-parsed_number (Malformed p) = numbered 2 []
+abbrev pub parsed_number : Result Addressed Refusal → Numbered
+parsed_number (Ok f) = numbered 0 (f.to ∷ fields_of f.message)
+parsed_number (Err r) = numbered (number_of r) []
 
 -- 0 with the message, or the refusal
-abbrev pub checked_number : Checked → Numbered
-checked_number (Passed m) = numbered 0 (fields_of m)
-checked_number (Refused k p) = numbered k []
+abbrev pub checked_number : Result Message Refusal → Numbered
+checked_number (Ok m) = numbered 0 (fields_of m)
+checked_number (Err r) = numbered (number_of r) []
 
 -- the offset that comes with it
-abbrev pub parsed_offset : Parsed → ℕ
-parsed_offset (Frame to m) = 0
-parsed_offset (Malformed p) = p
+abbrev pub parsed_offset : Result Addressed Refusal → ℕ
+parsed_offset (Ok f) = 0
+parsed_offset (Err r) = offset_with r
 
-abbrev pub checked_offset : Checked → ℕ
-checked_offset (Passed m) = 0
-checked_offset (Refused k p) = p
+abbrev pub checked_offset : Result Message Refusal → ℕ
+checked_offset (Ok m) = 0
+checked_offset (Err r) = offset_with r
 
 -- ---- by the frame's bytes
 
@@ -149,12 +146,12 @@ check_numbers u s = numbered (earned_by u s) (when eqb (earned_by u s) 0 then fi
 
 -- ---- what `parse` and `check` promise: the enum, its number and values, and where a malformed frame is wrong
 
-pub record Parses (s : List ℕ) (r : Parsed) : Type 0 where
+pub record Parses (s : List ℕ) (r : Result Addressed Refusal) : Type 0 where
   pub exact : r ≡ parse_frame s
   pub number : parsed_number r ≡ parse_numbers s
   pub points : Points well_formed s (parsed_number r).number (parsed_offset r)
 
-pub record Checks (u : Setup) (s : List ℕ) (r : Checked) : Type 0 where
+pub record Checks (u : Setup) (s : List ℕ) (r : Result Message Refusal) : Type 0 where
   pub exact : r ≡ check_frame u s
   pub number : checked_number r ≡ check_numbers u s
   pub points : Points well_formed s (checked_number r).number (checked_offset r)

@@ -3,46 +3,43 @@ ghost use Rattle.std.specs.Prelude.{◌≡◌, ◌+◌, ◌*◌, ◌≤◌, ◌<
 ghost use Rattle.numbers.specs.Words.{◌and◌};
 ghost use Rattle.entries.specs.Entries.{entry_ok};
 ghost use Rattle.offsets.specs.Rules.{end, reach};
+ghost use Rattle.frames.specs.Kinds.{kind_number, KindIf};
 ghost use Rattle.frames.specs.FrameRules.{carries_log, entries_from, count_for, fits, some_fits, cents_rule, entry_rule, entries_rule, log_rule, part_rule, state_rule, bound_from, bound_rule, body_rule, offset_of};
 
-use crate::shape;
+use crate::{Kind, shape};
 
-// Kinds 6, 8, 9 and 11 carry a log.
-fn carries_log(kind: u8) -> bool
-    ensures { result ≡ carries_log kind }
+fn carries_log(kind: Kind) -> bool
+    ensures { result ≡ carries_log (kind_number kind) }
 {
     match kind {
-        6 => true,
-        8 => true,
-        9 => true,
-        11 => true,
+        Kind::NewState => true,
+        Kind::DoViewChange => true,
+        Kind::StartView => true,
+        Kind::RecoveryResponse => true,
         _ => false,
     }
 }
 
 // How many bytes stand before the entries in a frame of this kind whose length is n.
-fn entries_from(kind: u8, n: u32) -> usize
-    requires { kind ≤ 11 }
-    ensures { result ≡ entries_from kind n }
+fn entries_from(kind: Kind, n: u32) -> usize
+    ensures { (result ≡ entries_from (kind_number kind) n) × (result ≤ 29) }
 {
-    if kind == 11 {
-        if n == 17 {
-            return shape::fields_end(11);
+    if kind == Kind::RecoveryResponse {
+        if n != 17 {
+            return shape::STATE_END;
         }
-        return shape::STATE_END;
     }
     shape::fields_end(kind)
 }
 
 // How many entries it has.
-fn count_for(kind: u8, n: u32) -> usize
-    requires { kind ≤ 11 }
-    ensures { (result ≡ count_for kind n) × (result < 4294967296) }
+fn count_for(kind: Kind, n: u32) -> usize
+    ensures { (result ≡ count_for (kind_number kind) n) × (result < 4294967296) }
 {
-    if kind == 1 {
+    if kind == Kind::Request {
         return 1;
     }
-    if kind == 2 {
+    if kind == Kind::Prepare {
         return 1;
     }
     if !carries_log(kind) {
@@ -57,25 +54,31 @@ fn count_for(kind: u8, n: u32) -> usize
 }
 
 // Whether a frame of this length can be of this kind.
-fn fits(n: u32, kind: u8) -> bool
-    ensures { result ≡ fits n kind }
+fn fits(n: u32, kind: Kind) -> bool
+    ensures { result ≡ fits n (kind_number kind) }
 {
-    if !numbers::within(1, 11, kind as u64) {
-        return false;
-    }
     n as usize + 4 == entries_from(kind, n) + 32 * count_for(kind, n)
+}
+
+// The kind that has this number, where a frame of this length can be of it.
+fn fitting(n: u32, k: u8) -> Option<Kind>
+    ensures { KindIf (fits n k) k result }
+{
+    let kind = Kind::of_number(k)?;
+    if !fits(n, kind) {
+        return None;
+    }
+    Some(kind)
 }
 
 // Whether it can be of any kind.
 fn some_fits(n: u32) -> bool
     ensures { result ≡ some_fits 11 n }
 {
-    let mut k: u8 = 11;
-    while 0 < k {
-        if fits(n, k) {
+    for k in 1..12 {
+        if fitting(n, k).is_some() {
             return true;
         }
-        k -= 1;
     }
     false
 }
@@ -139,17 +142,14 @@ fn entries(s: &[u8], at: usize, count: usize) -> usize
     requires { at ≤ length s.now }
     ensures { result ≡ at + reach (entries_rule count) (drop at s.now) }
 {
-    let mut p = at;
-    let mut i = 0;
-    while i < count {
+    for i in 0..count {
+        let p = at + 32 * i;
         let q = entry(s, p);
         if q - p < 32 {
             return q;
         }
-        p = q;
-        i += 1;
     }
-    p
+    at + 32 * count
 }
 
 // o, the commit number, the entries.
@@ -205,38 +205,37 @@ fn from_mark(s: &[u8], at: usize, n: u32, count: usize) -> usize
 }
 
 // Where the first field of a kind stands that isn't free.
-fn bound_from(kind: u8) -> usize
-    requires { (1 ≤ kind) × (kind ≤ 11) }
-    ensures { (result ≡ bound_from kind) × (6 ≤ result) }
+fn bound_from(kind: Kind) -> usize
+    ensures { (result ≡ bound_from (kind_number kind)) × (6 ≤ result) }
 {
     match kind {
-        6 => 11,
-        8 => 16,
-        9 => 11,
-        11 => 20,
+        Kind::NewState => 11,
+        Kind::DoViewChange => 16,
+        Kind::StartView => 11,
+        Kind::RecoveryResponse => 20,
         _ => shape::fields_end(kind),
     }
 }
 
 // From there on.
-fn bound(s: &[u8], at: usize, kind: u8, n: u32) -> usize
-    requires { (at ≤ length s.now) × (kind ≤ 11) }
-    ensures { result ≡ at + reach (bound_rule n kind) (drop at s.now) }
+fn bound(s: &[u8], at: usize, kind: Kind, n: u32) -> usize
+    requires { at ≤ length s.now }
+    ensures { result ≡ at + reach (bound_rule n (kind_number kind)) (drop at s.now) }
 {
     let count = count_for(kind, n);
     match kind {
-        6 => part(s, at, count),
-        8 => log(s, at, count),
-        9 => log(s, at, count),
-        11 => from_mark(s, at, n, count),
+        Kind::NewState => part(s, at, count),
+        Kind::DoViewChange => log(s, at, count),
+        Kind::StartView => log(s, at, count),
+        Kind::RecoveryResponse => from_mark(s, at, n, count),
         _ => entries(s, at, count),
     }
 }
 
 // From the addressee on.
-fn body(s: &[u8], kind: u8, n: u32) -> usize
-    requires { (6 ≤ length s.now) × ((1 ≤ kind) × (kind ≤ 11)) }
-    ensures { result ≡ 6 + reach (body_rule n kind) (drop 6 s.now) }
+fn body(s: &[u8], kind: Kind, n: u32) -> usize
+    requires { 6 ≤ length s.now }
+    ensures { result ≡ 6 + reach (body_rule n (kind_number kind)) (drop 6 s.now) }
 {
     let at = bound_from(kind);
     let p = offsets::free(s, 6, at - 6);
@@ -261,15 +260,15 @@ pub fn offset(frame: &[u8]) -> usize
     if !some_fits(n) {
         return 3;
     }
-    let kind = offsets::number(frame, 4, 1, 1, 1);
-    if kind == 4 {
+    let at = offsets::number(frame, 4, 1, 1, 1);
+    if at == 4 {
         return 4;
     }
     if frame.len() < 6 {
         return 5;
     }
-    if !fits(n, crate::kind_of(frame)) {
+    let Some(kind) = fitting(n, crate::kind_of(frame)) else {
         return 5;
-    }
-    body(frame, crate::kind_of(frame), n)
+    };
+    body(frame, kind, n)
 }

@@ -1,12 +1,11 @@
 // The numbers of a message that are judged on the frame alone.
-ghost use Rattle.std.specs.Prelude.{◌≡◌, ◌≤◌};
+ghost use Rattle.std.specs.Prelude.{◌≡◌};
 ghost use Rattle.frames.specs.Messages.{kind_row, state_row, carried_of};
 
-use crate::{Carried, Message, RecoveryState, shape};
+use crate::{Carried, Kind, Message, Progress, shape};
 use numbers::Op;
 
-fn row(kind: u8, sender: u8, op: Op, commit: Op, whole: u32) -> Carried
-    requires { kind ≤ 11 }
+fn row(kind: Kind, sender: u8, op: Op, commit: Op, whole: u32) -> Carried
     ensures { result ≡ kind_row kind sender op commit whole }
 {
     Carried {
@@ -19,13 +18,13 @@ fn row(kind: u8, sender: u8, op: Op, commit: Op, whole: u32) -> Carried
     }
 }
 
-fn response(sender: u8, state: RecoveryState) -> Carried
+fn response(sender: u8, state: Option<Progress>) -> Carried
     ensures { result ≡ state_row sender state }
 {
     match state {
-        RecoveryState::Absent => row(11, sender, Op(0), Op(0), 0),
-        RecoveryState::Present { op, commit } => Carried {
-            kind: 11,
+        None => row(Kind::RecoveryResponse, sender, Op(0), Op(0), 0),
+        Some(Progress { op, commit }) => Carried {
+            kind: Kind::RecoveryResponse,
             sender,
             op,
             commit,
@@ -39,21 +38,21 @@ pub fn carried(m: Message) -> Carried
     ensures { result ≡ carried_of m }
 {
     match m {
-        Message::Request { .. } => row(1, 0, Op(0), Op(0), 0),
-        Message::Prepare { op, .. } => row(2, 0, op, Op(0), 0),
-        Message::PrepareOk { op, from, .. } => row(3, from, op, Op(0), 0),
-        Message::Commit { .. } => row(4, 0, Op(0), Op(0), 0),
-        Message::GetState { from, op, .. } => row(5, from, op, Op(0), 0),
-        Message::NewState { end, commit, .. } => row(6, 0, end, commit, 0),
-        Message::StartViewChange { from, .. } => row(7, from, Op(0), Op(0), 0),
+        Message::Request { .. } => row(Kind::Request, 0, Op(0), Op(0), 0),
+        Message::Prepare { op, .. } => row(Kind::Prepare, 0, op, Op(0), 0),
+        Message::PrepareOk { op, from, .. } => row(Kind::PrepareOk, from, op, Op(0), 0),
+        Message::Commit { .. } => row(Kind::Commit, 0, Op(0), Op(0), 0),
+        Message::GetState { from, op, .. } => row(Kind::GetState, from, op, Op(0), 0),
+        Message::NewState { end, commit, .. } => row(Kind::NewState, 0, end, commit, 0),
+        Message::StartViewChange { from, .. } => row(Kind::StartViewChange, from, Op(0), Op(0), 0),
         Message::DoViewChange {
             from,
             op,
             commit,
             ..
-        } => row(8, from, op, commit, op.0),
-        Message::StartView { op, commit, .. } => row(9, 0, op, commit, op.0),
-        Message::Recovery { from, .. } => row(10, from, Op(0), Op(0), 0),
+        } => row(Kind::DoViewChange, from, op, commit, op.0),
+        Message::StartView { op, commit, .. } => row(Kind::StartView, 0, op, commit, op.0),
+        Message::Recovery { from, .. } => row(Kind::Recovery, from, Op(0), Op(0), 0),
         Message::RecoveryResponse { from, state, .. } => response(from, state),
     }
 }

@@ -2,10 +2,10 @@
 ghost use Rattle.std.specs.Prelude.{◌≡◌, ◌+◌, ◌*◌, ◌≤◌, length, drop};
 ghost use Rattle.numbers.specs.Numbers.{num, view_at, op_at};
 ghost use Rattle.entries.specs.Entries.{entry_of};
-ghost use Rattle.frames.specs.Kinds.{fields_end, room_of, count_of};
+ghost use Rattle.frames.specs.Kinds.{kind_number, fields_end, room_of, count_of};
 ghost use Rattle.frames.specs.Messages.{response_state, message_of};
 
-use crate::{Message, RecoveryState};
+use crate::{Kind, Message, Progress};
 
 fn request(frame: &[u8]) -> Message
     requires { fields_end 1 + 32 ≤ length frame.now }
@@ -117,17 +117,17 @@ fn recovery(frame: &[u8]) -> Message
     }
 }
 
-fn state(frame: &[u8]) -> RecoveryState
+fn state(frame: &[u8]) -> Option<Progress>
     requires { room_of 11 frame.now ≤ length frame.now }
     ensures { result ≡ response_state frame.now }
 {
     if numbers::read_u8(frame, 20) == 1 {
-        return RecoveryState::Present {
+        return Some(Progress {
             op: numbers::read_op(frame, 21),
             commit: numbers::read_op(frame, 25),
-        };
+        });
     }
-    RecoveryState::Absent
+    None
 }
 
 fn recovery_response(frame: &[u8]) -> Message
@@ -143,21 +143,21 @@ fn recovery_response(frame: &[u8]) -> Message
 }
 
 // The message of a well-formed frame of this kind.
-pub fn said(frame: &[u8], kind: u8) -> Message
-    requires { (1 ≤ kind) × ((kind ≤ 11) × (room_of kind frame.now + 32 * count_of kind frame.now ≤ length frame.now)) }
-    ensures { result ≡ message_of kind frame.now }
+pub fn said(frame: &[u8], kind: Kind) -> Message
+    requires { room_of (kind_number kind) frame.now + 32 * count_of (kind_number kind) frame.now ≤ length frame.now }
+    ensures { result ≡ message_of (kind_number kind) frame.now }
 {
     match kind {
-        1 => request(frame),
-        2 => prepare(frame),
-        3 => prepare_ok(frame),
-        4 => commit(frame),
-        5 => get_state(frame),
-        6 => new_state(frame),
-        7 => start_view_change(frame),
-        8 => do_view_change(frame),
-        9 => start_view(frame),
-        10 => recovery(frame),
-        _ => recovery_response(frame),
+        Kind::Request => request(frame),
+        Kind::Prepare => prepare(frame),
+        Kind::PrepareOk => prepare_ok(frame),
+        Kind::Commit => commit(frame),
+        Kind::GetState => get_state(frame),
+        Kind::NewState => new_state(frame),
+        Kind::StartViewChange => start_view_change(frame),
+        Kind::DoViewChange => do_view_change(frame),
+        Kind::StartView => start_view(frame),
+        Kind::Recovery => recovery(frame),
+        Kind::RecoveryResponse => recovery_response(frame),
     }
 }

@@ -2,42 +2,51 @@
 ghost use Rattle.std.specs.Prelude.{◌≡◌, true, ◌+◌, ◌-◌, ◌≤◌, eqb, length};
 ghost use Rattle.numbers.specs.Words.{when◌then◌else◌};
 ghost use Rattle.numbers.specs.Numbers.{num};
-ghost use Rattle.frames.specs.Kinds.{fields_end, response_mark, state_end, room_of, fields_ok, count_of, head_ok, body_ok, well_formed};
+ghost use Rattle.frames.specs.Kinds.{kind_number, KindIf, kind_of, fields_end, response_mark, state_end, room_of, fields_ok, count_of, head_ok, body_ok, well_formed};
 
-// By kind, where the fields end and the entries begin; of kind 11 without a log.
-const FIELDS_END: [usize; 12] = [0, 7, 19, 16, 15, 16, 23, 12, 24, 19, 20, 21];
+use crate::Kind;
 
-// Of kind 11 with a log.
+// Where the fields of a RecoveryResponse end with a log.
 pub const STATE_END: usize = 29;
 
-pub fn fields_end(kind: u8) -> usize
-    requires { kind ≤ 11 }
-    ensures { result ≡ fields_end kind }
+// Where the fields end and the entries begin; of a RecoveryResponse without a log.
+pub fn fields_end(kind: Kind) -> usize
+    ensures { result ≡ fields_end (kind_number kind) }
 {
-    let k = kind as usize;
-    FIELDS_END[k]
+    match kind {
+        Kind::Request => 7,
+        Kind::Prepare => 19,
+        Kind::PrepareOk => 16,
+        Kind::Commit => 15,
+        Kind::GetState => 16,
+        Kind::NewState => 23,
+        Kind::StartViewChange => 12,
+        Kind::DoViewChange => 24,
+        Kind::StartView => 19,
+        Kind::Recovery => 20,
+        Kind::RecoveryResponse => 21,
+    }
 }
 
-fn room(frame: &[u8], kind: u8) -> usize
-    requires { (kind ≤ 11) × (fields_end kind ≤ length frame.now) }
-    ensures { result ≡ room_of kind frame.now }
+fn room(frame: &[u8], kind: Kind) -> usize
+    requires { fields_end (kind_number kind) ≤ length frame.now }
+    ensures { result ≡ room_of (kind_number kind) frame.now }
 {
-    if kind == 11 {
+    if kind == Kind::RecoveryResponse {
         if numbers::read_u8(frame, 20) == 1 {
             return STATE_END;
         }
-        return fields_end(11);
     }
     fields_end(kind)
 }
 
-fn fields_ok(frame: &[u8], kind: u8) -> bool
-    requires { fields_end kind ≤ length frame.now }
-    ensures { result ≡ fields_ok kind frame.now }
+fn fields_ok(frame: &[u8], kind: Kind) -> bool
+    requires { fields_end (kind_number kind) ≤ length frame.now }
+    ensures { result ≡ fields_ok (kind_number kind) frame.now }
 {
     match kind {
-        6 => numbers::read_u32(frame, 11) <= numbers::read_u32(frame, 15),
-        11 => numbers::read_u8(frame, 20) <= 1,
+        Kind::NewState => numbers::read_u32(frame, 11) <= numbers::read_u32(frame, 15),
+        Kind::RecoveryResponse => numbers::read_u8(frame, 20) <= 1,
         _ => true,
     }
 }
@@ -59,17 +68,17 @@ fn count_response(frame: &[u8]) -> u32
     0
 }
 
-fn count(frame: &[u8], kind: u8) -> u32
-    requires { (room_of kind frame.now ≤ length frame.now) × (fields_ok kind frame.now ≡ true) }
-    ensures { result ≡ count_of kind frame.now }
+fn count(frame: &[u8], kind: Kind) -> u32
+    requires { (room_of (kind_number kind) frame.now ≤ length frame.now) × (fields_ok (kind_number kind) frame.now ≡ true) }
+    ensures { result ≡ count_of (kind_number kind) frame.now }
 {
     match kind {
-        1 => 1,
-        2 => 1,
-        6 => count_new_state(frame),
-        8 => numbers::read_u32(frame, 16),
-        9 => numbers::read_u32(frame, 11),
-        11 => count_response(frame),
+        Kind::Request => 1,
+        Kind::Prepare => 1,
+        Kind::NewState => count_new_state(frame),
+        Kind::DoViewChange => numbers::read_u32(frame, 16),
+        Kind::StartView => numbers::read_u32(frame, 11),
+        Kind::RecoveryResponse => count_response(frame),
         _ => 0,
     }
 }
@@ -87,13 +96,10 @@ fn head_ok(frame: &[u8]) -> bool
     numbers::read_u8(frame, 4) == 1
 }
 
-fn body_ok(frame: &[u8], kind: u8) -> bool
-    ensures { result ≡ body_ok kind frame.now }
+fn body_ok(frame: &[u8], kind: Kind) -> bool
+    ensures { result ≡ body_ok (kind_number kind) frame.now }
 {
     let n = frame.len();
-    if !numbers::within(1, 11, kind as u64) {
-        return false;
-    }
     if n < fields_end(kind) {
         return false;
     }
@@ -111,12 +117,16 @@ fn body_ok(frame: &[u8], kind: u8) -> bool
     entries::entries_ok(frame, at, k)
 }
 
-// Refusal 2 is given exactly where this is false.
-pub fn well_formed(frame: &[u8]) -> bool
-    ensures { result ≡ well_formed frame.now }
+// The kind of a well-formed frame. Refusal 2 is given exactly where this is none.
+pub fn well_formed(frame: &[u8]) -> Option<Kind>
+    ensures { KindIf (well_formed frame.now) (kind_of frame.now) result }
 {
     if !head_ok(frame) {
-        return false;
+        return None;
     }
-    body_ok(frame, crate::kind_of(frame))
+    let kind = Kind::of_number(crate::kind_of(frame))?;
+    if !body_ok(frame, kind) {
+        return None;
+    }
+    Some(kind)
 }

@@ -1,4 +1,5 @@
 -- Every entry of our log and of each stored one keeps the entry rules, byte for byte, again after every message and every tick. Assumes nothing.
+use Rattle.std.specs.Prelude.{Ok, Err}
 use Prim.Native.Nat.{ℕ}
 use mathlib.Core.Path.{◌≡◌}
 use mathlib.Core.List.{List}
@@ -11,7 +12,6 @@ use Rattle.frames.specs.Messages.{carried_bytes}
 use Rattle.frames.specs.Refusals.{check_frame}
 use Rattle.frames.specs.declared.Message.{Message}
 use Rattle.frames.specs.declared.Message.TheVariants.{Request, Prepare, PrepareOk, Commit, GetState, NewState, StartViewChange, DoViewChange, StartView, Recovery, RecoveryResponse}
-use Rattle.frames.specs.declared.Checked.TheVariants.{Passed}
 use Rattle.client_table.specs.declared.Latest.{Latest}
 use Rattle.state.specs.declared.Replica.{Replica}
 use Rattle.steps.specs.Recorded.{Gathering}
@@ -50,7 +50,7 @@ module _ (s : Replica) (m : Memory) (h : Has s m) where
 -- ---- each kind of message
 
 handled-ruled : (x : Message) (s : Replica) (latest : Latest) (frame : List ℕ) (m : Memory) → Gathering s m → Has s m → Bytes frame
-    → check_frame s.setup frame ≡ Passed x → RuledBy (handled x s latest frame m)
+    → check_frame s.setup frame ≡ Ok x → RuledBy (handled x s latest frame m)
 unfolding handled
 handled-ruled (Request e) s latest frame m g h b ok = request-ruled s m h e latest (request-ok s.setup frame e ok b)
 handled-ruled (Prepare v o c e) s latest frame m g h b ok =
@@ -75,7 +75,7 @@ handled-ruled (RecoveryResponse v x r t) s latest frame m g h b ok =
     response-ruled s m h v x r t (carried_bytes (RecoveryResponse v x r t) frame) f.0 f.1.0 f.1.1.1 (response-ok s.setup frame v x r t ok)
 
 pub message-ruled : (x : Message) (s : Replica) (latest : Latest) (frame : List ℕ) (m : Memory) → Gathering s m → Ruled s m → Bytes frame
-    → check_frame s.setup frame ≡ Passed x → RuledBy (message_step x s latest frame m)
+    → check_frame s.setup frame ≡ Ok x → RuledBy (message_step x s latest frame m)
 unfolding message_step
 message-ruled x s latest frame m h r b ok = split RuledBy _ _ _ (λ _. handled-ruled x s latest frame m h (has h r) b ok) (λ _. still (has h r))
 

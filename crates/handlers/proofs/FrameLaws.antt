@@ -5,6 +5,7 @@
 --     request-ok, prepare-ok                                 the entry of a Request or Prepare: its fields fit, and it keeps the rules
 --     new-state-ok, report-ok, start-view-ok, response-ok    the rules of the entries that they carry
 -- Assumes nothing.
+use Rattle.std.specs.Prelude.{Option, Some, None, Ok, Err}
 use mathlib.Core.Path.{◌≡◌, refl, sym, ap, ◌∙◌, subst}
 use mathlib.Core.Bool.{true}
 use mathlib.Core.List.{List}
@@ -14,7 +15,7 @@ use borrow.Author.Tests.{leb-true}
 use lib.Dec.{eqb}
 use lib.ListN.{length, drop, length-drop}
 use Rattle.numbers.specs.Words.{when◌then◌else◌}
-use Rattle.numbers.specs.Numbers.{num, Bytes}
+use Rattle.numbers.specs.Numbers.{num, Bytes, op_at}
 use Rattle.numbers.specs.declared.View.{View}
 use Rattle.numbers.specs.declared.Op.{Op}
 use Rattle.numbers.proofs.WordLaws.{split, and_left}
@@ -23,14 +24,12 @@ use Rattle.entries.specs.Entries.{operation_ok, entry_of, entries_ok, EntryFits}
 use Rattle.entries.specs.declared.Entry.{Entry}
 use Rattle.entries.proofs.SendableLaws.{ok-entry, entry-fits}
 use Rattle.config.specs.declared.Setup.{Setup}
-use Rattle.frames.specs.Kinds.{room_of, fields_ok, count_of}
-use Rattle.frames.specs.Messages.{response_state, message_of, state_row, carried_of, carried_bytes}
+use Rattle.frames.specs.Kinds.{kind_number, room_of, fields_ok, count_of}
+use Rattle.frames.specs.Messages.{progress, response_state, message_of, state_row, carried_of, carried_bytes}
 use Rattle.frames.specs.Refusals.{check_frame}
 use Rattle.frames.specs.declared.Message.{Message}
 use Rattle.frames.specs.declared.Message.TheVariants.{Request, Prepare, PrepareOk, NewState, StartViewChange, DoViewChange, StartView, RecoveryResponse}
-use Rattle.frames.specs.declared.RecoveryState.{RecoveryState}
-use Rattle.frames.specs.declared.RecoveryState.TheVariants.{Absent, Present}
-use Rattle.frames.specs.declared.Checked.TheVariants.{Passed}
+use Rattle.frames.specs.declared.Progress.{Progress}
 use Rattle.frames.proofs.RefusalLaws.{passed}
 use Rattle.recovery.specs.Recovery.{response_of}
 
@@ -44,7 +43,7 @@ record Known (u : Setup) (frame : List ℕ) (k : ℕ) (x : Message) : Type 0 whe
   op : (carried_of x).op.0 ≤ u.room
   commit : (carried_of x).commit.0 ≤ (carried_of x).op.0
 
-known : (u : Setup) (frame : List ℕ) (k : ℕ) (x : Message) → (carried_of x).kind ≡ k → check_frame u frame ≡ Passed x → Known u frame k x
+known : (u : Setup) (frame : List ℕ) (k : ℕ) (x : Message) → kind_number (carried_of x).kind ≡ k → check_frame u frame ≡ Ok x → Known u frame k x
 known u frame k x e h =
     let f = passed u frame x h in
     let w = f.said.form in
@@ -68,7 +67,7 @@ first-ok part b ok = (entry-fits part b, ok-entry part (and_left _ _ ok))
 module _ (u : Setup) (frame : List ℕ) where
   -- ---- Request, Prepare
 
-  module _ (e : Entry) (h : check_frame u frame ≡ Passed (Request e)) where
+  module _ (e : Entry) (h : check_frame u frame ≡ Ok (Request e)) where
     request-known : Known u frame 1 (Request e)
     unfolding carried_of
     request-known = known u frame 1 (Request e) refl h
@@ -81,7 +80,7 @@ module _ (u : Setup) (frame : List ℕ) where
     unfolding room_of count_of when◌then◌else◌
     request-ok b = rw request-entry (first-ok (drop 7 frame) (drop-bytes 7 frame b) request-known.log)
 
-  module _ (v : View) (o c : Op) (e : Entry) (h : check_frame u frame ≡ Passed (Prepare v o c e)) where
+  module _ (v : View) (o c : Op) (e : Entry) (h : check_frame u frame ≡ Ok (Prepare v o c e)) where
     prepare-known : Known u frame 2 (Prepare v o c e)
     unfolding carried_of
     prepare-known = known u frame 2 (Prepare v o c e) refl h
@@ -96,19 +95,19 @@ module _ (u : Setup) (frame : List ℕ) where
 
   -- ---- PrepareOk, StartViewChange
 
-  pub ok-fit : (v : View) (o : Op) (r : ℕ) → check_frame u frame ≡ Passed (PrepareOk v o r) → (r < u.n) × (o.0 ≤ u.room)
+  pub ok-fit : (v : View) (o : Op) (r : ℕ) → check_frame u frame ≡ Ok (PrepareOk v o r) → (r < u.n) × (o.0 ≤ u.room)
   unfolding carried_of
   ok-fit v o r h =
       let f = passed u frame (PrepareOk v o r) h in
       (f.sender, f.op)
 
-  pub call-fit : (v : View) (r : ℕ) → check_frame u frame ≡ Passed (StartViewChange v r) → r < u.n
+  pub call-fit : (v : View) (r : ℕ) → check_frame u frame ≡ Ok (StartViewChange v r) → r < u.n
   unfolding carried_of
   call-fit v r h = (passed u frame (StartViewChange v r) h).sender
 
   -- ---- NewState
 
-  module _ (v : View) (a z c : Op) (h : check_frame u frame ≡ Passed (NewState v a z c)) where
+  module _ (v : View) (a z c : Op) (h : check_frame u frame ≡ Ok (NewState v a z c)) where
     new-state-known : Known u frame 6 (NewState v a z c)
     unfolding carried_of
     new-state-known = known u frame 6 (NewState v a z c) refl h
@@ -137,7 +136,7 @@ module _ (u : Setup) (frame : List ℕ) where
 
   -- ---- DoViewChange
 
-  module _ (v : View) (r : ℕ) (l : View) (o c : Op) (h : check_frame u frame ≡ Passed (DoViewChange v r l o c)) where
+  module _ (v : View) (r : ℕ) (l : View) (o c : Op) (h : check_frame u frame ≡ Ok (DoViewChange v r l o c)) where
     report-known : Known u frame 8 (DoViewChange v r l o c)
     unfolding carried_of
     report-known = known u frame 8 (DoViewChange v r l o c) refl h
@@ -159,7 +158,7 @@ module _ (u : Setup) (frame : List ℕ) where
 
   -- ---- StartView
 
-  module _ (v : View) (o c : Op) (h : check_frame u frame ≡ Passed (StartView v o c)) where
+  module _ (v : View) (o c : Op) (h : check_frame u frame ≡ Ok (StartView v o c)) where
     start-view-known : Known u frame 9 (StartView v o c)
     unfolding carried_of
     start-view-known = known u frame 9 (StartView v o c) refl h
@@ -182,12 +181,12 @@ module _ (u : Setup) (frame : List ℕ) where
   -- ---- RecoveryResponse
 
   -- one with a log
-  module _ (v : View) (x r : ℕ) (o c : Op) (h : check_frame u frame ≡ Passed (RecoveryResponse v x r (Present o c))) where
-    response-known : Known u frame 11 (RecoveryResponse v x r (Present o c))
+  module _ (v : View) (x r : ℕ) (o c : Op) (h : check_frame u frame ≡ Ok (RecoveryResponse v x r (Some (progress o c)))) where
+    response-known : Known u frame 11 (RecoveryResponse v x r (Some (progress o c)))
     unfolding carried_of state_row
-    response-known = known u frame 11 (RecoveryResponse v x r (Present o c)) refl h
+    response-known = known u frame 11 (RecoveryResponse v x r (Some (progress o c))) refl h
 
-    response-state : Present o c ≡ response_state frame
+    response-state : Some (progress o c) ≡ response_state frame
     unfolding message_of when◌then◌else◌
     response-state = let e = response-known.message in cc
 
@@ -195,30 +194,30 @@ module _ (u : Setup) (frame : List ℕ) where
     response-mark : (eqb (num 1 20 frame) 1 ≡ true) × (o.0 ≡ num 4 21 frame)
     unfolding response_state
     response-mark =
-        split (λ (t : RecoveryState). Present o c ≡ t → (eqb (num 1 20 frame) 1 ≡ true) × (o.0 ≡ num 4 21 frame)) _ _ _
-        (λ b e. (b, cc)) (λ _ e. absurd (let q : ◌≡◌ {A = ℕ} 0 1 = cc in omega arith)) response-state
+        split (λ (t : Option Progress). Some (progress o c) ≡ t → (eqb (num 1 20 frame) 1 ≡ true) × (o.0 ≡ num 4 21 frame)) _ _ _
+        (λ b e. let q : progress o c ≡ progress (op_at 21 frame) (op_at 25 frame) = cc e in (b, ap (λ (p : Progress). p.op.0) q)) (λ _ e. absurd (cc e)) response-state
 
     response-long : length frame ≡ 29 + 32 * o.0
     unfolding room_of count_of when◌then◌else◌
     response-long = rw response-mark.0 at response-known.exact ∙ ap (λ (i : ℕ). 29 + 32 * i) (sym response-mark.1)
 
-    response-log : entries_ok o.0 (carried_bytes (RecoveryResponse v x r (Present o c)) frame) ≡ true
+    response-log : entries_ok o.0 (carried_bytes (RecoveryResponse v x r (Some (progress o c))) frame) ≡ true
     unfolding carried_bytes carried_of state_row room_of count_of when◌then◌else◌
     response-log = rw response-mark.1 (rw response-mark.0 at response-known.log)
 
   -- what is held of it
-  pub response-fit : (v : View) (x r : ℕ) (t : RecoveryState) → check_frame u frame ≡ Passed (RecoveryResponse v x r t)
+  pub response-fit : (v : View) (x r : ℕ) (t : Option Progress) → check_frame u frame ≡ Ok (RecoveryResponse v x r t)
       → (r < u.n)
       × (((response_of v t).op.0 ≤ u.room)
       × (((response_of v t).commit.0 ≤ (response_of v t).op.0) × (32 * (response_of v t).op.0 ≤ length (carried_bytes (RecoveryResponse v x r t) frame))))
   unfolding carried_bytes carried_of state_row response_of
-  response-fit v x r Absent h = ((passed u frame (RecoveryResponse v x r Absent) h).sender, (omega arith, (omega arith, omega arith)))
-  response-fit v x r (Present o c) h =
-      let f = passed u frame (RecoveryResponse v x r (Present o c)) h in
-      (f.sender, (f.op, (f.commit, rw length-drop (omega (arith, response-long v x r o c h)))))
+  response-fit v x r None h = ((passed u frame (RecoveryResponse v x r None) h).sender, (omega arith, (omega arith, omega arith)))
+  response-fit v x r (Some p) h =
+      let f = passed u frame (RecoveryResponse v x r (Some p)) h in
+      (f.sender, (f.op, (f.commit, rw length-drop (omega (arith, response-long v x r p.op p.commit h)))))
 
-  pub response-ok : (v : View) (x r : ℕ) (t : RecoveryState) → check_frame u frame ≡ Passed (RecoveryResponse v x r t)
+  pub response-ok : (v : View) (x r : ℕ) (t : Option Progress) → check_frame u frame ≡ Ok (RecoveryResponse v x r t)
       → entries_ok (response_of v t).op.0 (carried_bytes (RecoveryResponse v x r t) frame) ≡ true
   unfolding response_of entries_ok
-  response-ok v x r Absent h = refl
-  response-ok v x r (Present o c) h = response-log v x r o c h
+  response-ok v x r None h = refl
+  response-ok v x r (Some p) h = response-log v x r p.op p.commit h

@@ -5,6 +5,7 @@
 --     up-follows, waits, up-asks, asks    a tick whose wait is over, and one whose isn't
 --     normal-is, transfer-is, change-is, recovering-is    on_idle, by status
 -- Assumes nothing.
+use Rattle.std.specs.Prelude.{Option}
 use mathlib.Core.Path.{◌≡◌, sym, ap, ◌∙◌}
 use mathlib.Core.Bool.{Bool, true, false, not}
 use mathlib.Core.List.{List}
@@ -19,7 +20,7 @@ use Rattle.clock.specs.declared.Ticked.{Ticked}
 use Rattle.clock.specs.declared.Duty.TheVariants.{Follow, Change}
 use Rattle.frames.specs.Messages.{carried_of, carried_bytes}
 use Rattle.frames.specs.Looks.{looks_at}
-use Rattle.frames.specs.declared.RecoveryState.{RecoveryState}
+use Rattle.frames.specs.declared.Progress.{Progress}
 use Rattle.frames.specs.declared.Message.{Message}
 use Rattle.frames.specs.declared.Message.TheVariants.{Request, Prepare, PrepareOk, Commit, GetState, NewState, StartViewChange, DoViewChange, StartView, Recovery, RecoveryResponse}
 use Rattle.client_table.specs.declared.Latest.{Latest}
@@ -118,7 +119,7 @@ module _ (s : Replica) (x : Message) (latest : Latest) (frame log results totals
   unfolding handled
   recovery-is r k v q p = arm (Recovery r k v) q (ap (only_sent m) p)
 
-  pub response-is : (v : View) (k r : ℕ) (t : RecoveryState) → x ≡ RecoveryResponse v k r t → {a : Returned} {part log' results' totals' stored' : List ℕ} → part ≡ carried_bytes (RecoveryResponse v k r t) frame
+  pub response-is : (v : View) (k r : ℕ) (t : Option Progress) → x ≡ RecoveryResponse v k r t → {a : Returned} {part log' results' totals' stored' : List ℕ} → part ≡ carried_bytes (RecoveryResponse v k r t) frame
       → collected a (runs log' results' totals') stored' ≡ response_step s v k r t part (runs log results totals) stored
       → recorded a (memory log' results' totals' acks stored' out reps) ≡ told
   unfolding handled

@@ -2,6 +2,7 @@
 -- to 6 leave of a frame.
 --     message-shown, idle-shown
 -- Assumes nothing.
+use Rattle.std.specs.Prelude.{Option as RustOption, Some, None, Ok, Err}
 use Prim.Native.Nat.{ℕ}
 use mathlib.Core.Path.{◌≡◌, refl, sym, ◌∙◌, subst}
 use mathlib.Core.Bool.{Bool, true, false, false≢true}
@@ -24,13 +25,14 @@ use Rattle.clock.specs.declared.Duty.TheVariants.{Follow, Change}
 use Rattle.frames.specs.Messages.{state_row, carried_of, carried_bytes}
 use Rattle.frames.specs.Refusals.{check_frame}
 use Rattle.frames.specs.Looks.{changing, looks_at}
+use Rattle.frames.specs.Kinds.{kind_number}
+use Rattle.frames.specs.declared.Kind.{Kind}
+use Rattle.frames.specs.declared.Kind.TheVariants as kind
 use Rattle.frames.specs.declared.Status.{Status}
 use Rattle.frames.specs.declared.Status.TheVariants.{Normal, StateTransfer, ViewChange, Recovering}
-use Rattle.frames.specs.declared.RecoveryState.{RecoveryState}
-use Rattle.frames.specs.declared.RecoveryState.TheVariants.{Absent, Present}
+use Rattle.frames.specs.declared.Progress.{Progress}
 use Rattle.frames.specs.declared.Message.{Message}
 use Rattle.frames.specs.declared.Message.TheVariants.{Request, Prepare, PrepareOk, Commit, GetState, NewState, StartViewChange, DoViewChange, StartView, Recovery, RecoveryResponse}
-use Rattle.frames.specs.declared.Checked.TheVariants.{Passed}
 use Rattle.writers.specs.Writers.{state_size, size_of}
 use Rattle.client_table.specs.declared.Latest.{Latest}
 use Rattle.state.specs.State.{leads}
@@ -93,7 +95,7 @@ pub record Fit (c : Given) (table : List ClientEntry) : Type 0 where
 -- ---- what a status looks at
 
 -- a Recovering replica looks at kind 11 alone
-awake : (s : Status) (k : ℕ) → eqb k 11 ≡ false → looks_at s k ≡ true → is_recovering s ≡ false
+awake : (s : Status) (k : Kind) → eqb (kind_number k) 11 ≡ false → looks_at s k ≡ true → is_recovering s ≡ false
 unfolding looks_at is_recovering
 awake Normal k e l = refl
 awake StateTransfer k e l = refl
@@ -101,17 +103,17 @@ awake ViewChange k e l = refl
 awake Recovering k e l = absurd (false≢true (sym e ∙ l))
 
 -- and nobody else at it
-asleep : (s : Status) → looks_at s 11 ≡ true → is_recovering s ≡ true
+asleep : (s : Status) → looks_at s kind.RecoveryResponse ≡ true → is_recovering s ≡ true
 unfolding looks_at changing within ◌and◌ ◌or◌ is_recovering
 asleep Normal l = absurd (false≢true l)
 asleep StateTransfer l = absurd (false≢true l)
 asleep ViewChange l = absurd (false≢true l)
 asleep Recovering l = refl
 
-recovers : (s : Status) (r : ℕ) (t : RecoveryState) → looks_at s (state_row r t).kind ≡ true → is_recovering s ≡ true
+recovers : (s : Status) (r : ℕ) (t : RustOption Progress) → looks_at s (state_row r t).kind ≡ true → is_recovering s ≡ true
 unfolding state_row
-recovers s r Absent l = asleep s l
-recovers s r (Present o k) l = asleep s l
+recovers s r None l = asleep s l
+recovers s r (Some p) l = asleep s l
 
 -- each of the other three is not Recovering
 in-normal : (s : Status) → is_normal s ≡ true → is_recovering s ≡ false
@@ -145,11 +147,11 @@ by_both false b x y z = refl
 -- ---- what a frame carries
 
 -- what a RecoveryResponse carries, as the handler reads it and as the model does
-held_same : (v : View) (t : RecoveryState) (part : List ℕ)
+held_same : (v : View) (t : RustOption Progress) (part : List ℕ)
     → held_in t (entries (response_of v t).op.0 part) ≡ held_in t (entries (state_size t).entries part)
 unfolding held_in response_of state_size
-held_same v Absent part = refl
-held_same v (Present o k) part = refl
+held_same v None part = refl
+held_same v (Some p) part = refl
 
 module _ (c : Given) (table : List ClientEntry) (applied : List Entry) (h : Fit c table) where
   abbrev m : State
@@ -188,7 +190,7 @@ module _ (c : Given) (table : List ClientEntry) (applied : List Entry) (h : Fit 
     Handles x = Goal (handled x c.state latest frame (memory_of c)) (on_message u m x (carried_log x frame))
 
     abbrev Passes : Message → Type 0
-    Passes x = check_frame u frame ≡ Passed x
+    Passes x = check_frame u frame ≡ Ok x
 
     on-request : (e : Entry) → Passes (Request e) → Tells table e.client latest → Handles (Request e)
     unfolding handled on_message
@@ -287,7 +289,7 @@ module _ (c : Given) (table : List ClientEntry) (applied : List Entry) (h : Fit 
     unfolding handled on_message
     on-recovery r x v looks = recovery-shown c table applied r x v (holding c (changes looks)) looks h.log-ok h.log-bytes
 
-    on-response : (v : View) (x r : ℕ) (t : RecoveryState) → Passes (RecoveryResponse v x r t) → is_recovering c.state.status ≡ true
+    on-response : (v : View) (x r : ℕ) (t : RustOption Progress) → Passes (RecoveryResponse v x r t) → is_recovering c.state.status ≡ true
         → Handles (RecoveryResponse v x r t)
     unfolding handled on_message carried_log size_of
     on-response v x r t ok recovering =
@@ -305,21 +307,21 @@ module _ (c : Given) (table : List ClientEntry) (applied : List Entry) (h : Fit 
     handles : (x : Message) → Passes x → RowTells table x latest → looks_at c.state.status (carried_of x).kind ≡ true → Handles x
     unfolding carried_of
     handles (Request e) ok tells l = on-request e ok tells
-    handles (Prepare v o k e) ok tells l = on-prepare v o k e ok tells (awake _ 2 refl l)
+    handles (Prepare v o k e) ok tells l = on-prepare v o k e ok tells (awake _ kind.Prepare refl l)
     handles (PrepareOk v o r) ok tells l = on-prepare-ok v o r
-    handles (Commit v k) ok tells l = on-commit v k (awake _ 4 refl l)
+    handles (Commit v k) ok tells l = on-commit v k (awake _ kind.Commit refl l)
     handles (GetState r v o) ok tells l = on-get-state r v o
-    handles (NewState v a z k) ok tells l = on-new-state v a z k ok (awake _ 6 refl l)
-    handles (StartViewChange v r) ok tells l = on-start-view-change v r ok (awake _ 7 refl l)
-    handles (DoViewChange v r w o k) ok tells l = on-do-view-change v r w o k ok (awake _ 8 refl l)
-    handles (StartView v o k) ok tells l = on-start-view v o k ok (awake _ 9 refl l)
-    handles (Recovery r x v) ok tells l = on-recovery r x v (awake _ 10 refl l)
+    handles (NewState v a z k) ok tells l = on-new-state v a z k ok (awake _ kind.NewState refl l)
+    handles (StartViewChange v r) ok tells l = on-start-view-change v r ok (awake _ kind.StartViewChange refl l)
+    handles (DoViewChange v r w o k) ok tells l = on-do-view-change v r w o k ok (awake _ kind.DoViewChange refl l)
+    handles (StartView v o k) ok tells l = on-start-view v o k ok (awake _ kind.StartView refl l)
+    handles (Recovery r x v) ok tells l = on-recovery r x v (awake _ kind.Recovery refl l)
     handles (RecoveryResponse v x r t) ok tells l = on-response v x r t ok (recovers _ r t l)
 
-  pub message-shown : (x : Message) (latest : Latest) (frame : List ℕ) → check_frame c.state.setup frame ≡ Passed x → Bytes frame
+  pub message-shown : (x : Message) (latest : Latest) (frame : List ℕ) → check_frame c.state.setup frame ≡ Ok x → Bytes frame
       → RowTells table x latest
       → Shown c (of_recorded (message_step x c.state latest frame (memory_of c))) m.book
-      (fitted (length c.out) (length c.reps) (on_checked c.state.setup m frame (Passed x)))
+      (fitted (length c.out) (length c.reps) (on_checked c.state.setup m frame (Ok x)))
   unfolding message_step on_checked model_of
   message-shown x latest frame ok bytes tells =
       subst (Goal (message_step x c.state latest frame (memory_of c)))

@@ -1,5 +1,6 @@
 -- No message and no tick leaves anything in the area for replies but Replies with outcomes of 1 to 6, with their exact count, whatever the memory that
 -- passes refusal 1; of a Request that is answered again, where the reply that is handed in has such an outcome. Assumes nothing.
+use Rattle.std.specs.Prelude.{Ok, Err}
 use Prim.Native.Nat.{ℕ}
 use mathlib.Core.Path.{◌≡◌, refl}
 use mathlib.Core.List.{List}
@@ -11,7 +12,6 @@ use Rattle.frames.specs.Messages.{carried_bytes}
 use Rattle.frames.specs.Refusals.{check_frame}
 use Rattle.frames.specs.declared.Message.{Message}
 use Rattle.frames.specs.declared.Message.TheVariants.{Request, Prepare, PrepareOk, Commit, GetState, NewState, StartViewChange, DoViewChange, StartView, Recovery, RecoveryResponse}
-use Rattle.frames.specs.declared.Checked.TheVariants.{Passed}
 use Rattle.client_table.specs.declared.Latest.{Latest}
 use Rattle.state.specs.declared.Replica.{Replica}
 use Rattle.steps.specs.Recorded.{Gathering}
@@ -30,11 +30,12 @@ use Rattle.view_change.proofs.ChangeReplies.{start-view-mute}
 use Rattle.do_view_change.proofs.RecordReplies.{Answers, do-view-change-replies}
 use Rattle.voting.proofs.VoteReplies.{start-view-change-replies, next-view-mute, next-view-asking-mute, change-tick-replies}
 use Rattle.recovery.proofs.RecoveryReplies.{recovering-mute, recovery-mute, response-mute}
+use Rattle.state.specs.Answers.{replies_written}
 
 module _ (s : Replica) (m : Memory) (h : Gathering s m) where
   -- ---- on_message
 
-  handled-replies : (x : Message) (latest : Latest) (frame : List ℕ) → check_frame s.setup frame ≡ Passed x → ToldOk latest
+  handled-replies : (x : Message) (latest : Latest) (frame : List ℕ) → check_frame s.setup frame ≡ Ok x → ToldOk latest
       → Answers m (handled x s latest frame m)
   unfolding handled
   handled-replies (Request e) latest frame ok told = request-replies s e latest told m.runs.log m.acks m.out m.reps
@@ -53,8 +54,8 @@ module _ (s : Replica) (m : Memory) (h : Gathering s m) where
   handled-replies (RecoveryResponse v x r t) latest frame ok told =
       still _ (response-mute s v x r t (carried_bytes (RecoveryResponse v x r t) frame) m.runs m.stored)
 
-  pub message-replies : (x : Message) (latest : Latest) (frame : List ℕ) → check_frame s.setup frame ≡ Passed x → ToldOk latest
-      → Replying m.reps (message_step x s latest frame m).memory.reps (message_step x s latest frame m).answer.replies
+  pub message-replies : (x : Message) (latest : Latest) (frame : List ℕ) → check_frame s.setup frame ≡ Ok x → ToldOk latest
+      → Replying m.reps (message_step x s latest frame m).memory.reps (replies_written (message_step x s latest frame m).answer)
   unfolding message_step
   message-replies x latest frame ok told = split (Answers m) _ _ _ (λ _. handled-replies x latest frame ok told) (λ _. silent)
 
@@ -70,7 +71,7 @@ module _ (s : Replica) (m : Memory) (h : Gathering s m) where
   unfolding ask_tick
   ask-mute t = split Mute _ _ _ (λ _. next-view-asking-mute s m h t.clock) (λ _. transfer-tick-mute s m.out t.clock)
 
-  pub idle-replies : Replying m.reps (idle_step s m).memory.reps (idle_step s m).answer.replies
+  pub idle-replies : Replying m.reps (idle_step s m).memory.reps (replies_written (idle_step s m).answer)
   unfolding idle_step changing_tick
   idle-replies =
       let t = tick_of s.setup.timeout Change s.clock in

@@ -1,5 +1,6 @@
 -- What refusal 1 asks holds again after every message and every tick: commit ≤ op number ≤ L, of our log and of each stored one, and each run has its
 -- length. Assumes nothing.
+use Rattle.std.specs.Prelude.{Ok, Err}
 use Prim.Native.Nat.{ℕ}
 use mathlib.Core.Path.{◌≡◌, refl, sym, ap, ◌∙◌, subst}
 use mathlib.Core.Bool.{true}
@@ -15,7 +16,6 @@ use Rattle.frames.specs.Messages.{carried_bytes}
 use Rattle.frames.specs.Refusals.{check_frame}
 use Rattle.frames.specs.declared.Message.{Message}
 use Rattle.frames.specs.declared.Message.TheVariants.{Request, Prepare, PrepareOk, Commit, GetState, NewState, StartViewChange, DoViewChange, StartView, Recovery, RecoveryResponse}
-use Rattle.frames.specs.declared.Checked.TheVariants.{Passed}
 use Rattle.client_table.specs.declared.Latest.{Latest}
 use Rattle.state.specs.State.{with_clock}
 use Rattle.state.specs.Lengths.{acks_length, stored_length}
@@ -66,7 +66,7 @@ module _ (s : Replica) (m : Memory) (h : Gathering s m) where
 
   -- ---- on_message
 
-  handled-kept : (x : Message) (latest : Latest) (frame : List ℕ) → check_frame s.setup frame ≡ Passed x
+  handled-kept : (x : Message) (latest : Latest) (frame : List ℕ) → check_frame s.setup frame ≡ Ok x
       → Kept s.setup (handled x s latest frame m)
   unfolding handled
   handled-kept (Request e) latest frame ok = request-kept s m h e latest
@@ -89,7 +89,7 @@ module _ (s : Replica) (m : Memory) (h : Gathering s m) where
   handled-kept (RecoveryResponse v x r t) latest frame ok =
       response-kept s m h v x r t (carried_bytes (RecoveryResponse v x r t) frame) (response-fit s.setup frame v x r t ok)
 
-  message-kept : (x : Message) (latest : Latest) (frame : List ℕ) → check_frame s.setup frame ≡ Passed x
+  message-kept : (x : Message) (latest : Latest) (frame : List ℕ) → check_frame s.setup frame ≡ Ok x
       → Kept s.setup (message_step x s latest frame m)
   unfolding message_step
   message-kept x latest frame ok = split (Kept s.setup) _ _ _ (λ _. handled-kept x latest frame ok) (λ _. still_kept h _ here)
@@ -122,7 +122,7 @@ module _ (s : Replica) (m : Memory) (h : Gathering s m) where
       sent-kept h _ (recovering-held s m h)
 
 pub message-stays : (x : Message) (s : Replica) (latest : Latest) (frame : List ℕ) (m : Memory) → Gathering s m
-    → check_frame s.setup frame ≡ Passed x → Stays s (message_step x s latest frame m)
+    → check_frame s.setup frame ≡ Ok x → Stays s (message_step x s latest frame m)
 message-stays x s latest frame m h ok = stays s _ (message-kept s m h x latest frame ok)
 
 pub idle-stays : (s : Replica) (m : Memory) → Gathering s m → Stays s (idle_step s m)

@@ -1,5 +1,6 @@
 -- No message and no tick is refused for want of room in areas of `out_length` and `reps_length` bytes, whatever the memory that passes refusal 1.
 -- Assumes nothing.
+use Rattle.std.specs.Prelude.{Ok, Err}
 use Prim.Native.Nat.{ℕ}
 use mathlib.Core.Path.{◌≡◌}
 use mathlib.Core.List.{List}
@@ -12,7 +13,6 @@ use Rattle.frames.specs.Messages.{carried_bytes}
 use Rattle.frames.specs.Refusals.{check_frame}
 use Rattle.frames.specs.declared.Message.{Message}
 use Rattle.frames.specs.declared.Message.TheVariants.{Request, Prepare, PrepareOk, Commit, GetState, NewState, StartViewChange, DoViewChange, StartView, Recovery, RecoveryResponse}
-use Rattle.frames.specs.declared.Checked.TheVariants.{Passed}
 use Rattle.client_table.specs.declared.Latest.{Latest}
 use Rattle.state.specs.declared.Replica.{Replica}
 use Rattle.steps.specs.Steps.{Spoke}
@@ -29,6 +29,7 @@ use Rattle.view_change.proofs.ChangeSuffices.{start-view-suffices}
 use Rattle.do_view_change.proofs.RecordSuffices.{do-view-change-suffices}
 use Rattle.voting.proofs.VoteSuffices.{start-view-change-suffices, next-view-suffices, next-view-asking-suffices, change-tick-suffices}
 use Rattle.recovery.proofs.RecoverySuffices.{recovering-suffices, recovery-suffices, response-suffices}
+use Rattle.state.specs.Answers.{code_of}
 
 module _ (s : Replica) (m : Memory) (h : Gathering s m) where
   abbrev a : ℕ
@@ -38,11 +39,11 @@ module _ (s : Replica) (m : Memory) (h : Gathering s m) where
   b = length m.reps
 
   abbrev Enough : Recorded → Type 0
-  Enough d = Answers s.setup a b d.answer.code
+  Enough d = Answers s.setup a b (code_of d.answer)
 
   -- ---- on_message
 
-  handled-suffices : (x : Message) (latest : Latest) (frame : List ℕ) → check_frame s.setup frame ≡ Passed x → Enough (handled x s latest frame m)
+  handled-suffices : (x : Message) (latest : Latest) (frame : List ℕ) → check_frame s.setup frame ≡ Ok x → Enough (handled x s latest frame m)
   unfolding handled
   handled-suffices (Request e) latest frame ok =
       request-suffices s m.runs h.sound e latest m.runs.log m.acks m.out m.reps
@@ -62,15 +63,15 @@ module _ (s : Replica) (m : Memory) (h : Gathering s m) where
   handled-suffices (RecoveryResponse v x r t) latest frame ok =
       response-suffices s a b v x r t (carried_bytes (RecoveryResponse v x r t) frame) m.runs m.stored
 
-  pub message-suffices : (x : Message) (latest : Latest) (frame : List ℕ) → check_frame s.setup frame ≡ Passed x
-      → Answers s.setup (length m.out) (length m.reps) (message_step x s latest frame m).answer.code
+  pub message-suffices : (x : Message) (latest : Latest) (frame : List ℕ) → check_frame s.setup frame ≡ Ok x
+      → Answers s.setup (length m.out) (length m.reps) (code_of (message_step x s latest frame m).answer)
   unfolding message_step
   message-suffices x latest frame ok = split Enough _ _ _ (λ _. handled-suffices x latest frame ok) (λ _. done)
 
   -- ---- on_idle
 
   abbrev Speaks : Spoke → Type 0
-  Speaks d = Answers s.setup a b d.answer.code
+  Speaks d = Answers s.setup a b (code_of d.answer)
 
   normal-suffices : Speaks (normal_tick s m.runs.log m.out)
   unfolding normal_tick follow_tick
@@ -84,7 +85,7 @@ module _ (s : Replica) (m : Memory) (h : Gathering s m) where
       split Speaks _ _ _ (λ _. next-view-asking-suffices s m h t.clock)
       (λ _. transfer-tick-suffices s m.runs h.sound m.out b t.clock)
 
-  pub idle-suffices : Answers s.setup (length m.out) (length m.reps) (idle_step s m).answer.code
+  pub idle-suffices : Answers s.setup (length m.out) (length m.reps) (code_of (idle_step s m).answer)
   unfolding idle_step changing_tick
   idle-suffices =
       let t = tick_of s.setup.timeout Change s.clock in

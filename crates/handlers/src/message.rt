@@ -1,7 +1,6 @@
 // on_message: the status's table of kinds, then the handler. A frame comes here after refusals 1 to 6 on it alone.
-ghost use Rattle.std.specs.Prelude.{◌≡◌};
+ghost use Rattle.std.specs.Prelude.{◌≡◌, Ok};
 ghost use Rattle.frames.specs.Refusals.{check_frame};
-ghost use Rattle.frames.specs.declared.Checked.TheVariants.{Passed};
 ghost use Rattle.book.specs.Memory.{memory};
 ghost use Rattle.steps.specs.Recorded.{Gathering, Does};
 ghost use Rattle.handlers.specs.Handlers.{handled, message_step};
@@ -26,7 +25,7 @@ fn handle(
     out: &mut [u8],
     reps: &mut [u8],
 ) -> Returned
-    requires { Gathering s (memory log.old results.old totals.old acks.old stored.old out.old reps.old) × (check_frame s.setup frame.now ≡ Passed m) }
+    requires { Gathering s (memory log.old results.old totals.old acks.old stored.old out.old reps.old) × (check_frame s.setup frame.now ≡ Ok m) }
     ensures { Does (handled m s latest frame.now) result (memory log.old results.old totals.old acks.old stored.old out.old reps.old) (memory log.new results.new totals.new acks.new stored.new out.new reps.new) }
 {
     match m {
@@ -133,7 +132,7 @@ pub fn on_message(
     out: &mut [u8],
     reps: &mut [u8],
 ) -> Returned
-    requires { Gathering s (memory log.old results.old totals.old acks.old stored.old out.old reps.old) × (check_frame s.setup frame.now ≡ Passed m) }
+    requires { Gathering s (memory log.old results.old totals.old acks.old stored.old out.old reps.old) × (check_frame s.setup frame.now ≡ Ok m) }
     ensures { Does (message_step m s latest frame.now) result (memory log.old results.old totals.old acks.old stored.old out.old reps.old) (memory log.new results.new totals.new acks.new stored.new out.new reps.new) }
 {
     let status = s.status;

@@ -1,16 +1,17 @@
 -- Laws of the calls: what each answers, way by way.
 --     journal-length                                            50 bytes an entry
---     write-1, write-2, write-4, write-9, written               writing
---     append-1, ops-are, append-9, appended                     appending
---     read-1, read-12, read-9, read_done                        reading
+--     write-out, write-bad, write-many, write-no_room, written               writing
+--     append-out, ops-are, append-no_room, appended                     appending
+--     read-out, read-out2, read-no_room, read_done                        reading
 -- Assumes nothing.
 use mathlib.Core.Path.{◌≡◌, sym, ap, ◌∙◌}
 use mathlib.Core.Bool.{true, false, not}
 use mathlib.Core.List.{List}
+use Rattle.std.specs.Prelude.{Some, None, Ok}
 use Prim.Native.Nat.{ℕ, ◌-◌, ◌*◌, ◌≤◌, ◌<◌}
 use native.Mathlib.Omega.{arith}
 use lib.ListN.{length, drop}
-use borrow.Author.Tests.{lt-ltb, le-ltb, leb-true, eq-eqb, ne_eqb}
+use borrow.Author.Tests.{lt-ltb, le-ltb, leb-true}
 use Rattle.numbers.specs.Numbers.{big, within, over}
 use Rattle.numbers.specs.Cells.{packed}
 use Rattle.numbers.proofs.WordLaws.{if-true, if-false, and_both}
@@ -26,6 +27,8 @@ use Rattle.journal.specs.Examining.{examined}
 use Rattle.journal.specs.Calls.{LeftWritten, not_written, writing, write_call, frames_in, ops_there, append_call}
 use Rattle.journal.specs.Calls.{LeftRead, not_read, read_into, read_examined, totals_there, read_call}
 use Rattle.journal.specs.declared.Examined.{Examined}
+use Rattle.journal.specs.declared.refusal.Fault.{Fault}
+use Rattle.journal.specs.declared.refusal.JournalRefusal.TheVariants as refused
 use Rattle.journal.proofs.FrameLaws.{frames-length}
 
 -- ---- writing
@@ -35,31 +38,31 @@ unfolding journal
 journal-length M es = frames-length 0 es (results_of (no_totals M) es) (sym (answers-length (no_totals M) es))
 
 module _ (w area : List ℕ) (n : ℕ) (long : length w ≡ n) where
-  writes-9 : length area < n → not_written 9 area ≡ writing w area
+  writes-no_room : length area < n → not_written refused.NoRoom area ≡ writing w area
   unfolding writing
-  writes-9 h = sym (if-true _ _ _ (lt-ltb (length area) (length w) (omega arith)))
+  writes-no_room h = sym (if-true _ _ _ (lt-ltb (length area) (length w) (omega arith)))
 
   writes : (after : List ℕ) → n ≤ length area → after ≡ over w area
-      → ◌≡◌ {A = LeftWritten} (record { answer = record { code = 0; bytes = n }; area = after }) (writing w area)
+      → ◌≡◌ {A = LeftWritten} (record { answer = Ok n; area = after }) (writing w area)
   unfolding writing
   writes after h p =
-      (λ i. record { answer = record { code = 0; bytes = sym long i }; area = p i })
+      (λ i. record { answer = Ok (sym long i); area = p i })
       ∙ sym (if-false _ _ _ (le-ltb (length area) (length w) (omega arith)))
 
 module _ (M : ℕ) (run area : List ℕ) where
-  pub write-1 : within 1 4096 M ≡ false → not_written 1 area ≡ write_call M run area
+  pub write-out : within 1 4096 M ≡ false → not_written refused.OutOfRange area ≡ write_call M run area
   unfolding write_call
-  write-1 e = sym (if-true _ _ _ (ap not e))
+  write-out e = sym (if-true _ _ _ (ap not e))
 
   module _ (m : within 1 4096 M ≡ true) where
-    pub write-2 : run_ok run ≡ false → not_written 2 area ≡ write_call M run area
+    pub write-bad : run_ok run ≡ false → not_written refused.BadEntry area ≡ write_call M run area
     unfolding write_call
-    write-2 e = sym (if-false _ _ _ (ap not m) ∙ if-true _ _ _ (ap not e))
+    write-bad e = sym (if-false _ _ _ (ap not m) ∙ if-true _ _ _ (ap not e))
 
     module _ (r : run_ok run ≡ true) where
-      pub write-4 : 4096 < run_count run → not_written 4 area ≡ write_call M run area
+      pub write-many : 4096 < run_count run → not_written refused.TooMany area ≡ write_call M run area
       unfolding write_call
-      write-4 h = sym (if-false _ _ _ (ap not m) ∙ if-false _ _ _ (ap not r) ∙ if-true _ _ _ (lt-ltb 4096 (run_count run) h))
+      write-many h = sym (if-false _ _ _ (ap not m) ∙ if-false _ _ _ (ap not r) ∙ if-true _ _ _ (lt-ltb 4096 (run_count run) h))
 
       module _ (h : run_count run ≤ 4096) where
         abbrev w : List ℕ
@@ -72,11 +75,11 @@ module _ (M : ℕ) (run area : List ℕ) where
         long : length w ≡ 50 * run_count run
         long = journal-length M (entries (run_count run) run) ∙ ap (λ (k : ℕ). 50 * k) (cells-length 32 entry_of (run_count run) run)
 
-        pub write-9 : length area < 50 * run_count run → not_written 9 area ≡ write_call M run area
-        write-9 l = writes-9 w area (50 * run_count run) long l ∙ room-only
+        pub write-no_room : length area < 50 * run_count run → not_written refused.NoRoom area ≡ write_call M run area
+        write-no_room l = writes-no_room w area (50 * run_count run) long l ∙ room-only
 
         pub written : (after : List ℕ) → 50 * run_count run ≤ length area → after ≡ over (journal M (entries (run_count run) run)) area
-            → ◌≡◌ {A = LeftWritten} (record { answer = record { code = 0; bytes = 50 * run_count run }; area = after }) (write_call M run area)
+            → ◌≡◌ {A = LeftWritten} (record { answer = Ok (50 * run_count run); area = after }) (write_call M run area)
         written after l p = writes w area (50 * run_count run) long after l p ∙ room-only
 
 -- ---- appending
@@ -98,9 +101,9 @@ module _ (from to : ℕ) (log results : List ℕ) where
       record { up = leb-true _ _ a.0; few = leb-true _ _ b.0; in-log = leb-true _ _ c.0; in-results = leb-true _ _ c.1 }
 
   module _ (area : List ℕ) where
-    pub append-1 : ops_there from to log results ≡ false → not_written 1 area ≡ append_call from to log results area
+    pub append-out : ops_there from to log results ≡ false → not_written refused.OutOfRange area ≡ append_call from to log results area
     unfolding append_call
-    append-1 e = sym (if-true _ _ _ (ap not e))
+    append-out e = sym (if-true _ _ _ (ap not e))
 
     module _ (t : ops_there from to log results ≡ true) where
       there-only : writing (frames_in from to log results) area ≡ append_call from to log results area
@@ -113,32 +116,34 @@ module _ (from to : ℕ) (log results : List ℕ) where
           let n = cells-length 32 entry_of (to - from) (drop (entry_place from) log) in
           frames-length from _ _ (n ∙ sym (cells-length 9 result_of (to - from) (drop (result_place from) results))) ∙ ap (λ (k : ℕ). 50 * k) n
 
-      pub append-9 : length area < 50 * (to - from) → not_written 9 area ≡ append_call from to log results area
-      append-9 h = writes-9 (frames_in from to log results) area (50 * (to - from)) in-long h ∙ there-only
+      pub append-no_room : length area < 50 * (to - from) → not_written refused.NoRoom area ≡ append_call from to log results area
+      append-no_room h = writes-no_room (frames_in from to log results) area (50 * (to - from)) in-long h ∙ there-only
 
       pub appended : (after : List ℕ) → 50 * (to - from) ≤ length area
           → after ≡ over (frames_after from (entries (to - from) (drop (entry_place from) log)) (outcomes (to - from) (drop (result_place from) results))) area
-          → ◌≡◌ {A = LeftWritten} (record { answer = record { code = 0; bytes = 50 * (to - from) }; area = after }) (append_call from to log results area)
+          → ◌≡◌ {A = LeftWritten} (record { answer = Ok (50 * (to - from)); area = after }) (append_call from to log results area)
       unfolding frames_in
       appended after h p = writes (frames_in from to log results) area (50 * (to - from)) in-long after h p ∙ there-only
 
 -- ---- reading
 
 module _ (M : ℕ) (file area totals : List ℕ) where
-  pub read-1 : totals_there M totals ≡ false → not_read 1 0 0 area totals ≡ read_call M file area totals
+  pub read-out : totals_there M totals ≡ false → not_read refused.OutOfRange area totals ≡ read_call M file area totals
   unfolding read_call
-  read-1 e = sym (if-true _ _ _ (ap not e))
+  read-out e = sym (if-true _ _ _ (ap not e))
 
   module _ (t : totals_there M totals ≡ true) (j : Examined) (is : j ≡ examined M file) where
     examined-only : read_examined M j file area totals ≡ read_call M file area totals
     unfolding read_call
     examined-only = ap (λ (d : Examined). read_examined M d file area totals) is ∙ sym (if-false _ _ _ (ap not t))
 
-    pub read-12 : (j.fault ≡ 0 → ⊥) → not_read 12 (50 * j.frames) j.fault area totals ≡ read_call M file area totals
+    pub read-bad : (f : Fault) → j.fault ≡ Some f → not_read (refused.BadFrame (50 * j.frames) f) area totals ≡ read_call M file area totals
     unfolding read_examined
-    read-12 n = sym (if-false _ _ _ (ne_eqb j.fault 0 n)) ∙ examined-only
+    read-bad f e =
+        let r : read_examined M j file area totals ≡ not_read (refused.BadFrame (50 * j.frames) f) area totals = rw e in
+        sym r ∙ examined-only
 
-    module _ (z : j.fault ≡ 0) where
+    module _ (z : j.fault ≡ None) where
       abbrev es : List Entry
       es = filed j.frames file
 
@@ -147,17 +152,19 @@ module _ (M : ℕ) (file area totals : List ℕ) where
 
       into-only : read_into M es area totals ≡ read_call M file area totals
       unfolding read_examined
-      into-only = sym (if-true _ _ _ (eq-eqb j.fault 0 z)) ∙ examined-only
+      into-only =
+          let r : read_examined M j file area totals ≡ read_into M es area totals = rw z in
+          sym r ∙ examined-only
 
-      pub read-9 : length area < 32 * j.frames → not_read 9 0 0 area totals ≡ read_call M file area totals
+      pub read-no_room : length area < 32 * j.frames → not_read refused.NoRoom area totals ≡ read_call M file area totals
       unfolding read_into
-      read-9 h = sym (if-true _ _ _ (lt-ltb (length area) (32 * length es) (omega (arith, count)))) ∙ into-only
+      read-no_room h = sym (if-true _ _ _ (lt-ltb (length area) (32 * length es) (omega (arith, count)))) ∙ into-only
 
       pub read_done : (area' totals' : List ℕ) → 32 * j.frames ≤ length area → area' ≡ over (packed encode_entry (filed j.frames file)) area
           → totals' ≡ packed (big 8) (through (no_totals M) (filed j.frames file))
-          → ◌≡◌ {A = LeftRead} (record { answer = record { code = 0; entries = j.frames; offset = 0; fault = 0 }; area = area'; totals = totals' })
+          → ◌≡◌ {A = LeftRead} (record { answer = Ok j.frames; area = area'; totals = totals' })
           (read_call M file area totals)
       unfolding read_into
       read_done area' totals' h p q =
-          (λ i. record { answer = record { code = 0; entries = sym count i; offset = 0; fault = 0 }; area = p i; totals = q i })
+          (λ i. record { answer = Ok (sym count i); area = p i; totals = q i })
           ∙ (sym (if-false _ _ _ (le-ltb (length area) (32 * length es) (omega (arith, count)))) ∙ into-only)

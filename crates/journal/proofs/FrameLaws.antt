@@ -110,7 +110,7 @@ module _ (file area : List ℕ) where
   entries_none = over-nil area
 
   pub entries-more : (j : ℕ) (cur : List ℕ) {part : List ℕ} (e : Entry) → cur ≡ over (packed encode_entry (filed j file)) area
-      → e ≡ entry_of (drop (50 * j + 9) file)
+      → e ≡ framed_entry (drop (50 * j) file)
       → part ≡ over (encode_entry e) (take (length cur - 32 * j) (drop (32 * j) cur))
       → take (32 * j) cur ++ (part ++ drop (length cur - 32 * j) (drop (32 * j) cur)) ≡ over (packed encode_entry (filed (j + 1) file)) area
   unfolding packed
@@ -119,4 +119,4 @@ module _ (file area : List ℕ) where
       packed-length 32 entry_of encode_entry EntryFits entry-codec (filed j file) ∙ ap (λ (k : ℕ). 32 * k) (cells-length 50 framed_entry j file) in
       over-lend (packed encode_entry (filed j file)) (encode_entry e) area (32 * j) l p w
       ∙ ap (λ (s : List ℕ). over s area)
-      (rw (q, add-one, cells-last 50 framed_entry j file, packed-append encode_entry (filed j file) (framed_entry (drop (50 * j) file) ∷ []), append-nil, drop-drop))
+      (rw (q, add-one, cells-last 50 framed_entry j file, packed-append encode_entry (filed j file) (framed_entry (drop (50 * j) file) ∷ []), append-nil))

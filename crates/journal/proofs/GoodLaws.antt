@@ -5,6 +5,7 @@
 use mathlib.Core.Path.{◌≡◌, refl, sym, ap, ◌∙◌}
 use mathlib.Core.Bool.{true, not}
 use mathlib.Core.List.{List, [], ◌∷◌, ◌++◌, append_assoc}
+use Rattle.std.specs.Prelude.{None, Ok}
 use Prim.Native.Nat.{ℕ, zero, suc, ◌+◌, ◌^◌, ◌≤◌, ◌<◌}
 use native.Mathlib.Nat.{add-zero}
 use native.Mathlib.Omega.{arith}
@@ -68,12 +69,12 @@ module _ (op : ℕ) (e : Entry) (o : Outcome) (rest : List ℕ) where
         entry-ok = ap entry_ok from-entry ∙ entry_ok-encode e (encode_result o ++ rest) k.fits ∙ k.ok;
       }
 
-same-result : (o : Outcome) → result_fault o o ≡ 0
+same-result : (o : Outcome) → result_fault o o ≡ Ok tt
 unfolding result_fault
 same-result o = if-false _ _ _ (ap not (eq-eqb o.code o.code refl)) ∙ if-false _ _ _ (ap not (eq-eqb o.total o.total refl))
 
 frame-good : (op : ℕ) (ts : List ℕ) (e : Entry) (rest : List ℕ) → Sendable e → all_small ts ≡ true → op < 2 ^ 32
-    → fault op ts (journal_frame op e (outcome ts e) ++ rest) ≡ 0
+    → fault op ts (journal_frame op e (outcome ts e) ++ rest) ≡ Ok tt
 frame-good op ts e rest k small h =
     let o = outcome ts e in
     let s = journal_frame op e o ++ rest in
@@ -87,9 +88,9 @@ frame-good op ts e rest k small h =
 -- ---- all frames
 
 pub examined-frames : (k i : ℕ) (ts : List ℕ) (es : List Entry) → All Sendable es → all_small ts ≡ true → length es ≤ k → i + length es < 2 ^ 32
-    → examined_after k i ts (frames_after i es (results_of ts es)) ≡ examined_as (i + length es) 0
+    → examined_after k i ts (frames_after i es (results_of ts es)) ≡ examined_as (i + length es) None
 unfolding frames_after results_of
-examined-frames k i ts [] ks small l h = examined-end i ts [] k refl ∙ ap (λ (n : ℕ). examined_as n 0) (sym (add-zero i))
+examined-frames k i ts [] ks small l h = examined-end i ts [] k refl ∙ ap (λ (n : ℕ). examined_as n None) (sym (add-zero i))
 examined-frames zero i ts (e ∷ es) ks small l h = absurd (omega arith)
 examined-frames (suc k) i ts (e ∷ es) ks small l h =
     let o = outcome ts e in
@@ -99,7 +100,7 @@ examined-frames (suc k) i ts (e ∷ es) ks small l h =
     examined-good i ts s (omega (arith, framed-long (suc i) e o rest)) k (frame-good (suc i) ts e rest ks.0 small (omega arith))
     ∙ (λ j. examined_after k (suc i) (totals_after ts (framed-entry (suc i) e o rest ks.0.fits j)) (framed-rest (suc i) e o rest j))
     ∙ examined-frames k (suc i) (totals_after ts e) es ks.1 (small-after ts small e) (omega arith) (omega arith)
-    ∙ ap (λ (m : ℕ). examined_as m 0) n
+    ∙ ap (λ (m : ℕ). examined_as m None) n
 
 pub filed-frames : (i : ℕ) (es : List Entry) (os : List Outcome) → length es ≡ length os → All Sendable es
     → filed (length es) (frames_after i es os) ≡ es

@@ -1,5 +1,4 @@
 -- Laws of the groups in which members are taken.
---     each_more                      a fact about each number, one more
 --     size_few, in-above             a group's size, and its first member
 --     below_none, below_next, below_all    the groups below the first, below the next one, and below the end
 --     Grouped, grouped-none          a run that has the totals of a group; before any entry
@@ -9,7 +8,6 @@
 use mathlib.Core.Path.{◌≡◌, refl, sym, ap, ◌∙◌, subst}
 use mathlib.Core.Bool.{Bool, true, false, false≢true}
 use mathlib.Core.List.{List}
-use mathlib.Core.Logic.{⊎_elim}
 use Prim.Native.Nat.{ℕ, ◌+◌, ◌-◌, ◌*◌, ◌≤◌, ◌<◌}
 use native.Mathlib.Omega.{arith}
 use lib.Dec.{leb, ltb}
@@ -20,7 +18,6 @@ use Rattle.numbers.specs.Words.{when◌then◌else◌}
 use Rattle.numbers.specs.Numbers.{Bytes}
 use Rattle.numbers.specs.Cells.{cells}
 use Rattle.numbers.proofs.WordLaws.{split, if-true, if-false}
-use Rattle.numbers.proofs.NumberLaws.{le-or-lt}
 use Rattle.entries.specs.Entries.{operation_of}
 use Rattle.entries.specs.declared.Entry.{Entry}
 use Rattle.fees.specs.Fees.{rule, outcome_on, total_bytes_after}
@@ -32,27 +29,21 @@ use Rattle.journal.specs.Journal.{no_totals}
 use Rattle.journal.specs.Steps.{group_size, in_group, groups_below, group_entry}
 use Rattle.journal.proofs.TotalLaws.{through-none, through-more, given_is, after_is, after-bytes, zero-totals, zero-bytes}
 
--- a fact about each number below i, and about i
-pub each_more : (P : ℕ → Type 0) (i : ℕ) → ((k : ℕ) → k < i → P k) → P i → (k : ℕ) → k < i + 1 → P k
-each_more P i h p k l =
-    ⊎_elim (λ (a : i ≤ k). let e : i ≡ k = omega arith in subst P e p) (λ (b : k < i). h k b) (le-or-lt i k)
-
 -- ---- who is in a group
 
 module _ (M low : ℕ) where
   size-le : group_size M low ≤ M - low
   unfolding group_size
-  size-le = split (λ (k : ℕ). k ≤ M - low) (ltb (M - low) 64) _ _ (λ _. omega arith) (λ p. ltb-false (M - low) 64 p)
+  size-le = omega arith
 
   pub size_few : group_size M low ≤ 64
   unfolding group_size
-  size_few =
-      split (λ (k : ℕ). k ≤ 64) (ltb (M - low) 64) _ _ (λ p. let l = ltb-true (M - low) 64 p in omega arith) (λ _. omega arith)
+  size_few = omega arith
 
   -- a member that is less than 64 above the first is one of them
   size_above : (k : ℕ) → k < 64 → k < M - low → k < group_size M low
   unfolding group_size
-  size_above k h l = split (λ (n : ℕ). k < n) (ltb (M - low) 64) _ _ (λ _. l) (λ _. h)
+  size_above k h l = omega arith
 
   module _ (m : ℕ) where
     pub in-above : in_group M low m ≡ true → low ≤ m

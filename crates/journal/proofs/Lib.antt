@@ -1,4 +1,5 @@
 pub mod FrameLaws
+pub mod ChunkLaws
 pub mod FaultLaws
 pub mod TotalLaws
 pub mod GroupLaws

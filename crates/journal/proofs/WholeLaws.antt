@@ -5,6 +5,8 @@
 use mathlib.Core.Path.{◌≡◌, refl, sym, ap, ◌∙◌}
 use mathlib.Core.Bool.{Bool, true, false}
 use mathlib.Core.List.{List, [], ◌∷◌, ◌++◌}
+use Rattle.std.specs.Prelude.{None, Result, Ok, Err}
+use Rattle.std.proofs.lemmas.Option.{none-some}
 use Prim.Native.Nat.{ℕ, zero, suc, ◌+◌, ◌≤◌, ◌<◌}
 use native.Mathlib.Nat.{add-zero}
 use native.Mathlib.Omega.{arith}
@@ -23,9 +25,11 @@ use Rattle.fees.specs.Results.{result_of, encode_result}
 use Rattle.fees.specs.declared.Outcome.{Outcome}
 use Rattle.model.specs.Book.{outcome, totals_after, results_of}
 use Rattle.journal.specs.Journal.{journal_frame, frames_after, framed_entry, framed_result, filed}
+use Rattle.journal.specs.declared.refusal.Fault.{Fault}
+use Rattle.journal.specs.declared.refusal.Fault.TheVariants as wrong
 use Rattle.journal.specs.Examining.{result_fault, fault, examined_after}
 use Rattle.journal.specs.declared.Examined.{Examined}
-use Rattle.journal.proofs.FaultLaws.{GoodForm, form-good, form-zero, fault-result, passed}
+use Rattle.journal.proofs.FaultLaws.{GoodForm, form-good, form-first, fault-result, passed}
 use Rattle.journal.proofs.ExamineLaws.{examined-end, examined-past, examined-bad, examined-good}
 
 -- ---- one frame
@@ -68,11 +72,11 @@ nothing : (s : List ℕ) → length s ≡ 0 → s ≡ []
 nothing [] h = refl
 nothing (x ∷ s) h = absurd (omega arith)
 
-same-result : (o r : Outcome) → result_fault o r ≡ 0 → r ≡ o
+same-result : (o r : Outcome) → result_fault o r ≡ Ok tt → r ≡ o
 unfolding result_fault
 same-result o r e =
-    let c = passed _ 6 _ (omega arith) e in
-    let t = passed _ 7 0 (omega arith) c.1 in
+    let c = passed _ wrong.Outcome _ e in
+    let t = passed _ wrong.Total (Ok tt) c.1 in
     λ i. record { code = eqb-true r.code o.code (not-false _ c.0) i; total = eqb-true r.total o.total (not-false _ t.0) i }
 
 -- nothing is left
@@ -88,16 +92,16 @@ ended k i ts s e =
     }
 
 -- a good frame, and what follows it
-module _ (k i : ℕ) (ts s : List ℕ) (b : Bytes s) (more : 0 < length s) (z : fault (suc i) ts s ≡ 0)
+module _ (k i : ℕ) (ts s : List ℕ) (b : Bytes s) (more : 0 < length s) (z : fault (suc i) ts s ≡ Ok tt)
     (w : Whole k (suc i) (totals_after ts (framed_entry s)) (drop 50 s)) where
   form : GoodForm (suc i) s
-  form = form-good (suc i) s (form-zero (suc i) ts s z)
+  form = form-good (suc i) s (form-first (suc i) ts s z)
 
   framed : Sendable (framed_entry s)
   framed = record { fits = entry-fits (drop 9 s) (drop-bytes 9 s b); ok = ok-entry (drop 9 s) form.entry-ok }
 
   given : framed_result s ≡ outcome ts (framed_entry s)
-  given = same-result (outcome ts (framed_entry s)) (framed_result s) (sym (fault-result (suc i) ts s (form-zero (suc i) ts s z)) ∙ z)
+  given = same-result (outcome ts (framed_entry s)) (framed_result s) (sym (fault-result (suc i) ts s (form-first (suc i) ts s z)) ∙ z)
 
   one_more : Whole (suc k) i ts s
   unfolding frames_after results_of cells
@@ -117,25 +121,21 @@ module _ (i : ℕ) (ts s : List ℕ) (b : Bytes s) where
   some : eqb (length s) 0 ≡ false → 0 < length s
   some h = omega (arith, eqb-false (length s) 0 h)
 
-  no_more : (e : Bool) → eqb (length s) 0 ≡ e → (examined_after 0 i ts s).fault ≡ 0 → Whole 0 i ts s
+  no_more : (e : Bool) → eqb (length s) 0 ≡ e → (examined_after 0 i ts s).fault ≡ None → Whole 0 i ts s
   no_more true h f = ended 0 i ts s (eqb-true (length s) 0 h)
-  no_more false h f = absurd (omega (arith, sym (ap (λ (j : Examined). j.fault) (examined-past i ts s (some h))) ∙ f))
+  no_more false h f = absurd (none-some wrong.PastLast (sym f ∙ ap (λ (j : Examined). j.fault) (examined-past i ts s (some h))))
 
-  module _ (k : ℕ) (f : (examined_after (suc k) i ts s).fault ≡ 0)
-      (then : (examined_after k (suc i) (totals_after ts (framed_entry s)) (drop 50 s)).fault ≡ 0 → Whole k (suc i) (totals_after ts (framed_entry s)) (drop 50 s)) where
-    first : (g : Bool) → 0 < length s → eqb (fault (suc i) ts s) 0 ≡ g → Whole (suc k) i ts s
-    first true l h =
-        let z = eqb-true (fault (suc i) ts s) 0 h in
-        one_more k i ts s b l z (then (sym (ap (λ (j : Examined). j.fault) (examined-good i ts s l k z)) ∙ f))
-    first false l h =
-        let n = eqb-false (fault (suc i) ts s) 0 h in
-        absurd (n (sym (ap (λ (j : Examined). j.fault) (examined-bad i ts s l k n)) ∙ f))
+  module _ (k : ℕ) (f : (examined_after (suc k) i ts s).fault ≡ None)
+      (then : (examined_after k (suc i) (totals_after ts (framed_entry s)) (drop 50 s)).fault ≡ None → Whole k (suc i) (totals_after ts (framed_entry s)) (drop 50 s)) where
+    first : (g : Result (Unit {0}) Fault) → 0 < length s → fault (suc i) ts s ≡ g → Whole (suc k) i ts s
+    first (Ok _) l z = one_more k i ts s b l z (then (sym (ap (λ (j : Examined). j.fault) (examined-good i ts s l k z)) ∙ f))
+    first (Err g) l n = absurd (none-some g (sym f ∙ ap (λ (j : Examined). j.fault) (examined-bad i ts s l k g n)))
 
     turn : (e : Bool) → eqb (length s) 0 ≡ e → Whole (suc k) i ts s
     turn true h = ended (suc k) i ts s (eqb-true (length s) 0 h)
-    turn false h = first (eqb (fault (suc i) ts s) 0) (some h) refl
+    turn false h = first (fault (suc i) ts s) (some h) refl
 
-pub whole : (k i : ℕ) (ts s : List ℕ) → Bytes s → (examined_after k i ts s).fault ≡ 0 → Whole k i ts s
+pub whole : (k i : ℕ) (ts s : List ℕ) → Bytes s → (examined_after k i ts s).fault ≡ None → Whole k i ts s
 whole zero i ts s b f = no_more i ts s b (eqb (length s) 0) refl f
 whole (suc k) i ts s b f =
     turn i ts s b k f (whole k (suc i) (totals_after ts (framed_entry s)) (drop 50 s) (drop-bytes 50 s b)) (eqb (length s) 0) refl

@@ -13,6 +13,7 @@ use lib.ListN.{length, take, drop, take-append-drop}
 use lib.Seq.{take-add, take_at, drop_at, drop-drop, length-take-le}
 use Rattle.numbers.specs.Numbers.{over, put_at}
 use Rattle.numbers.specs.Cells.{cells}
+use borrow.Author.Count.{below_more as each_more}
 use Rattle.numbers.proofs.RunLaws.{put-before, put-after, put-length}
 use Rattle.numbers.proofs.CellLaws.{cells-length}
 use Rattle.entries.specs.Entries.{entry_of, entries}
@@ -24,7 +25,7 @@ use Rattle.model.proofs.BookLaws.{answers-length, answers-append}
 use Rattle.journal.specs.Journal.{journal_frame, frames_after, no_totals, journal}
 use Rattle.journal.specs.Steps.{group_size, in_group, groups_below, group_entry, entry_of_run, totals_of_run, frame_of_run, WritesGroup}
 use Rattle.journal.proofs.FrameLaws.{cells-last, frames-length, frames-more}
-use Rattle.journal.proofs.GroupLaws.{each_more, below_next, below_all, below_none, Grouped, grouped-given}
+use Rattle.journal.proofs.GroupLaws.{below_next, below_all, below_none, Grouped, grouped-given}
 
 -- what was written at a place stands there
 stands : (a n : ℕ) (w s : List ℕ) → length w ≡ n → a ≤ length s → take n (drop a (put_at a w s)) ≡ w

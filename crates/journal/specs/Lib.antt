@@ -1,3 +1,4 @@
+pub mod Refusals
 pub mod Journal
 pub mod Examining
 pub mod Steps

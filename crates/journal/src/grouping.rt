@@ -7,43 +7,46 @@ ghost use Rattle.journal.specs.Steps.{group_size, in_group, group_entry};
 use entries::Entry;
 use fees::Outcome;
 
-// How many members a group has.
-fn group_size(members: u32, low: u32) -> u32
-    requires { low < members }
-    ensures { result ≡ group_size members low }
-{
-    if members - low < 64 {
-        return members - low;
-    }
-    64
+// Of so many members those from `low` on.
+#[derive(Clone, Copy)]
+pub struct Group {
+    pub members: u32,
+    pub low: u32,
+    ghost begins: { low < members },
 }
 
-// Whether an entry of this member is taken with the group.
-pub fn in_group(members: u32, low: u32, member: u32) -> bool
-    requires { low < members }
-    ensures { result ≡ in_group members low member }
-{
-    if member < low {
-        return false;
+impl Group {
+    // How many members it has.
+    fn size(self) -> u32
+        ensures { result ≡ group_size self.members self.low }
+    {
+        (self.members - self.low).min(64)
     }
-    if member - low < 64 {
-        return true;
-    }
-    members - low <= 64
-}
 
-// An entry of the group on its totals.
-pub fn apply(totals: &mut [u8], members: u32, low: u32, e: Entry) -> Outcome
-    requires { (low < members) × ((in_group members low e.member ≡ true) × (512 ≤ length totals.old)) }
-    ensures { (result ≡ outcome_on (group_size members low) totals.old (group_entry low e)) × (totals.new ≡ total_bytes_after (group_size members low) totals.old (group_entry low e)) }
-{
-    let member = e.member - low;
-    let as_there = Entry {
-        client: e.client,
-        request: e.request,
-        operation: e.operation,
-        member,
-        cents: e.cents,
-    };
-    fees::apply(totals, group_size(members, low), as_there)
+    // Whether an entry of this member is taken with it.
+    pub fn has(self, member: u32) -> bool
+        ensures { result ≡ in_group self.members self.low member }
+    {
+        if member < self.low {
+            return false;
+        }
+        if member - self.low < 64 {
+            return true;
+        }
+        self.members - self.low <= 64
+    }
+
+    // An entry of its own on its totals.
+    pub fn apply(self, totals: &mut [u8], e: Entry) -> Outcome
+        requires own { in_group self.members self.low e.member ≡ true }
+        requires room { 512 ≤ length totals.old }
+        ensures outcome { result ≡ outcome_on (group_size self.members self.low) totals.old (group_entry self.low e) }
+        ensures totals { totals.new ≡ total_bytes_after (group_size self.members self.low) totals.old (group_entry self.low e) }
+    {
+        let as_there = Entry {
+            member: e.member - self.low,
+            ..e
+        };
+        fees::apply(totals, self.size(), as_there)
+    }
 }

@@ -1,14 +1,14 @@
 // Frames into an area, each straight after the one before it.
 ghost use Rattle.std.specs.Prelude.{◌≡◌, ◌+◌, ◌*◌, ◌≤◌, ◌<◌, length, drop};
 ghost use Rattle.numbers.specs.Numbers.{over};
-ghost use Rattle.entries.specs.Entries.{entries};
+ghost use Rattle.entries.specs.Entries.{entries, run_count};
 ghost use Rattle.entries.specs.Places.{entry_place, result_place};
 ghost use Rattle.fees.specs.Results.{outcomes};
 ghost use Rattle.journal.specs.Journal.{journal_frame, frames_after, journal};
 ghost use Rattle.journal.specs.Steps.{WritesGroup};
 ghost use Rattle.journal.specs.Calls.{ops_there};
 
-use crate::grouping;
+use crate::grouping::Group;
 use entries::Entry;
 use fees::Outcome;
 
@@ -24,32 +24,32 @@ fn write_frame(area: &mut [u8], op: u32, e: Entry, o: Outcome)
     fees::write_result(&mut area[41..], o);
 }
 
-// The frames of those entries that are of a group's members, among the first n of a run.
-fn write_group(members: u32, low: u32, run: &[u8], n: usize, area: &mut [u8])
-    requires { (low < members) × ((n ≤ 4096) × ((32 * n ≤ length run.now) × (50 * n ≤ length area.old))) }
-    ensures { WritesGroup members low n run.now area.old area.new }
+// The frames of those entries of a run that are of a group's members.
+fn write_group(group: Group, run: &[u8], area: &mut [u8])
+    requires few { run_count run.now ≤ 4096 }
+    requires room { 50 * run_count run.now ≤ length area.old }
+    ensures { WritesGroup group.members group.low (run_count run.now) run.now area.old area.new }
 {
     let mut totals: [u8; 512] = [0; 512];
-    let mut k: usize = 0;
-    while k < n {
+    // Kept: by the index, since with run.chunks_exact(32).enumerate() a write of 4,096 entries of 240 members takes a sixth longer.
+    for k in 0..run.len() / 32 {
         let e = entries::entry_at(run, 32 * k);
-        if grouping::in_group(members, low, e.member) {
-            let o = grouping::apply(&mut totals, members, low, e);
+        if group.has(e.member) {
+            let o = group.apply(&mut totals, e);
             write_frame(&mut area[50 * k..], (k + 1) as u32, e, o);
         }
-        k += 1;
     }
 }
 
-// The frames of the first n entries of a run, with what the fee rules give for each from totals of 0. The run is looked over once for each group of members.
-pub fn write_frames(members: u32, run: &[u8], n: usize, area: &mut [u8])
-    requires { (1 ≤ members) × ((members ≤ 4096) × ((n ≤ 4096) × ((32 * n ≤ length run.now) × (50 * n ≤ length area.old)))) }
-    ensures { area.new ≡ over (journal members (entries n run.now)) area.old }
+// The frames of a run's entries, with what the fee rules give for each from totals of 0. The run is looked over once for each group of members.
+pub fn write_frames(members: u32, run: &[u8], area: &mut [u8])
+    requires some { 1 ≤ members }
+    requires few { run_count run.now ≤ 4096 }
+    requires room { 50 * run_count run.now ≤ length area.old }
+    ensures { area.new ≡ over (journal members (entries (run_count run.now) run.now)) area.old }
 {
-    let mut low: u32 = 0;
-    while low < members {
-        write_group(members, low, run, n, area);
-        low += 64;
+    for low in (0..members).step_by(64) {
+        write_group(Group { members, low }, run, area);
     }
 }
 
@@ -71,16 +71,18 @@ pub fn ops_there(from: u32, to: u32, log: &[u8], results: &[u8]) -> bool
 
 // The frames of k ops after the first `from`, with the results that stand there.
 pub fn copy_frames(from: u32, k: usize, log: &[u8], results: &[u8], area: &mut [u8])
-    requires { (from + k ≤ 4096) × ((entry_place (from + k) ≤ length log.now) × ((result_place (from + k) ≤ length results.now) × (50 * k ≤ length area.old))) }
+    requires few { from + k ≤ 4096 }
+    requires logged { entry_place (from + k) ≤ length log.now }
+    requires given { result_place (from + k) ≤ length results.now }
+    requires room { 50 * k ≤ length area.old }
     ensures { area.new ≡ over (frames_after from (entries k (drop (entry_place from) log.now)) (outcomes k (drop (result_place from) results.now))) area.old }
 {
     let first = from as usize;
-    let mut j: usize = 0;
-    while j < k {
+    // Kept: by the index, since a zip of two chunks_exact, each skipped to `from` and taken to k, and an enumerate over it are no plainer.
+    for j in 0..k {
         let i = first + j;
         let e = entries::entry_in(log, i);
         let o = fees::result_in(results, i);
         write_frame(&mut area[50 * j..], (i + 1) as u32, e, o);
-        j += 1;
     }
 }

@@ -46,6 +46,7 @@ use Rattle.journal.specs.Journal.{frames_after, no_totals, journal}
 use Rattle.journal.specs.Calls.{frames_in, ops_there}
 use Rattle.journal.proofs.FrameLaws.{frames-join}
 use Rattle.kept_journal.specs.Appended.{frames_of, ops_of, journaled_by, journaled_in, run_journaled_by, run_journaled_in, Completes, Journaled, JournalKept}
+use Rattle.state.specs.Answers.{code_of}
 
 -- frames out of bytes, from any op on, complete those before it
 frames-split : (from to : ℕ) (log results : List ℕ) → from ≤ to
@@ -206,12 +207,12 @@ from_nothing s s' x' w r =
       is = r.is ∙ ap (λ (u : Setup). journal u.members r.applied') (sym r.setup);
     }
 
-pub journal-kept : (u : Setup) (x : Lent) (d : Called) (y : Lent) (s : Replica) (z : Lent) → CreatePromise u x d → d.answer.code ≡ 0
+pub journal-kept : (u : Setup) (x : Lent) (d : Called) (y : Lent) (s : Replica) (z : Lent) → CreatePromise u x d → code_of d.answer ≡ 0
     → HandedBack d.lent y → (c : Chain s z d.answer.state y) → JournalKept s z (journaled_in s z d.answer.state y c)
 journal-kept u x d y s z p e h c = from_nothing _ _ _ _ (journaled s z _ y [] (handed-kept _ _ _ _ h (p.keeps e)) c)
 
 pub journal-kept-recovered : (u : Setup) (v : View) (nonce : ℕ) (x : Lent) (d : Called) (y : Lent) (s : Replica) (z : Lent)
-    → RecoverPromise u v nonce x d → d.answer.code ≡ 0 → HandedBack d.lent y → (c : Chain s z d.answer.state y)
+    → RecoverPromise u v nonce x d → code_of d.answer ≡ 0 → HandedBack d.lent y → (c : Chain s z d.answer.state y)
     → JournalKept s z (journaled_in s z d.answer.state y c)
 journal-kept-recovered u v nonce x d y s z p e h c = from_nothing _ _ _ _ (journaled s z _ y [] (handed-kept _ _ _ _ h (p.keeps e)) c)
 

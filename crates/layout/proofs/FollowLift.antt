@@ -18,6 +18,7 @@ use Rattle.layout.specs.Shown.{Given, Step, Grew, Did, change_of}
 use Rattle.layout.specs.Shown.Grew.{more, anew}
 use Rattle.layout.proofs.RowLift.{Means}
 use Rattle.layout.proofs.TableLift.{Reads, Settled, follow-append, follow-install}
+use Rattle.state.specs.Answers.{installed_of}
 
 module _ (c : Given) (d : Step) (table : List ClientEntry) (applied : List Entry) (m' : State) (ms : List Sent) (rs : List Reply)
     (did : Did c d (model_of c.state c.runs table applied).book m' ms rs) where
@@ -62,7 +63,7 @@ module _ (c : Given) (d : Step) (table : List ClientEntry) (applied : List Entry
     abbrev rows : List R
     rows = followed h (change_of c d) xs log (outcomes d.answer.state.commit.0 d.runs.results)
 
-    by-growth : Grew b d.answer.installed m'.book → Means h n m'.book.table rows
+    by-growth : Grew b (installed_of d.answer) m'.book → Means h n m'.book.table rows
     by-growth (more es j p q) =
         subst (λ (a : Book). Means h n a.table rows) (sym q)
         (follow-append h law n (change_of c d) b es j xs log _ p (reads _ q) before before-fits after-fits)

@@ -5,6 +5,7 @@
 --     no-votes, new-voted        where nobody asked yet; a replica just created
 --     after-voted                the votes that a call leaves
 -- Assumes nothing.
+use Rattle.std.specs.Prelude.{Result, Ok, Err}
 use Prim.Native.Nat.{ℕ, zero, suc, ◌+◌, ◌/◌, ◌%◌, ◌^◌, ◌≤◌, ◌<◌}
 use native.Mathlib.Nat.{zero-div}
 use native.Mathlib.Omega.{arith}
@@ -30,8 +31,7 @@ use Rattle.frames.specs.Refusals.{check_frame}
 use Rattle.frames.specs.declared.Status.{Status}
 use Rattle.frames.specs.declared.Message.{Message}
 use Rattle.frames.specs.declared.Message.TheVariants.{Request, Prepare, PrepareOk, Commit, GetState, NewState, StartViewChange, DoViewChange, StartView, Recovery, RecoveryResponse}
-use Rattle.frames.specs.declared.Checked.{Checked}
-use Rattle.frames.specs.declared.Checked.TheVariants.{Passed, Refused}
+use Rattle.frames.specs.declared.Refusal.{Refusal}
 use Rattle.model.specs.State.{Book, Held, Reported, Response, State, Sent, Reply, Answer}
 use Rattle.model.specs.State.Answer.{refused, done}
 use Rattle.model.specs.State.{after, ignored, set_place, set_book, set_votes, set_store, set_clock, set_status, set_acks}
@@ -45,10 +45,11 @@ use Rattle.model.specs.ViewChange.{on_start_view_change, on_do_view_change, join
 use Rattle.model.specs.Recovery.{noted, forgotten, on_recovery, recovered, recover_with, recover_from, recover_latest, on_recovery_response}
 use Rattle.model.specs.Steps.{fitted, on_message, on_checked, primary_tick, next_view, follow_tick, change_tick, on_idle, on_frame, on_tick, new_at}
 use Rattle.model.specs.Asked.{OthersAsked, Voted, Backed, AllBacked}
+use Rattle.frames.specs.declared.Refusal.TheVariants.{OutOfRange, PastRoom, PastLog, NotRising, Uncommits, LastView, NoRoomForMessages, NoRoomForReplies}
 
 -- what a call answers: its votes follow from those before it, and each DoViewChange is backed
 pub data Fair (u : Setup) (Asked : ℕ → ℕ → Type 0) (m : State) : Answer → Type 0 where
-  refusal : (k : ℕ) → Fair u Asked m (refused k)
+  refusal : (k : Refusal) → Fair u Asked m (refused k)
   moved : {m' : State} (out : List Sent) (rs : List Reply) → (Voted u Asked m → Voted u Asked m' × AllBacked u Asked out) → Fair u Asked m (done m' out rs)
 
 none_in : (k : ℕ) → bit 0 k ≡ 0
@@ -213,8 +214,8 @@ module _ (u : Setup) (Asked : ℕ → ℕ → Type 0) where
       cases _ _ _ (λ _. ignored-fair) λ _.
       cases _ _ _ (λ _. ignored-fair) λ _.
       cases _ _ _ (λ _. resend-fair m e _) λ _.
-      cases _ _ _ (λ _. refusal 4) λ _.
-      cases _ _ _ (λ _. refusal 6) λ _.
+      cases _ _ _ (λ _. refusal PastRoom) λ _.
+      cases _ _ _ (λ _. refusal NotRising) λ _.
       went [] (λ h. acks-kept _ _ (book-kept m _ h)) (others-backed _ [] tt)
 
   catch-fair : (m : State) (v : ℕ) → Fair u Asked m (catch_up_with_view u m v)
@@ -244,8 +245,8 @@ module _ (u : Setup) (Asked : ℕ → ℕ → Type 0) where
       from-primary m v _
       (cases _ _ _ (λ _. since (heard-kept m) (transfer-fair _)) λ _.
       cases _ _ _ (λ _. since (heard-kept m) (prepared-fair _ c)) λ _.
-      cases _ _ _ (λ _. refusal 4) λ _.
-      cases _ _ _ (λ _. refusal 6) λ _.
+      cases _ _ _ (λ _. refusal PastRoom) λ _.
+      cases _ _ _ (λ _. refusal NotRising) λ _.
       since (λ h. book-kept _ _ (heard-kept m h)) (prepared-fair _ c))
 
   commit-fair : (m : State) (v c : ℕ) → Fair u Asked m (on_commit u m v c)
@@ -261,7 +262,7 @@ module _ (u : Setup) (Asked : ℕ → ℕ → Type 0) where
       cases _ _ _ (λ _. ignored-fair) λ _.
       cases _ _ _ (λ _. ignored-fair) λ _.
       cases _ _ _ (λ _. went [] (acks-kept m _) tt) λ _.
-      cases _ _ _ (λ _. refusal 5) λ _.
+      cases _ _ _ (λ _. refusal PastLog) λ _.
       went _ (λ h. acks-kept _ _ (book-kept m _ h)) tt
 
   get_state-fair : (m : State) (r v o : ℕ) → Fair u Asked m (on_get_state u m r v o)
@@ -275,12 +276,12 @@ module _ (u : Setup) (Asked : ℕ → ℕ → Type 0) where
       cases _ _ _
       (λ _.
       cases _ _ _ (λ _. heard-fair) λ _.
-      cases _ _ _ (λ _. refusal 6) λ _.
+      cases _ _ _ (λ _. refusal NotRising) λ _.
       went [] (λ h. status-kept _ _ (book-kept _ _ (heard-kept m h))) (ack-backed _)) λ _.
       cases _ _ _
       (λ _.
       cases _ _ _ (λ _. heard-fair) λ _.
-      cases _ _ _ (λ _. refusal 6) λ _.
+      cases _ _ _ (λ _. refusal NotRising) λ _.
       went [] (λ _. entered-voted m _ _ _) (ack-backed _)) λ _.
       heard-fair
 
@@ -293,8 +294,8 @@ module _ (u : Setup) (Asked : ℕ → ℕ → Type 0) where
   start_view-fair : (m : State) (log : List Entry) (c : ℕ) (out : List Sent) → AllBacked u Asked out → Fair u Asked m (start_view u m log c out)
   unfolding start_view started_with start_view_to_others start_view_of
   start_view-fair m log c out f =
-      cases _ _ _ (λ _. refusal 7) λ _.
-      cases _ _ _ (λ _. refusal 7) λ _.
+      cases _ _ _ (λ _. refusal Uncommits) λ _.
+      cases _ _ _ (λ _. refusal Uncommits) λ _.
       went _ (λ _. entered-voted m _ _ _) (both-backed out _ f (others-backed _ _ tt))
 
   chosen-fair : (m : State) (o : Option Reported) (out : List Sent) → AllBacked u Asked out → Fair u Asked m (start_chosen u m o out)
@@ -354,7 +355,7 @@ module _ (u : Setup) (Asked : ℕ → ℕ → Type 0) where
   on_start_view-fair m v k =
       cases _ _ _ (λ _. ignored-fair) λ _.
       cases _ _ _ (λ _. ignored-fair) λ _.
-      cases _ _ _ (λ _. refusal 7) (λ _. went [] (λ _. entered-voted m v _ _) (ack-backed _))
+      cases _ _ _ (λ _. refusal Uncommits) (λ _. went [] (λ _. entered-voted m v _ _) (ack-backed _))
 
   -- ---- recovery
 
@@ -373,8 +374,8 @@ module _ (u : Setup) (Asked : ℕ → ℕ → Type 0) where
   recover_with-fair m v w none = ignored-fair
   recover_with-fair m v w (some k) =
       cases _ _ _ (λ _. ignored-fair) λ _.
-      cases _ _ _ (λ _. refusal 7) λ _.
-      cases _ _ _ (λ _. refusal 7) (λ _. went [] (λ _. entered-voted (forgotten u m) v _ _) tt)
+      cases _ _ _ (λ _. refusal Uncommits) λ _.
+      cases _ _ _ (λ _. refusal Uncommits) (λ _. went [] (λ _. entered-voted (forgotten u m) v _ _) tt)
 
   recover_from-fair : (m : State) (v : ℕ) (d : Option Response) → Fair u Asked m (recover_from u m v d)
   unfolding recover_from
@@ -396,7 +397,7 @@ module _ (u : Setup) (Asked : ℕ → ℕ → Type 0) where
 
   next_view-fair : (m : State) (out : List Sent) → AllBacked u Asked out → Fair u Asked m (next_view u m out)
   unfolding next_view
-  next_view-fair m out f = cases _ _ _ (λ _. refusal 8) (λ _. change-fair m _ out f)
+  next_view-fair m out f = cases _ _ _ (λ _. refusal LastView) (λ _. change-fair m _ out f)
 
   primary_tick-fair : (m : State) → Fair u Asked m (primary_tick u m)
   unfolding primary_tick
@@ -444,26 +445,26 @@ module _ (u : Setup) (Asked : ℕ → ℕ → Type 0) where
   message-fair m (Recovery r x v) log a = recovery-fair m r x v.0
   message-fair m (RecoveryResponse v x r t) log a = response-fair m v.0 x r _
 
-  checked-fair : (m : State) (s : List ℕ) (x : Checked) → ((v : View) (r : ℕ) → x ≡ Passed (StartViewChange v r) → Asked v.0 r)
+  checked-fair : (m : State) (s : List ℕ) (x : Result Message Refusal) → ((v : View) (r : ℕ) → x ≡ Ok (StartViewChange v r) → Asked v.0 r)
       → Fair u Asked m (on_checked u m s x)
   unfolding on_checked
-  checked-fair m s (Refused k p) a = refusal k
-  checked-fair m s (Passed x) a =
-      cases _ _ _ (λ _. ignored-fair) (λ _. message-fair m x _ (λ v r e. a v r (ap Passed e)))
+  checked-fair m s (Err k) a = refusal k
+  checked-fair m s (Ok x) a =
+      cases _ _ _ (λ _. ignored-fair) (λ _. message-fair m x _ (λ v r e. a v r (ap Ok e)))
 
   fitted-fair : (m : State) (a b : ℕ) (x : Answer) → Fair u Asked m x → Fair u Asked m (fitted a b x)
   unfolding fitted
   fitted-fair m a b (refused k) g = g
-  fitted-fair m a b (done m' out rs) g = cases _ _ _ (λ _. refusal 9) λ _. cases _ _ _ (λ _. refusal 10) (λ _. g)
+  fitted-fair m a b (done m' out rs) g = cases _ _ _ (λ _. refusal NoRoomForMessages) λ _. cases _ _ _ (λ _. refusal NoRoomForReplies) (λ _. g)
 
-  pub frame-fair : (m : State) (s : List ℕ) (a b : ℕ) → ((v : View) (r : ℕ) → check_frame u s ≡ Passed (StartViewChange v r) → Asked v.0 r)
+  pub frame-fair : (m : State) (s : List ℕ) (a b : ℕ) → ((v : View) (r : ℕ) → check_frame u s ≡ Ok (StartViewChange v r) → Asked v.0 r)
       → Fair u Asked m (on_frame u m s a b)
   unfolding on_frame
-  frame-fair m s a b f = cases _ _ _ (λ _. refusal 1) (λ _. fitted-fair m a b _ (checked-fair m s (check_frame u s) f))
+  frame-fair m s a b f = cases _ _ _ (λ _. refusal OutOfRange) (λ _. fitted-fair m a b _ (checked-fair m s (check_frame u s) f))
 
   pub tick-fair : (m : State) (a b : ℕ) → Fair u Asked m (on_tick u m a b)
   unfolding on_tick
-  tick-fair m a b = cases _ _ _ (λ _. refusal 1) (λ _. fitted-fair m a b _ (idle-fair m))
+  tick-fair m a b = cases _ _ _ (λ _. refusal OutOfRange) (λ _. fitted-fair m a b _ (idle-fair m))
 
   -- what a call leaves, and what it sends
   pub after-voted : {m : State} {x : Answer} → Fair u Asked m x → Voted u Asked m → Voted u Asked (after m x)

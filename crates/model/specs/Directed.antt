@@ -1,12 +1,11 @@
 -- Directed examples, one for each line of document 01's "Steps that are easy to misread", for its unmarked examples and for surprises of
 -- the Rust. Of each call: number, bytes of messages, bytes of replies; at the end the whole state. Assumes nothing.
-use Rattle.std.specs.Prelude.{ℕ, ◌≡◌, List, [], ◌∷◌, length, replicate}
+use Rattle.std.specs.Prelude.{Some, None, ℕ, ◌≡◌, List, [], ◌∷◌, length, replicate}
 use Rattle.std.proofs.Math.Option.{Option, none, some}
 use Rattle.numbers.specs.Cells.{packed}
 use Rattle.entries.specs.Entries.{encode_entry}
 use Rattle.entries.specs.declared.Entry.{Entry}
 use Rattle.config.specs.declared.Setup.{Setup}
-use Rattle.frames.specs.declared.RecoveryState.TheVariants.{Absent, Present}
 use Rattle.frames.specs.declared.Message.TheVariants.{Request, Prepare, PrepareOk, Commit, GetState, NewState, StartViewChange, DoViewChange, StartView}
 use Rattle.frames.specs.declared.Message.TheVariants.{Recovery, RecoveryResponse}
 use Rattle.writers.specs.Writers.{encode, reply}
@@ -14,6 +13,8 @@ use Rattle.model.specs.State.{view_of, op_number, ClientEntry, Book, Store, Stat
 use Rattle.model.specs.State.Answer.{refused, done}
 use Rattle.model.specs.Sending.{messages_out, replies_out}
 use Rattle.model.specs.Examples.{Start, Event, answer, starts, book, store}
+use Rattle.frames.specs.Messages.{progress}
+use Rattle.frames.specs.Refusals.{number_of}
 
 -- a call, with what it answers
 pub record DirectedStep : Type 0 where
@@ -28,7 +29,7 @@ step e k out rs = record { call = e; number = k; messages = out; replies = rs }
 
 -- a call with what it does answer
 unfoldable pub told : Event → Answer → DirectedStep
-told e (refused k) = step e k [] []
+told e (refused k) = step e (number_of k) [] []
 told e (done m out rs) = step e 0 (messages_out out) (replies_out rs)
 
 module _ (u : Setup) where
@@ -120,10 +121,10 @@ unfoldable pub recovery_to : (to r x v : ℕ) → List ℕ
 recovery_to to r x v = encode to (Recovery r x (view_of v)) []
 
 unfoldable pub bare_response_to : (to v x r : ℕ) → List ℕ
-bare_response_to to v x r = encode to (RecoveryResponse (view_of v) x r Absent) []
+bare_response_to to v x r = encode to (RecoveryResponse (view_of v) x r None) []
 
 unfoldable pub response_to : (to v x r c : ℕ) → List Entry → List ℕ
-response_to to v x r c es = encode to (RecoveryResponse (view_of v) x r (Present (op_number (length es)) (op_number c))) (entries_bytes es)
+response_to to v x r c es = encode to (RecoveryResponse (view_of v) x r (Some (progress (op_number (length es)) (op_number c)))) (entries_bytes es)
 
 -- the reply to a fee that was taken
 unfoldable pub paid_reply : (v client request total : ℕ) → List ℕ

@@ -11,6 +11,7 @@ use Rattle.model.specs.State.{ClientEntry, Place, Book, Votes, Reported, Respons
 use Rattle.model.specs.State.Answer.{refused, done}
 use Rattle.model.specs.Sending.{messages_out, replies_out}
 use Rattle.model.specs.Steps.{on_frame, on_tick, create, recover}
+use Rattle.frames.specs.Refusals.{number_of}
 
 -- a creation: the first, or after a crash, with a view, a nonce and the size of the area for messages
 pub data Start : Type 0 where
@@ -37,7 +38,7 @@ unfoldable pub saw_refused : ℕ → SeenCall
 saw_refused k = record { number = k; messages = []; replies = []; state = none }
 
 unfoldable pub answer_seen : State → Answer → SeenCall
-answer_seen m (refused k) = saw k [] [] m
+answer_seen m (refused k) = saw (number_of k) [] [] m
 answer_seen m (done m' out rs) = saw 0 (messages_out out) (replies_out rs) m'
 
 module _ (u : Setup) where
@@ -56,7 +57,7 @@ module _ (u : Setup) where
 
   -- what is seen of the creation, and of each call after it
   unfoldable pub seen_from : Answer → List Event → List SeenCall
-  seen_from (refused k) es = saw_refused k ∷ []
+  seen_from (refused k) es = saw_refused (number_of k) ∷ []
   seen_from (done m out rs) es = saw 0 (messages_out out) (replies_out rs) m ∷ seen m es
 
 pub record Example : Type 0 where

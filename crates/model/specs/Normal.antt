@@ -17,6 +17,7 @@ use Rattle.model.specs.State.{ignored, set_book, set_clock, set_status, set_acks
 use Rattle.model.specs.Book.{find, append, append_all, commit_up_to, commit_replies, install}
 use Rattle.model.specs.Sending.{is_primary, send_prepare, send_prepare_ok, send_get_state, send_new_state}
 use Rattle.model.specs.ViewChange.{own_vote, enter_normal, catch_up_with_view}
+use Rattle.frames.specs.declared.Refusal.TheVariants.{PastRoom, PastLog, NotRising}
 
 -- heard_from_primary
 unfoldable pub heard_from_primary : State → State
@@ -63,8 +64,8 @@ module _ (u : Setup) where
       when (find m.book.table e.client).there and ltb e.request (find m.book.table e.client).request then ignored m else
       when (find m.book.table e.client).there and eqb e.request (find m.book.table e.client).request
       then resend m e (find m.book.table e.client).kept else
-      when leb u.room (op_of m) then refused 4 else
-      when not (rising (m.book.log ++ (e ∷ []))) then refused 6 else
+      when leb u.room (op_of m) then refused PastRoom else
+      when not (rising (m.book.log ++ (e ∷ []))) then refused NotRising else
       done (accepted m e) (send_prepare u m (op_of m + 1) e) []
 
   -- accept_from_primary: `rest` is done only by a backup in Normal, in the message's view
@@ -89,8 +90,8 @@ module _ (u : Setup) where
   take_prepare m o c e =
       when ltb (op_of m + 1) o then state_transfer (heard_from_primary m) else
       when not (eqb o (op_of m + 1)) then prepared (heard_from_primary m) c else
-      when leb u.room (op_of m) then refused 4 else
-      when not (rising (m.book.log ++ (e ∷ []))) then refused 6 else
+      when leb u.room (op_of m) then refused PastRoom else
+      when not (rising (m.book.log ++ (e ∷ []))) then refused NotRising else
       prepared (set_book (heard_from_primary m) (append m.book e)) c
 
   -- on_prepare
@@ -115,7 +116,7 @@ module _ (u : Setup) where
       when leb o m.book.commit then ignored m else
       when eqb (ack_row m o) 0 or eqb (bit (ack_row m o) r) 1 then ignored m else
       when not (eqb (count_below u.n (with_member (ack_row m o) r)) (quorum_of u.n)) then ignored (acked m o r) else
-      when ltb (op_of m) o then refused 5 else
+      when ltb (op_of m) o then refused PastLog else
       done (set_acks (committed m o) (blanked o m.votes.acks)) [] (commit_replies v m.book o)
 
   -- on_get_state
@@ -128,7 +129,7 @@ module _ (u : Setup) where
   unfoldable pub fill_gap : State → (start end commit : ℕ) → List Entry → Answer
   fill_gap m a z c es =
       when ltb (op_of m) a or leb z (op_of m) then ignored (heard_from_primary m) else
-      when not (rising (m.book.log ++ drop (op_of m - a) es)) then refused 6 else
+      when not (rising (m.book.log ++ drop (op_of m - a) es)) then refused NotRising else
       done (filled_gap m c (drop (op_of m - a) es)) (send_prepare_ok u (filled_gap m c (drop (op_of m - a) es))) []
 
   -- on_new_state, catching up, what it changes: what we had beyond our commit number is replaced. Acks stay (document 01).
@@ -139,7 +140,7 @@ module _ (u : Setup) where
   unfoldable pub catch_up : State → (start commit : ℕ) → List Entry → Answer
   catch_up m a c es =
       when not (eqb a m.book.commit) then ignored (heard_from_primary m) else
-      when not (rising (committed_then m es)) then refused 6 else
+      when not (rising (committed_then m es)) then refused NotRising else
       done (caught_up m c es) (send_prepare_ok u (caught_up m c es)) []
 
   -- on_new_state: one of our view counts as heard, in Normal too

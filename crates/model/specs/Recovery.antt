@@ -11,6 +11,7 @@ use Rattle.model.specs.State.{ignored, set_store}
 use Rattle.model.specs.Book.{commit_up_to, install, agree}
 use Rattle.model.specs.Sending.{primary, send_recovery_response}
 use Rattle.model.specs.ViewChange.{filled, enter_normal, start_view_change}
+use Rattle.frames.specs.declared.Refusal.TheVariants.{Uncommits}
 
 -- the latest view among the responses
 unfoldable pub latest_view : List (Option Response) → ℕ
@@ -51,8 +52,8 @@ module _ (u : Setup) where
   recover_with m v w none = ignored m
   recover_with m v w (some h) =
       when not (eqb w v) then ignored m else
-      when not (agree m.book.commit h.log m.book.log) then refused 7 else
-      when ltb v m.place.view then refused 7 else
+      when not (agree m.book.commit h.log m.book.log) then refused Uncommits else
+      when ltb v m.place.view then refused Uncommits else
       done (recovered m v h) [] []
 
   -- with the place of the primary of the latest view, v, which may be empty

@@ -1,17 +1,17 @@
 -- Who gets what: each message as it is sent, and the bytes of all that a call sends (the Rust's `send`, `send_to_primary`, `send_to_others`).
 -- Assumes nothing.
-use Rattle.std.specs.Prelude.{ℕ, zero, suc, ◌+◌, Bool, List, [], ◌∷◌, ◌++◌, eqb, drop}
+use Rattle.std.specs.Prelude.{Some, None, ℕ, zero, suc, ◌+◌, Bool, List, [], ◌∷◌, ◌++◌, eqb, drop}
 use Rattle.numbers.specs.Words.{when◌then◌else◌}
 use Rattle.numbers.specs.Cells.{packed}
 use Rattle.entries.specs.Entries.{encode_entry}
 use Rattle.entries.specs.declared.Entry.{Entry}
 use Rattle.config.specs.Setup.{primary_of}
 use Rattle.config.specs.declared.Setup.{Setup}
-use Rattle.frames.specs.declared.RecoveryState.TheVariants.{Absent, Present}
 use Rattle.frames.specs.declared.Message.{Message}
 use Rattle.frames.specs.declared.Message.TheVariants.{Prepare, PrepareOk, Commit, GetState, NewState, StartViewChange, DoViewChange, StartView, Recovery, RecoveryResponse}
 use Rattle.writers.specs.Writers.{encode, reply}
 use Rattle.model.specs.State.{view_of, op_number, State, Sent, Reply, op_of}
+use Rattle.frames.specs.Messages.{progress}
 
 -- the bytes of a message with its log
 unfoldable pub sent_bytes : Sent → List ℕ
@@ -112,9 +112,9 @@ module _ (u : Setup) where
       when is_primary m
       then
       send r
-      (RecoveryResponse (view_of m.place.view) x u.id (Present (op_number (op_of m)) (op_number m.book.commit)))
+      (RecoveryResponse (view_of m.place.view) x u.id (Some (progress (op_number (op_of m)) (op_number m.book.commit))))
       m.book.log
-      else send r (RecoveryResponse (view_of m.place.view) x u.id Absent) []
+      else send r (RecoveryResponse (view_of m.place.view) x u.id None) []
 
   -- send_recovery
   unfoldable pub send_recovery : State → List Sent

@@ -9,6 +9,7 @@ use Rattle.fees.specs.declared.Outcome.{Outcome}
 use Rattle.clock.specs.declared.Clock.{Clock}
 use Rattle.frames.specs.declared.Status.{Status}
 use Rattle.frames.specs.declared.Message.{Message}
+use Rattle.frames.specs.declared.Refusal.{Refusal}
 
 -- a view number as the tuple struct that messages carry
 abbrev pub view_of : ℕ → View
@@ -93,10 +94,10 @@ pub record Reply : Type 0 where
   pub request : ℕ
   pub result : Outcome
 
--- What a call answers: a refusal's number, or the new state with the messages and the replies to send, in order. A refusal has no state:
+-- What a call answers: a refusal, or the new state with the messages and the replies to send, in order. A refusal has no state:
 -- all stays as it was (document 01, "Refusal numbers").
 pub data Answer : Type 0 where
-  refused : ℕ → Answer
+  refused : Refusal → Answer
   done : State → List Sent → List Reply → Answer
 
 -- the state after a call

@@ -1,6 +1,6 @@
 -- The outside calls: creation, recovery, a frame, a tick (the Rust's `new`, `recover`, `on_message`, `on_idle`), with the refusals in document
 -- 01's order: 1; 2 to 6 on the frame alone; the Rust's early returns and the later causes in the handlers; 9, 10. Assumes nothing.
-use Rattle.std.specs.Prelude.{ℕ, ◌+◌, Bool, true, false, not, List, [], ◌∷◌, ◌++◌, ltb, leb, length, drop}
+use Rattle.std.specs.Prelude.{Option as RustOption, Some, None, Result, Ok, Err, ℕ, ◌+◌, Bool, true, false, not, List, [], ◌∷◌, ◌++◌, ltb, leb, length, drop}
 use Rattle.std.proofs.Math.Option.{Option, none, some}
 use Rattle.numbers.specs.Words.{when◌then◌else◌, ◌and◌}
 use Rattle.entries.specs.Entries.{entries}
@@ -16,12 +16,10 @@ use Rattle.frames.specs.Refusals.{check_frame}
 use Rattle.frames.specs.Looks.{looks_at}
 use Rattle.frames.specs.declared.Status.{Status}
 use Rattle.frames.specs.declared.Status.TheVariants.{Normal, Recovering}
-use Rattle.frames.specs.declared.RecoveryState.{RecoveryState}
-use Rattle.frames.specs.declared.RecoveryState.TheVariants.{Absent, Present}
+use Rattle.frames.specs.declared.Progress.{Progress}
 use Rattle.frames.specs.declared.Message.{Message}
 use Rattle.frames.specs.declared.Message.TheVariants.{Request, Prepare, PrepareOk, Commit, GetState, NewState, StartViewChange, DoViewChange, StartView, Recovery, RecoveryResponse}
-use Rattle.frames.specs.declared.Checked.{Checked}
-use Rattle.frames.specs.declared.Checked.TheVariants.{Passed, Refused}
+use Rattle.frames.specs.declared.Refusal.{Refusal}
 use Rattle.writers.specs.Writers.{size_of}
 use Rattle.state.specs.Statuses.{is_normal, is_transfer, is_changing}
 use Rattle.model.specs.State.{Held, Reported, Response, State, Sent, Answer}
@@ -32,13 +30,14 @@ use Rattle.model.specs.Sending.{is_primary, messages_out, replies_out, send_prep
 use Rattle.model.specs.Normal.{on_request, on_prepare, on_prepare_ok, on_commit, on_get_state, on_new_state}
 use Rattle.model.specs.ViewChange.{no_reports, no_acks, start_view_change, send_do_view_change, on_start_view_change, on_do_view_change, on_start_view}
 use Rattle.model.specs.Recovery.{no_responses, on_recovery, on_recovery_response}
+use Rattle.frames.specs.declared.Refusal.TheVariants.{OutOfRange, LastView, NoRoomForMessages, NoRoomForReplies}
 
 -- refusals 9 and 10: the messages, then the replies, don't fit their areas; the sums of all frames are compared
 unfoldable pub fitted : (room room_replies : ℕ) → Answer → Answer
 fitted a b (refused k) = refused k
 fitted a b (done m out rs) =
-    when ltb a (length (messages_out out)) then refused 9 else
-    when ltb b (length (replies_out rs)) then refused 10 else
+    when ltb a (length (messages_out out)) then refused NoRoomForMessages else
+    when ltb b (length (replies_out rs)) then refused NoRoomForReplies else
     done m out rs
 
 -- the log that a frame carries: as many entries as its message says, of what follows its fields
@@ -46,9 +45,9 @@ unfoldable pub carried_log : Message → List ℕ → List Entry
 carried_log x s = entries (size_of x).entries (carried_bytes x s)
 
 -- what a RecoveryResponse carries, with its log
-unfoldable pub held_in : RecoveryState → List Entry → Option Held
-held_in Absent log = none
-held_in (Present o c) log = some (record { commit = c.0; log = log })
+unfoldable pub held_in : RustOption Progress → List Entry → Option Held
+held_in None log = none
+held_in (Some p) log = some (record { commit = p.commit.0; log = log })
 
 -- Refusal 1 on a state's numbers: commit ≤ op number ≤ L, of the replica's own log and of each stored one; takings of at most 4,096,000,000,000.
 unfoldable pub held_ok : ℕ → Held → Bool
@@ -93,9 +92,9 @@ module _ (u : Setup) where
   on_message m (RecoveryResponse v x r t) log = on_recovery_response u m v.0 x r (held_in t log)
 
   -- a frame after refusals 2 to 6 on the frame alone: the table of what a status looks at, then the handler
-  unfoldable pub on_checked : State → List ℕ → Checked → Answer
-  on_checked m s (Refused k p) = refused k
-  on_checked m s (Passed x) =
+  unfoldable pub on_checked : State → List ℕ → Result Message Refusal → Answer
+  on_checked m s (Err k) = refused k
+  on_checked m s (Ok x) =
       when not (looks_at m.place.status (carried_of x).kind) then ignored m else
       on_message m x (carried_log x s)
 
@@ -110,7 +109,7 @@ module _ (u : Setup) where
   -- the wait is over, after the messages `out`: the next view, or refusal 8
   unfoldable pub next_view : State → List Sent → Answer
   next_view m out =
-      when leb 4294967295 m.place.view then refused 8 else
+      when leb 4294967295 m.place.view then refused LastView else
       start_view_change u m (m.place.view + 1) out
 
   -- a Normal backup's, and StateTransfer's, which sends its GetState first; t is the clock's tick
@@ -138,11 +137,11 @@ module _ (u : Setup) where
 
   -- The outside calls, with the sizes of the two areas lent.
   unfoldable pub on_frame : State → List ℕ → (room room_replies : ℕ) → Answer
-  on_frame m frame a b = when not (numbers_ok m) then refused 1 else fitted a b (on_checked m frame (check_frame u frame))
+  on_frame m frame a b = when not (numbers_ok m) then refused OutOfRange else fitted a b (on_checked m frame (check_frame u frame))
 
   -- a tick
   unfoldable pub on_tick : State → (room room_replies : ℕ) → Answer
-  on_tick m a b = when not (numbers_ok m) then refused 1 else fitted a b (on_idle m)
+  on_tick m a b = when not (numbers_ok m) then refused OutOfRange else fitted a b (on_idle m)
 
   -- a new replica, in a view with a nonce
   unfoldable pub new_at : Status → (view nonce : ℕ) → State
@@ -157,8 +156,8 @@ module _ (u : Setup) where
 
   -- new: refusal 1 on the setup. Nothing is sent.
   unfoldable pub create : Answer
-  create = when setup_ok u then done (new_at Normal 0 0) [] [] else refused 1
+  create = when setup_ok u then done (new_at Normal 0 0) [] [] else refused OutOfRange
 
   -- recover, with the size of the area for its Recovery messages: 1, then 9
   unfoldable pub recover : (view nonce room : ℕ) → Answer
-  recover v x a = when setup_ok u then fitted a 0 (done (new_at Recovering v x) (send_recovery u (new_at Recovering v x)) []) else refused 1
+  recover v x a = when setup_ok u then fitted a 0 (done (new_at Recovering v x) (send_recovery u (new_at Recovering v x)) []) else refused OutOfRange

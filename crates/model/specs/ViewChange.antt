@@ -14,6 +14,7 @@ use Rattle.model.specs.State.Answer.{refused, done}
 use Rattle.model.specs.State.{ignored, set_votes, set_store}
 use Rattle.model.specs.Book.{commit_up_to, commit_replies, install, agree}
 use Rattle.model.specs.Sending.{primary, is_primary, send_prepare_ok, send_get_state, send_start_view_change, do_view_change_to_primary, send_start_view, start_view_to_others}
+use Rattle.frames.specs.declared.Refusal.TheVariants.{Uncommits}
 
 -- how many places are filled: the `len` of a map over replicas
 unfoldable pub filled {ℓ} : {A : Type ℓ} → List (Option A) → ℕ
@@ -126,8 +127,8 @@ module _ (u : Setup) where
   -- entries, or the greatest c passes the chosen log. Replies go out for all that is committed here.
   unfoldable pub start_view : State → List Entry → ℕ → List Sent → Answer
   start_view m log c out =
-      when not (agree m.book.commit log m.book.log) then refused 7 else
-      when ltb (length log) c then refused 7 else
+      when not (agree m.book.commit log m.book.log) then refused Uncommits else
+      when ltb (length log) c then refused Uncommits else
       done
       (started_with m (commit_up_to (install m.book log) c))
       (out ++ start_view_to_others u (started_with m (commit_up_to (install m.book log) c)))
@@ -203,5 +204,5 @@ module _ (u : Setup) where
   on_start_view m v h =
       when ltb v m.place.view then ignored m else
       when eqb v m.place.view and not (is_changing m.place.status) then ignored m else
-      when not (agree m.book.commit h.log m.book.log) then refused 7 else
+      when not (agree m.book.commit h.log m.book.log) then refused Uncommits else
       done (joined m v h) (send_prepare_ok u (joined m v h)) []

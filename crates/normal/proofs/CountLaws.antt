@@ -14,10 +14,11 @@ use Rattle.normal.specs.PrepareOk.{ack_verdict}
 use Rattle.normal.specs.CountNumber.{count_number, ack_numbers, WeighsAck}
 use Rattle.normal.specs.declared.prepare_ok.Count.{Count}
 use Rattle.normal.specs.declared.prepare_ok.Count.TheVariants.{Nothing, Note, Refuse, Commit}
+use Rattle.frames.specs.declared.Refusal.TheVariants.{PastLog, NoRoomForReplies}
 
 by_tests : (none known full past short : Bool)
     → count_number
-    (when none then Nothing else when known then Nothing else when not full then Note else when past then Refuse 5 else when short then Refuse 10 else Commit)
+    (when none then Nothing else when known then Nothing else when not full then Note else when past then Refuse PastLog else when short then Refuse NoRoomForReplies else Commit)
     ≡ (when none or known then numbered 0 (0 ∷ 0 ∷ []) else
     when not full then numbered 0 (1 ∷ 0 ∷ []) else
     when past then numbered 5 [] else

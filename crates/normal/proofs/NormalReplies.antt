@@ -34,12 +34,13 @@ use Rattle.normal.specs.declared.prepare.PrepareVerdict.{PrepareVerdict}
 use Rattle.normal.specs.declared.prepare.PrepareVerdict.TheVariants.{Transfer, Again, Refuse, Append}
 use Rattle.normal.specs.declared.prepare_ok.Count.{Count}
 use Rattle.normal.specs.declared.request.RequestVerdict.{RequestVerdict}
+use Rattle.state.specs.Answers.{replies_written}
 
 -- ---- Request
 
 module _ (s : Replica) (e : Entry) (latest : Latest) (told : ToldOk latest) (log acks out reps : List ℕ) where
   abbrev Called : RequestVerdict → Type 0
-  Called k = Replying reps (Request.by_call k s e log acks out reps).reps (Request.by_call k s e log acks out reps).answer.replies
+  Called k = Replying reps (Request.by_call k s e log acks out reps).reps (replies_written (Request.by_call k s e log acks out reps).answer)
 
   new-replies : Called (Request.new_verdict s (length out))
   unfolding Request.new_verdict Request.by_call Request.accepted
@@ -61,7 +62,7 @@ module _ (s : Replica) (e : Entry) (latest : Latest) (told : ToldOk latest) (log
   client-replies =
       split Called _ _ _ (λ _. new-replies) (λ _. known-replies latest refl)
 
-  pub request-replies : Replying reps (request_step s e latest log acks out reps).reps (request_step s e latest log acks out reps).answer.replies
+  pub request-replies : Replying reps (request_step s e latest log acks out reps).reps (replies_written (request_step s e latest log acks out reps).answer)
   unfolding request_step Request.request_verdict Request.by_call
   request-replies =
       split Called _ _ _ (λ _. silent) λ _.
@@ -73,7 +74,7 @@ module _ (s : Replica) (x : Runs) (h : Sound s x) (o : Op) (r : ℕ) (acks reps 
   abbrev Counts : Count → Type 0
   Counts d =
       Replying reps (PrepareOk.by_count d s o r x.log x.money acks reps).reps
-      (PrepareOk.by_count d s o r x.log x.money acks reps).answer.replies
+      (replies_written (PrepareOk.by_count d s o r x.log x.money acks reps).answer)
 
   ack-replies : (held : ℕ) → Counts (PrepareOk.ack_verdict s o held r (length reps))
   unfolding PrepareOk.ack_verdict PrepareOk.by_count PrepareOk.committed_by
@@ -87,10 +88,10 @@ module _ (s : Replica) (x : Runs) (h : Sound s x) (o : Op) (r : ℕ) (acks reps 
       (o.0 - s.commit.0) reps (omega (arith, ltb-false s.op.0 o.0 l, h.commit-le, h.op_le, h.results-long))
 
   pub prepare-ok-replies : (v : View)
-      → Replying reps (prepare_ok_step s v o r x.log x.money acks reps).reps (prepare_ok_step s v o r x.log x.money acks reps).answer.replies
+      → Replying reps (prepare_ok_step s v o r x.log x.money acks reps).reps (replies_written (prepare_ok_step s v o r x.log x.money acks reps).answer)
   unfolding prepare_ok_step
   prepare-ok-replies v =
-      split (λ (d : Counted). Replying reps d.reps d.answer.replies) _ _ _ (λ _. silent)
+      split (λ (d : Counted). Replying reps d.reps (replies_written d.answer)) _ _ _ (λ _. silent)
       (λ _. ack-replies (get_or acks (ack_place (o.0 - 1)) 0))
 
 -- ---- Prepare, Commit, and a primary's tick give none

@@ -34,6 +34,7 @@ use Rattle.normal.specs.declared.prepare.Prepared.{Prepared}
 use Rattle.normal.specs.declared.prepare.PrepareVerdict.{PrepareVerdict}
 use Rattle.normal.specs.declared.prepare_ok.Count.{Count}
 use Rattle.normal.specs.declared.request.RequestVerdict.{RequestVerdict}
+use Rattle.state.specs.Answers.{code_of}
 
 -- a Commit and j Prepares to each of k others
 beats : (k j : ℕ) → 15 * k + 51 * k * j ≡ k * (15 + 51 * j)
@@ -52,7 +53,7 @@ module _ (s : Replica) (x : Runs) (h : Sound s x) where
 
   module _ (e : Entry) (latest : Latest) (log acks out reps : List ℕ) where
     abbrev Called : RequestVerdict → Type 0
-    Called k = Answers s.setup (length out) (length reps) (Request.by_call k s e log acks out reps).answer.code
+    Called k = Answers s.setup (length out) (length reps) (code_of (Request.by_call k s e log acks out reps).answer)
 
     new-suffices : Called (Request.new_verdict s (length out))
     unfolding Request.new_verdict Request.by_call Request.accepted
@@ -73,7 +74,7 @@ module _ (s : Replica) (x : Runs) (h : Sound s x) where
     client-suffices =
         split Called _ _ _ (λ _. new-suffices) (λ _. known-suffices latest)
 
-    pub request-suffices : Answers s.setup (length out) (length reps) (request_step s e latest log acks out reps).answer.code
+    pub request-suffices : Answers s.setup (length out) (length reps) (code_of (request_step s e latest log acks out reps).answer)
     unfolding request_step Request.request_verdict Request.by_call
     request-suffices =
         split Called _ _ _ (λ _. done) λ _.
@@ -133,7 +134,7 @@ module _ (s : Replica) (x : Runs) (h : Sound s x) where
 
   module _ (room : ℕ) (o : Op) (r : ℕ) (log : List ℕ) (money : Money) (acks reps : List ℕ) where
     abbrev Counts : Count → Type 0
-    Counts d = Answers s.setup room (length reps) (PrepareOk.by_count d s o r log money acks reps).answer.code
+    Counts d = Answers s.setup room (length reps) (code_of (PrepareOk.by_count d s o r log money acks reps).answer)
 
     ack-suffices : (held : ℕ) → Counts (PrepareOk.ack_verdict s o held r (length reps))
     unfolding PrepareOk.ack_verdict PrepareOk.by_count PrepareOk.committed_by
@@ -146,8 +147,8 @@ module _ (s : Replica) (x : Runs) (h : Sound s x) where
         (no-reply-room (36 * (o.0 - s.commit.0)) (omega (arith, ltb-false s.op.0 o.0 l, h.op_le))) λ _. done
 
     pub prepare-ok-suffices : (v : View)
-        → Answers s.setup room (length reps) (prepare_ok_step s v o r log money acks reps).answer.code
+        → Answers s.setup room (length reps) (code_of (prepare_ok_step s v o r log money acks reps).answer)
     unfolding prepare_ok_step
     prepare-ok-suffices v =
-        split (λ (d : Counted). Answers s.setup room (length reps) d.answer.code) _ _ _ (λ _. done)
+        split (λ (d : Counted). Answers s.setup room (length reps) (code_of d.answer)) _ _ _ (λ _. done)
         (λ _. ack-suffices (get_or acks (ack_place (o.0 - 1)) 0))

@@ -31,6 +31,7 @@ use Rattle.normal.specs.declared.prepare.PrepareVerdict.TheVariants.{Transfer, A
 use Rattle.normal.specs.declared.prepare.Prepared.{Prepared}
 use Rattle.normal.specs.Prepare.{lower_of, append_verdict, prepare_verdict, appended_by, by_prepare_verdict, taken_prepare}
 use Rattle.normal.specs.Request.{next_op}
+use Rattle.frames.specs.declared.Refusal.TheVariants.{PastRoom, NotRising, NoRoomForMessages}
 
 -- lower
 module _ (a b : Op) where
@@ -46,12 +47,12 @@ module _ (a b : Op) where
 
 -- weigh_append, weigh
 module _ (s : Replica) (p : Prepared) where
-  pub full : s.setup.room ≤ s.op.0 → Refuse 4 ≡ append_verdict s p
+  pub full : s.setup.room ≤ s.op.0 → Refuse PastRoom ≡ append_verdict s p
   unfolding append_verdict when◌then◌else◌
   full h = rw (le-leb s.setup.room s.op.0 h)
 
   module _ (h : s.op.0 < s.setup.room) (b : Bool) (q : b ≡ is_new p.latest p.entry.request) where
-    pub stale : not b ≡ true → Refuse 6 ≡ append_verdict s p
+    pub stale : not b ≡ true → Refuse NotRising ≡ append_verdict s p
     unfolding append_verdict when◌then◌else◌
     stale n = rw (lt-leb s.setup.room s.op.0 h, ← q, n)
 
@@ -88,7 +89,7 @@ module _ (s : Replica) (p : Prepared) where
   roomy-next : Roomy (append_verdict s p)
   unfolding append_verdict
   roomy-next =
-      split Roomy (leb s.setup.room s.op.0) (Refuse 4) _ (λ _. other (Refuse 4) refl)
+      split Roomy (leb s.setup.room s.op.0) (Refuse PastRoom) _ (λ _. other (Refuse PastRoom) refl)
       (λ h _. leb-false s.setup.room s.op.0 h)
 
   roomy_of : Roomy (prepare_verdict s p)
@@ -133,7 +134,7 @@ lower-fits m c o k e h = rw (e, h) (omega arith)
 
 -- append
 module _ (s : Replica) (p : Prepared) (log results totals out : List ℕ) where
-  pub no-area : (a : Returned) → length out < 16 → a ≡ refusal 9 s
+  pub no-area : (a : Returned) → length out < 16 → a ≡ refusal NoRoomForMessages s
       → left a (runs log results totals) out ≡ appended_by s p (runs log results totals) out
   unfolding appended_by when◌then◌else◌
   no-area a h e = rw (lt-ltb (length out) 16 h, e)

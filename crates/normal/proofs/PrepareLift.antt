@@ -57,6 +57,8 @@ use Rattle.steps.proofs.AckLift.{with_runs, committed-reads, ack-shown}
 use Rattle.layout.proofs.BookLift.{append-lift}
 use Rattle.model.proofs.LatestLaws.{Latest, latest-lift}
 use Rattle.steps.proofs.StepLift.{of_spoke, of_left, book_runs, heard-reads, kept-reads, kept-grew, ask-shown, accept-shown}
+use Rattle.frames.specs.declared.Refusal.TheVariants.{PastRoom, NotRising, NoRoomForMessages, NoRoomForReplies}
+use Rattle.frames.specs.declared.Refusal.{Refusal}
 
 -- nothing goes out
 pub silent-shown : (c : Given) (d : Step) (b : Book) (m' : State) → Did c d b m' [] []
@@ -65,8 +67,8 @@ unfolding fitted messages_out replies_out packed
 silent-shown c d b m' h =
     subst (λ (a : Answer). Shown c d b a)
     (sym
-    (if-false _ (refused 9) _ (le-ltb (length c.out) 0 (omega arith))
-    ∙ if-false _ (refused 10) (done m' [] []) (le-ltb (length c.reps) 0 (omega arith))))
+    (if-false _ (refused NoRoomForMessages) _ (le-ltb (length c.out) 0 (omega arith))
+    ∙ if-false _ (refused NoRoomForReplies) (done m' [] []) (le-ltb (length c.reps) 0 (omega arith))))
     h
 
 -- what refusal 1 leaves of the number of replicas
@@ -213,7 +215,7 @@ module _ (c : Given) (k : Op) (t : Replica) (y : Memory.Runs) (table : List Clie
     (same : t.setup ≡ c.state.setup) (sound : Sound t y) (bytes : Bytes y.money.totals) where
   abbrev ends : Left
   ends =
-      when ltb (length c.out) 16 then left (refusal 9 c.state) (book_runs c.runs) c.out else
+      when ltb (length c.out) 16 then left (refusal NoRoomForMessages c.state) (book_runs c.runs) c.out else
       committed_and_acked c.state t (lower_of k t.op) false y c.out
 
   abbrev read : State
@@ -299,18 +301,18 @@ module _ (c : Given) (p : Prepared) (table : List ClientEntry) (applied : List E
   abbrev By : PrepareVerdict → Answer → Type 0
   By d a = Goal (by_prepare_verdict d s p x c.out) a
 
-  refuse-shown : (k : ℕ) → By (Refuse k) (refused k)
+  refuse-shown : (k : Refusal) → By (Refuse k) (refused k)
   unfolding by_prepare_verdict fitted
   refuse-shown k = refl
 
   next-shown : By (append_verdict s p)
-      (when leb s.setup.room (op_of m) then refused 4 else
-      when not (rising (m.book.log ++ (e ∷ []))) then refused 6 else
+      (when leb s.setup.room (op_of m) then refused PastRoom else
+      when not (rising (m.book.log ++ (e ∷ []))) then refused NotRising else
       prepared s.setup (set_book (heard_from_primary m) (append m.book e)) p.commit.0)
   unfolding append_verdict
   next-shown =
-      split₂ By _ _ _ _ _ _ (ap (leb s.setup.room) (sym (now-op c table applied))) (λ _. refuse-shown 4)
-      (λ f. split₂ By _ _ _ _ _ _ rises-test (λ _. refuse-shown 6) (λ _. append-shown (leb-false _ _ f)))
+      split₂ By _ _ _ _ _ _ (ap (leb s.setup.room) (sym (now-op c table applied))) (λ _. refuse-shown PastRoom)
+      (λ f. split₂ By _ _ _ _ _ _ rises-test (λ _. refuse-shown NotRising) (λ _. append-shown (leb-false _ _ f)))
 
   verdict-shown : By (prepare_verdict s p) (take_prepare s.setup m p.op.0 p.commit.0 p.entry)
   unfolding prepare_verdict take_prepare by_prepare_verdict

@@ -27,6 +27,7 @@ use Rattle.steps.proofs.StepLaws.{commits-fit}
 use Rattle.normal.specs.declared.prepare_ok.Count.{Count}
 use Rattle.normal.specs.declared.prepare_ok.Count.TheVariants.{Nothing, Note, Refuse, Commit}
 use Rattle.normal.specs.PrepareOk.{Counted, counted, listens, ack_verdict, committed_by, by_count, prepare_ok_step}
+use Rattle.frames.specs.declared.Refusal.TheVariants.{PastLog, NoRoomForReplies}
 
 -- hears
 module _ (s : Replica) (v : View) (op : Op) where
@@ -89,11 +90,11 @@ module _ (s : Replica) (op : Op) (held from room : ℕ) where
       one_more d =
           rw (ne_eqb held 0 h, b, ne_eqb (count_below s.setup.n (with_member held from)) (quorum_of s.setup.n) (λ e. d (count-is ∙ e ∙ sym eq)))
 
-      pub past-log : k ≡ q → s.op.0 < op.0 → Refuse 5 ≡ ack_verdict s op held from room
+      pub past-log : k ≡ q → s.op.0 < op.0 → Refuse PastLog ≡ ack_verdict s op held from room
       unfolding ack_verdict when◌then◌else◌
       past-log e l = rw (ne_eqb held 0 h, b, reached e, lt-ltb s.op.0 op.0 l)
 
-      pub no-area : k ≡ q → op.0 ≤ s.op.0 → room < 36 * (op.0 - s.commit.0) → Refuse 10 ≡ ack_verdict s op held from room
+      pub no-area : k ≡ q → op.0 ≤ s.op.0 → room < 36 * (op.0 - s.commit.0) → Refuse NoRoomForReplies ≡ ack_verdict s op held from room
       unfolding ack_verdict when◌then◌else◌
       no-area e l m = rw (ne_eqb held 0 h, b, reached e, le-ltb s.op.0 op.0 l, lt-ltb room (36 * (op.0 - s.commit.0)) m)
 
@@ -121,8 +122,8 @@ module _ (s : Replica) (op : Op) (held from room : ℕ) where
       split Ready (eqb held 0) Nothing _ (λ _. other Nothing refl)
       (λ _. split Ready (eqb (bit held from) 1) Nothing _ (λ _. other Nothing refl)
       (λ _. split Ready (not (eqb (count_below s.setup.n (with_member held from)) (quorum_of s.setup.n))) Note _ (λ _. other Note refl)
-      (λ _. split Ready (ltb s.op.0 op.0) (Refuse 5) _ (λ _. other (Refuse 5) refl)
-      (λ l. split Ready (ltb room (36 * (op.0 - s.commit.0))) (Refuse 10) _ (λ _. other (Refuse 10) refl)
+      (λ _. split Ready (ltb s.op.0 op.0) (Refuse PastLog) _ (λ _. other (Refuse PastLog) refl)
+      (λ l. split Ready (ltb room (36 * (op.0 - s.commit.0))) (Refuse NoRoomForReplies) _ (λ _. other (Refuse NoRoomForReplies) refl)
       (λ m _. (ltb-false s.op.0 op.0 l, ltb-false room (36 * (op.0 - s.commit.0)) m))))))
 
   pub ready : (d : Count) → d ≡ ack_verdict s op held from room → d ≡ Commit → (op.0 ≤ s.op.0) × (36 * (op.0 - s.commit.0) ≤ room)

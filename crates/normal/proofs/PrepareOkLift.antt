@@ -38,6 +38,7 @@ use Rattle.layout.specs.Shown.Grew.{more}
 use Rattle.layout.proofs.BookLift.{settle-lift, settle-replies, settle-replies-length}
 use Rattle.steps.proofs.StepLift.{book_runs, no-growth}
 use Rattle.steps.proofs.SendLift.{idle-shown, told, told-did, replies-only, silent}
+use Rattle.frames.specs.declared.Refusal.TheVariants.{PastLog, NoRoomForReplies}
 
 -- what a step that changes results, totals and acks leaves, and that may reply
 abbrev pub of_counted : Given → Counted → Step
@@ -178,12 +179,12 @@ module _ (c : Given) (table : List ClientEntry) (applied : List Entry) (v : View
         told-did c (committed_to s o (record { log = c.runs.log; money = x })) (of_counted c after).runs false now.book next refl reads grew [] answers [] _ 0 _ refl refl q
         (sym (ap length q) ∙ answers-long)
 
-    commit-shown : Agree (when ltb (length c.reps) (36 * (o.0 - s.commit.0)) then Refuse 10 else Commit)
+    commit-shown : Agree (when ltb (length c.reps) (36 * (o.0 - s.commit.0)) then Refuse NoRoomForReplies else Commit)
         (done next [] (commit_replies s.view.0 now.book o.0))
     unfolding by_count
     commit-shown =
         subst
-        (λ (a : Answer). Shown c (of_counted c (by (when ltb (length c.reps) (36 * (o.0 - s.commit.0)) then Refuse 10 else Commit)))
+        (λ (a : Answer). Shown c (of_counted c (by (when ltb (length c.reps) (36 * (o.0 - s.commit.0)) then Refuse NoRoomForReplies else Commit)))
         now.book a)
         (sym (replies-only (length c.out) (length c.reps) next answers))
         (split₂ (λ (z : Count) (a : Answer). Shown c (of_counted c (by z)) now.book a) _ _ _ _ _ _
@@ -193,7 +194,7 @@ module _ (c : Given) (table : List ClientEntry) (applied : List Entry) (v : View
   unfolding op_of model_of book_of
   op-is = sym (cells-length 32 entry_of s.op.0 c.runs.log)
 
-  past-shown : Agree (Refuse 5) (refused 5)
+  past-shown : Agree (Refuse PastLog) (refused PastLog)
   unfolding by_count fitted
   past-shown = refl
 
@@ -202,7 +203,7 @@ module _ (c : Given) (table : List ClientEntry) (applied : List Entry) (v : View
   rest w =
       when eqb held 0 or eqb (bit held r) 1 then ignored now else
       when not (eqb (count_below s.setup.n (with_member held r)) (quorum_of s.setup.n)) then ignored (acked now o.0 r) else
-      when ltb (op_of now) o.0 then refused 5 else
+      when ltb (op_of now) o.0 then refused PastLog else
       done next [] (commit_replies w now.book o.0)
 
   weighed : Agree (ack_verdict s o held r (length c.reps)) (rest s.view.0)
@@ -212,7 +213,7 @@ module _ (c : Given) (table : List ClientEntry) (applied : List Entry) (v : View
       (λ t. subst (λ (z : Count). Agree z (ignored now)) (sym (either _ _ _ _ t)) nothing-shown)
       (λ f.
       subst (λ (z : Count). Agree z (when not (eqb (count_below s.setup.n (with_member held r)) (quorum_of s.setup.n)) then ignored (acked now o.0 r) else
-      when ltb (op_of now) o.0 then refused 5 else
+      when ltb (op_of now) o.0 then refused PastLog else
       done next [] (commit_replies s.view.0 now.book o.0)))
       (sym (if-false _ _ _ (or_left _ _ f) ∙ if-false _ _ _ (or_right _ _ f)))
       (split₂ Agree _ _ _ _ _ _ refl (λ _. note-shown) λ _.

@@ -27,6 +27,7 @@ use Rattle.normal.specs.declared.request.RequestVerdict.{RequestVerdict}
 use Rattle.normal.specs.declared.request.RequestVerdict.TheVariants as Calls
 use Rattle.book.specs.Memory.{Memory}
 use Rattle.steps.proofs.RefusedSteps.{Untouched, Speaks, Leaves, done, refused, acked-done, transferred-untouched, deferred-untouched, acked-untouched}
+use Rattle.frames.specs.declared.Refusal.TheVariants.{NoRoomForMessages}
 
 module _ (s : Replica) (m : Memory) where
   -- ---- Request
@@ -51,7 +52,7 @@ module _ (s : Replica) (m : Memory) where
   verdict-untouched p Transfer = transferred-untouched s m
   verdict-untouched p Again = acked-untouched s m _ _ _
   verdict-untouched p (Refuse k) = refused s m k
-  verdict-untouched p Append = split (Leaves s m) _ _ _ (λ _. refused s m 9) (λ e. done s m (acked-done s _ _ _ _ m.out e))
+  verdict-untouched p Append = split (Leaves s m) _ _ _ (λ _. refused s m NoRoomForMessages) (λ e. done s m (acked-done s _ _ _ _ m.out e))
 
   pub prepare-untouched : (v : View) (p : Prepared) → Leaves s m (prepare_step s v p m.runs m.out)
   unfolding prepare_step taken_prepare
@@ -89,4 +90,4 @@ module _ (s : Replica) (m : Memory) where
 
   pub primary-tick-untouched : Speaks s m (primary_tick s m.runs.log m.out)
   unfolding primary_tick
-  primary-tick-untouched = split (Speaks s m) _ _ _ (λ _. refused s m 9) (λ _. done s m refl)
+  primary-tick-untouched = split (Speaks s m) _ _ _ (λ _. refused s m NoRoomForMessages) (λ _. done s m refl)

@@ -33,6 +33,8 @@ use Rattle.normal.specs.declared.request.RequestVerdict.{RequestVerdict}
 use Rattle.normal.specs.declared.request.RequestVerdict.TheVariants.{Nothing, Resend, Refuse, Append}
 use Rattle.normal.specs.Request.{Ready, Took, Answered, served, took, answered, sends_of, again_verdict, known_verdict, new_verdict, client_verdict, request_verdict, next_op, prepare_of, accepted, resent, by_call, request_step}
 use Rattle.normal.proofs.SendLaws.{prepare-long}
+use Rattle.frames.specs.declared.Refusal.TheVariants.{PastRoom, NoRoomForMessages, NoRoomForReplies}
+use Rattle.frames.specs.declared.Refusal.{Refusal}
 
 -- weigh_again
 module _ (e : Entry) (request : ℕ) (o : Outcome) (room : ℕ) where
@@ -41,7 +43,7 @@ module _ (e : Entry) (request : ℕ) (o : Outcome) (room : ℕ) where
   older h = rw (lt-ltb e.request request h)
 
   module _ (g : request ≤ e.request) where
-    pub again-short : room < 36 → Refuse 10 ≡ again_verdict e request o room
+    pub again-short : room < 36 → Refuse NoRoomForReplies ≡ again_verdict e request o room
     unfolding again_verdict when◌then◌else◌
     again-short h = rw (le-ltb e.request request g, lt-ltb room 36 h)
 
@@ -51,12 +53,12 @@ module _ (e : Entry) (request : ℕ) (o : Outcome) (room : ℕ) where
 
 -- weigh_new
 module _ (s : Replica) (out : ℕ) where
-  pub full : s.setup.room ≤ s.op.0 → Refuse 4 ≡ new_verdict s out
+  pub full : s.setup.room ≤ s.op.0 → Refuse PastRoom ≡ new_verdict s out
   unfolding new_verdict when◌then◌else◌
   full h = rw (le-leb s.setup.room s.op.0 h)
 
   module _ (k : ℕ) (g : s.op.0 < s.setup.room) (e : k ≡ sends_of s) where
-    pub new-short : out < k → Refuse 9 ≡ new_verdict s out
+    pub new-short : out < k → Refuse NoRoomForMessages ≡ new_verdict s out
     unfolding new_verdict when◌then◌else◌
     new-short h = rw (lt-leb s.setup.room s.op.0 g, lt-ltb out (sends_of s) (omega arith))
 
@@ -98,9 +100,9 @@ module _ (s : Replica) (out reps : ℕ) where
   again-fits : (e : Entry) (request : ℕ) (o : Outcome) → Fits (again_verdict e request o reps)
   unfolding again_verdict
   again-fits e request o =
-      let a : RequestVerdict = when ltb reps 36 then Refuse 10 else Resend o in
+      let a : RequestVerdict = when ltb reps 36 then Refuse NoRoomForReplies else Resend o in
       split Fits (ltb e.request request) Nothing a (λ h. tt)
-      (λ h. split Fits (ltb reps 36) (Refuse 10) (Resend o) (λ l. tt) (λ l. ltb-false reps 36 l))
+      (λ h. split Fits (ltb reps 36) (Refuse NoRoomForReplies) (Resend o) (λ l. tt) (λ l. ltb-false reps 36 l))
 
   known-fits : (e : Entry) (latest : Latest) → Fits (known_verdict e latest reps)
   unfolding known_verdict
@@ -111,9 +113,9 @@ module _ (s : Replica) (out reps : ℕ) where
   new-fits : Fits (new_verdict s out)
   unfolding new_verdict
   new-fits =
-      let a : RequestVerdict = when ltb out (sends_of s) then Refuse 9 else Append in
-      split Fits (leb s.setup.room s.op.0) (Refuse 4) a (λ h. tt)
-      (λ h. split Fits (ltb out (sends_of s)) (Refuse 9) Append (λ l. tt)
+      let a : RequestVerdict = when ltb out (sends_of s) then Refuse NoRoomForMessages else Append in
+      split Fits (leb s.setup.room s.op.0) (Refuse PastRoom) a (λ h. tt)
+      (λ h. split Fits (ltb out (sends_of s)) (Refuse NoRoomForMessages) Append (λ l. tt)
       (λ l. (leb-false s.setup.room s.op.0 h, ltb-false out (sends_of s) l)))
 
   client-fits : (e : Entry) (latest : Latest) → Fits (client_verdict s e latest out reps)
@@ -212,7 +214,7 @@ module _ (s : Replica) (e : Entry) (latest : Latest) (log acks out reps : List �
   unfolding request_step by_call
   answers a r o v p = rw v (ap (λ (d : Answered). served d.answer log acks out d.reps) p)
 
-  pub refuses : (a : Returned) (k : ℕ) → request_verdict s e latest (length out) (length reps) ≡ Refuse k → a ≡ refusal k s
+  pub refuses : (a : Returned) (k : Refusal) → request_verdict s e latest (length out) (length reps) ≡ Refuse k → a ≡ refusal k s
       → served a log acks out reps ≡ request_step s e latest log acks out reps
   unfolding request_step by_call
   refuses a k v p = rw (v, p)

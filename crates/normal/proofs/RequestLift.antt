@@ -52,6 +52,8 @@ use Rattle.model.proofs.LatestLaws as L
 use Rattle.model.proofs.LatestLaws.{latest-lift}
 use Rattle.steps.proofs.StepLift.{no-growth}
 use Rattle.steps.proofs.SendLift.{bare-bytes, still-reads, idle-shown, told-did, sends-only, replies-only}
+use Rattle.frames.specs.declared.Refusal.TheVariants.{PastRoom, NotRising, NoRoomForMessages, NoRoomForReplies}
+use Rattle.frames.specs.declared.Refusal.{Refusal}
 
 -- what a step that changes log and acks leaves, and that may send and reply
 abbrev pub of_served : Given → Served → Step
@@ -106,7 +108,7 @@ above true x y h = lt-leb x y (h refl)
 -- what the latest number calls for, by the reply that is kept
 abbrev answer_to : Option Outcome → (room : ℕ) → RequestVerdict
 answer_to none room = Nothing
-answer_to (some o) room = when ltb room 36 then Refuse 10 else Resend o
+answer_to (some o) room = when ltb room 36 then Refuse NoRoomForReplies else Resend o
 
 -- the verdict by what the table has of the client
 module _ (s : Replica) (e : Entry) (r : ℕ) (out reps : ℕ) where
@@ -162,11 +164,11 @@ module _ (c : Given) (table : List ClientEntry) (applied : List Entry) (e : Entr
   unfolding by_call
   nothing-shown = idle-shown c table applied
 
-  refuse-shown : (k : ℕ) → Agree (Refuse k) (refused k)
+  refuse-shown : (k : Refusal) → Agree (Refuse k) (refused k)
   unfolding by_call fitted
   refuse-shown k = refl
 
-  refuse-fitted : (k : ℕ) → Goal (by (Refuse k)) (refused k)
+  refuse-fitted : (k : Refusal) → Goal (by (Refuse k)) (refused k)
   unfolding by_call
   refuse-fitted k = refl
 
@@ -188,12 +190,12 @@ module _ (c : Given) (table : List ClientEntry) (applied : List Entry) (e : Entr
       told-did c s c.runs false now.book now refl (still-reads c table applied) (no-growth now.book) [] (again-with o ∷ []) []
       (reply_to s.view e o) 0 36 refl refl (reply-bytes o) (reply-length s.view e o)
 
-  resend-shown : (o : Outcome) → Agree (when ltb (length c.reps) 36 then Refuse 10 else Resend o) (done now [] (again-with o ∷ []))
+  resend-shown : (o : Outcome) → Agree (when ltb (length c.reps) 36 then Refuse NoRoomForReplies else Resend o) (done now [] (again-with o ∷ []))
   resend-shown o =
-      subst (Goal (by (when ltb (length c.reps) 36 then Refuse 10 else Resend o)))
+      subst (Goal (by (when ltb (length c.reps) 36 then Refuse NoRoomForReplies else Resend o)))
       (sym (replies-only (length c.out) (length c.reps) now (again-with o ∷ [])))
       (split₂ (λ (z : RequestVerdict) (a : Answer). Goal (by z) a) _ _ _ _ _ _ (ap (ltb (length c.reps)) (sym (reply-long o)))
-      (λ _. refuse-fitted 10) (λ _. resend-did o))
+      (λ _. refuse-fitted NoRoomForReplies) (λ _. resend-did o))
 
   kept-shown : (k : Option Outcome) → Agree (answer_to k (length c.reps)) (resend now e k)
   unfolding resend
@@ -243,14 +245,14 @@ module _ (c : Given) (table : List ClientEntry) (applied : List Entry) (e : Entr
         (send_prepare s.setup now (op_of now + 1) e) [] (W.to_others s.setup.n s.setup.id (prepare_of s e) []) [] (sends_of s) 0
         prepare-bytes prepares-long refl refl
 
-    append-shown : Agree (when ltb (length c.out) (sends_of s) then Refuse 9 else Append)
+    append-shown : Agree (when ltb (length c.out) (sends_of s) then Refuse NoRoomForMessages else Append)
         (done next (send_prepare s.setup now (op_of now + 1) e) [])
     append-shown =
-        subst (Goal (by (when ltb (length c.out) (sends_of s) then Refuse 9 else Append)))
+        subst (Goal (by (when ltb (length c.out) (sends_of s) then Refuse NoRoomForMessages else Append)))
         (sym (sends-only (length c.out) (length c.reps) next (send_prepare s.setup now (op_of now + 1) e)))
         (split₂ (λ (z : RequestVerdict) (a : Answer). Goal (by z) a) _ _ _ _ _ _
         (ap (ltb (length c.out)) (sym (ap length prepare-bytes ∙ prepares-long)))
-        (λ _. refuse-fitted 9) (λ _. append-did))
+        (λ _. refuse-fitted NoRoomForMessages) (λ _. append-did))
 
   abbrev seen : Seen
   seen = find table e.client
@@ -258,8 +260,8 @@ module _ (c : Given) (table : List ClientEntry) (applied : List Entry) (e : Entr
   -- what the model does with a new number
   abbrev taken : Answer
   taken =
-      when leb s.setup.room (op_of now) then refused 4 else
-      when not (rising (now.book.log ++ (e ∷ []))) then refused 6 else
+      when leb s.setup.room (op_of now) then refused PastRoom else
+      when not (rising (now.book.log ++ (e ∷ []))) then refused NotRising else
       done next (send_prepare s.setup now (op_of now + 1) e) []
 
   risen : (seen.there ≡ true → seen.request < e.request) → rising (now.book.log ++ (e ∷ [])) ≡ true
@@ -271,8 +273,8 @@ module _ (c : Given) (table : List ClientEntry) (applied : List Entry) (e : Entr
   new-shown : (seen.there ≡ true → seen.request < e.request) → Agree (new_verdict s (length c.out)) taken
   unfolding new_verdict
   new-shown h =
-      split₂ Agree _ _ _ _ _ _ (ap (leb s.setup.room) (sym op-is)) (λ _. refuse-shown 4) λ l.
-      subst (Agree (when ltb (length c.out) (sends_of s) then Refuse 9 else Append)) (sym (if-false _ _ _ (ap not (risen h))))
+      split₂ Agree _ _ _ _ _ _ (ap (leb s.setup.room) (sym op-is)) (λ _. refuse-shown PastRoom) λ l.
+      subst (Agree (when ltb (length c.out) (sends_of s) then Refuse NoRoomForMessages else Append)) (sym (if-false _ _ _ (ap not (risen h))))
       (append-shown (leb-false _ _ l))
 
   -- ---- by the client's row

@@ -27,6 +27,7 @@ use Rattle.state.specs.declared.Replica.{Replica}
 use Rattle.steps.specs.Steps.{spoke}
 use Rattle.normal.specs.Tick.{Leading, heartbeat_length, prepares_length, heartbeat_of, prepares_to, prepares_of, primary_tick}
 use Rattle.normal.proofs.SendLaws.{prepare-long, beat-long}
+use Rattle.frames.specs.declared.Refusal.TheVariants.{NoRoomForMessages}
 
 -- no more than 4096 ops to 6 others
 pub prepares-small : (s : Replica) (n : ℕ) → Leading s n → prepares_length s (s.op.0 - s.commit.0) ≤ 1253376
@@ -136,7 +137,7 @@ module _ (s : Replica) (log : List ℕ) (h : Leading s (length log)) where
 
   -- tick_primary
   module _ (out : List ℕ) (k : ℕ) (e : k ≡ heartbeat_length s + prepares_length s (s.op.0 - s.commit.0)) where
-    pub tick-short : (a : Returned) → length out < k → a ≡ refusal 9 s → spoke a out ≡ primary_tick s log out
+    pub tick-short : (a : Returned) → length out < k → a ≡ refusal NoRoomForMessages s → spoke a out ≡ primary_tick s log out
     unfolding primary_tick when◌then◌else◌
     tick-short a l p = rw (lt-ltb (length out) (heartbeat_length s + prepares_length s (s.op.0 - s.commit.0)) (omega arith), p)
 

@@ -24,6 +24,7 @@ use Rattle.normal.specs.declared.prepare.PrepareVerdict.TheVariants.{Transfer, A
 use Rattle.normal.specs.declared.prepare.PrepareVerdict.TheVariants as Q
 use Rattle.normal.specs.declared.request.RequestVerdict.{RequestVerdict}
 use Rattle.normal.specs.declared.request.RequestVerdict.TheVariants.{Nothing, Resend, Refuse, Append}
+use Rattle.frames.specs.declared.Refusal.TheVariants.{PastRoom, NotRising, NoRoomForMessages, NoRoomForReplies}
 
 -- ---- Request
 
@@ -52,11 +53,11 @@ module _ (s : Replica) (e : Entry) (latest : Latest) (out reps : ℕ) where
   unfolding known_verdict kept_numbers again_verdict again_numbers
   known-number Row.Nothing = refl
   known-number (Row.Waiting r) = refl
-  known-number (Row.Answered r o) = by_two (ltb e.request r) (ltb reps 36) Nothing (Refuse 10) (Resend o)
+  known-number (Row.Answered r o) = by_two (ltb e.request r) (ltb reps 36) Nothing (Refuse NoRoomForReplies) (Resend o)
 
   new-number : request_number (new_verdict s out) ≡ new_numbers s out
   unfolding new_verdict new_numbers
-  new-number = by_two (leb s.setup.room s.op.0) (ltb out (sends_of s)) (Refuse 4) (Refuse 9) Append
+  new-number = by_two (leb s.setup.room s.op.0) (ltb out (sends_of s)) (Refuse PastRoom) (Refuse NoRoomForMessages) Append
 
   pub request-number : request_number (request_verdict s e latest out reps) ≡ request_numbers s e latest out reps
   unfolding request_verdict client_verdict request_numbers
@@ -70,7 +71,7 @@ module _ (s : Replica) (e : Entry) (latest : Latest) (out reps : ℕ) where
 -- ---- Prepare
 
 by_place : (past early full old : Bool)
-    → prepare_number (when past then Transfer else when early then Again else when full then Q.Refuse 4 else when not old then Q.Refuse 6 else Q.Append)
+    → prepare_number (when past then Transfer else when early then Again else when full then Q.Refuse PastRoom else when not old then Q.Refuse NotRising else Q.Append)
     ≡ (when past then numbered 0 (1 ∷ 0 ∷ []) else
     when early then numbered 0 (0 ∷ 0 ∷ []) else
     when full then numbered 4 [] else

@@ -9,11 +9,12 @@ use Rattle.state.specs.declared.Replica.{Replica}
 use Rattle.normal.specs.PrepareOk.{ack_verdict}
 use Rattle.normal.specs.declared.prepare_ok.Count.{Count}
 use Rattle.normal.specs.declared.prepare_ok.Count.TheVariants.{Nothing, Note, Refuse, Commit}
+use Rattle.frames.specs.Refusals.{number_of}
 
 abbrev pub count_number : Count → Numbered
 count_number Nothing = numbered 0 (0 ∷ 0 ∷ [])
 count_number Note = numbered 0 (1 ∷ 0 ∷ [])
-count_number (Refuse k) = numbered k []
+count_number (Refuse k) = numbered (number_of k) []
 count_number Commit = numbered 0 (1 ∷ 1 ∷ [])
 
 -- By the rules, `held` being the row of the op, `room` the size of the area for replies. Not new: no row, or the sender is in it. It fires only where the count

@@ -17,6 +17,7 @@ use Rattle.normal.specs.Request.{next_op}
 use Rattle.entries.specs.declared.Entry.{Entry}
 use Rattle.client_table.specs.Latest.{is_new}
 use Rattle.client_table.specs.declared.Latest.{Latest}
+use Rattle.frames.specs.declared.Refusal.TheVariants.{PastRoom, NotRising, NoRoomForMessages}
 
 -- the lower of two op numbers
 abbrev pub lower_of : Op → Op → Op
@@ -29,8 +30,8 @@ prepared_by o c e latest = record { op = o; commit = c; entry = e; latest = late
 -- the next op: refusal 4 where the log has L entries; 6 where the client's row has this number or a later one
 unfoldable pub append_verdict : Replica → Prepared → PrepareVerdict
 append_verdict s p =
-    when leb s.setup.room s.op.0 then Refuse 4 else
-    when not (is_new p.latest p.entry.request) then Refuse 6 else
+    when leb s.setup.room s.op.0 then Refuse PastRoom else
+    when not (is_new p.latest p.entry.request) then Refuse NotRising else
     Append
 
 -- past the next op a state transfer; an earlier one is a re-sent Prepare, not compared with our entry
@@ -47,7 +48,7 @@ with_entry s p x = record { log = with_entries s.op.0 (encode_entry p.entry) x.l
 -- appended; then commit to the smaller of c and our op number, and acknowledge our op number
 unfoldable pub appended_by : Replica → Prepared → Runs → List ℕ → Left
 appended_by s p x out =
-    when ltb (length out) 16 then left (refusal 9 s) x out else
+    when ltb (length out) 16 then left (refusal NoRoomForMessages s) x out else
     committed_and_acked s (with_log (heard_by s) (next_op s) s.commit) (lower_of p.commit (next_op s)) false (with_entry s p x) out
 
 unfoldable pub by_prepare_verdict : PrepareVerdict → Replica → Prepared → Runs → List ℕ → Left

@@ -9,11 +9,12 @@ use Rattle.normal.specs.Prepare.{prepare_verdict}
 use Rattle.normal.specs.declared.prepare.Prepared.{Prepared}
 use Rattle.normal.specs.declared.prepare.PrepareVerdict.{PrepareVerdict}
 use Rattle.normal.specs.declared.prepare.PrepareVerdict.TheVariants.{Transfer, Again, Refuse, Append}
+use Rattle.frames.specs.Refusals.{number_of}
 
 abbrev pub prepare_number : PrepareVerdict → Numbered
 prepare_number Transfer = numbered 0 (1 ∷ 0 ∷ [])
 prepare_number Again = numbered 0 (0 ∷ 0 ∷ [])
-prepare_number (Refuse k) = numbered k []
+prepare_number (Refuse k) = numbered (number_of k) []
 prepare_number Append = numbered 0 (0 ∷ 1 ∷ [])
 
 -- By the rules: an op past the next one, an earlier one, and the next one, which is 4 at L entries, then 6 where its client's number isn't new.

@@ -18,6 +18,7 @@ use Rattle.steps.specs.Steps.{committed_to}
 use Rattle.normal.specs.declared.prepare_ok.Count.{Count}
 use Rattle.normal.specs.declared.prepare_ok.Count.TheVariants.{Nothing, Note, Refuse, Commit}
 use Rattle.steps.specs.Recorded.{Recorded, recorded}
+use Rattle.frames.specs.declared.Refusal.TheVariants.{PastLog, NoRoomForReplies}
 
 -- what a PrepareOk leaves: the answer, results and totals, acks, and the area for replies
 pub record Counted : Type 0 where
@@ -56,8 +57,8 @@ ack_verdict s op held from room =
     when eqb held 0 then Nothing else
     when eqb (bit held from) 1 then Nothing else
     when not (eqb (count_below s.setup.n (with_member held from)) (quorum_of s.setup.n)) then Note else
-    when ltb s.op.0 op.0 then Refuse 5 else
-    when ltb room (36 * (op.0 - s.commit.0)) then Refuse 10 else
+    when ltb s.op.0 op.0 then Refuse PastLog else
+    when ltb room (36 * (op.0 - s.commit.0)) then Refuse NoRoomForReplies else
     Commit
 
 -- all up to op is money_committed, with a reply to each in the current view, and the rows of acks up to it go

@@ -28,6 +28,7 @@ use Rattle.normal.specs.declared.request.RequestVerdict.{RequestVerdict}
 use Rattle.normal.specs.declared.request.RequestVerdict.TheVariants.{Nothing, Resend, Refuse, Append}
 use Rattle.steps.specs.Recorded.{Recorded, recorded}
 use Rattle.book.specs.Memory.{Memory}
+use Rattle.frames.specs.declared.Refusal.TheVariants.{PastRoom, NoRoomForMessages, NoRoomForReplies}
 
 -- what refusal 1 leaves, of log and acks
 pub record Ready (s : Replica) (log acks : ℕ) : Type 0 where
@@ -87,7 +88,7 @@ sends_of s = 51 * (s.setup.n - 1)
 unfoldable pub again_verdict : Entry → (request : ℕ) → Outcome → (room : ℕ) → RequestVerdict
 again_verdict e request reply room =
     when ltb e.request request then Nothing else
-    when ltb room 36 then Refuse 10 else
+    when ltb room 36 then Refuse NoRoomForReplies else
     Resend reply
 
 -- no new number: nothing where no reply is kept
@@ -99,8 +100,8 @@ known_verdict e (Row.Answered request reply) room = again_verdict e request repl
 -- a new number: refusal 4 where the log has L entries, then 9
 unfoldable pub new_verdict : Replica → ℕ → RequestVerdict
 new_verdict s out =
-    when leb s.setup.room s.op.0 then Refuse 4 else
-    when ltb out (sends_of s) then Refuse 9 else
+    when leb s.setup.room s.op.0 then Refuse PastRoom else
+    when ltb out (sends_of s) then Refuse NoRoomForMessages else
     Append
 
 unfoldable pub client_verdict : Replica → Entry → Latest → (out reps : ℕ) → RequestVerdict

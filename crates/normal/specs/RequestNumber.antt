@@ -14,6 +14,7 @@ use Rattle.state.specs.declared.Replica.{Replica}
 use Rattle.normal.specs.Request.{sends_of, request_verdict}
 use Rattle.normal.specs.declared.request.RequestVerdict.{RequestVerdict}
 use Rattle.normal.specs.declared.request.RequestVerdict.TheVariants.{Nothing, Resend, Refuse, Append}
+use Rattle.frames.specs.Refusals.{number_of}
 
 abbrev pub passed_over : Numbered
 passed_over = numbered 0 (0 ∷ 0 ∷ [])
@@ -21,7 +22,7 @@ passed_over = numbered 0 (0 ∷ 0 ∷ [])
 abbrev pub request_number : RequestVerdict → Numbered
 request_number Nothing = passed_over
 request_number (Resend o) = numbered 0 (1 ∷ 0 ∷ o.code ∷ o.total ∷ [])
-request_number (Refuse k) = numbered k []
+request_number (Refuse k) = numbered (number_of k) []
 request_number Append = numbered 0 (0 ∷ 1 ∷ [])
 
 -- By the rules. A number that isn't new: the reply that is kept for it, or 10 where the area for replies, of so many bytes, is too short.

@@ -16,6 +16,7 @@ use Rattle.state.specs.Lengths.{log_length}
 use Rattle.state.specs.declared.Returned.{Returned}
 use Rattle.state.specs.declared.Replica.{Replica}
 use Rattle.steps.specs.Steps.{Spoke, spoke}
+use Rattle.frames.specs.declared.Refusal.TheVariants.{NoRoomForMessages}
 
 -- what refusal 1 leaves, of the log
 pub record Leading (s : Replica) (log : ℕ) : Type 0 where
@@ -49,7 +50,7 @@ prepares_of s log (suc k) = prepares_of s log k ++ prepares_to s (s.commit.0 + k
 -- on_idle of a Normal primary
 unfoldable pub primary_tick : Replica → (log out : List ℕ) → Spoke
 primary_tick s log out =
-    when ltb (length out) (heartbeat_length s + prepares_length s (s.op.0 - s.commit.0)) then spoke (refusal 9 s) out else
+    when ltb (length out) (heartbeat_length s + prepares_length s (s.op.0 - s.commit.0)) then spoke (refusal NoRoomForMessages s) out else
     spoke
     (completed
     (with_clock s (tick_of s.setup.timeout Lead s.clock).clock)

@@ -7,6 +7,7 @@ ghost use Rattle.normal.specs.PrepareNumber.{WeighsPrepare};
 
 use client_table::Latest;
 use entries::Entry;
+use frames::Refusal;
 use numbers::{Op, View};
 use state::{Replica, Returned};
 
@@ -16,7 +17,7 @@ use state::{Replica, Returned};
 pub enum PrepareVerdict {
     Transfer,
     Again,
-    Refuse { code: u8 },
+    Refuse { refusal: Refusal },
     Append,
 }
 
@@ -44,11 +45,15 @@ fn weigh_append(s: Replica, p: Prepared) -> PrepareVerdict
     ensures { result ≡ append_verdict s p }
 {
     if s.setup.room <= s.op.0 {
-        return PrepareVerdict::Refuse { code: 4 };
+        return PrepareVerdict::Refuse {
+            refusal: Refusal::PastRoom,
+        };
     }
     let latest = p.latest;
     if !client_table::is_new(latest, p.entry.request) {
-        return PrepareVerdict::Refuse { code: 6 };
+        return PrepareVerdict::Refuse {
+            refusal: Refusal::NotRising,
+        };
     }
     PrepareVerdict::Append
 }
@@ -80,7 +85,7 @@ fn append(
     ensures { left result (runs log.new results.new totals.new) out.new ≡ appended_by s p (runs log.old results.old totals.old) out.old }
 {
     if out.len() < 16 {
-        return state::refused(9, s);
+        return state::refused(Refusal::NoRoomForMessages, s);
     }
     let e = p.entry;
     let c = p.commit;
@@ -110,7 +115,7 @@ fn take_prepare(
             let u = state::heard(s);
             steps::acknowledge(s, u, lower(c, op), false, log, results, totals, out)
         }
-        PrepareVerdict::Refuse { code } => state::refused(code, s),
+        PrepareVerdict::Refuse { refusal } => state::refused(refusal, s),
         PrepareVerdict::Append => append(s, p, log, results, totals, out),
     }
 }

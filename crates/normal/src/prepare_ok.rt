@@ -5,6 +5,7 @@ ghost use Rattle.steps.specs.Steps.{Sound};
 ghost use Rattle.normal.specs.PrepareOk.{listens, counted, committed_by, prepare_ok_step};
 ghost use Rattle.normal.specs.CountNumber.{WeighsAck};
 
+use frames::Refusal;
 use numbers::{Op, View};
 use state::{Replica, Returned};
 
@@ -14,7 +15,7 @@ use state::{Replica, Returned};
 pub enum Count {
     Nothing,
     Note,
-    Refuse { code: u8 },
+    Refuse { refusal: Refusal },
     Commit,
 }
 
@@ -51,10 +52,14 @@ fn weigh(s: Replica, op: Op, held: u8, from: u8, room: usize) -> Count
         return Count::Note;
     }
     if s.op.0 < op.0 {
-        return Count::Refuse { code: 5 };
+        return Count::Refuse {
+            refusal: Refusal::PastLog,
+        };
     }
     if room < 36 * ((op.0 - s.commit.0) as usize) {
-        return Count::Refuse { code: 10 };
+        return Count::Refuse {
+            refusal: Refusal::NoRoomForReplies,
+        };
     }
     Count::Commit
 }
@@ -107,7 +112,7 @@ pub fn on_prepare_ok(
             acks[i] = config::insert(held, from);
             state::done(s, 0, 0, false)
         }
-        Count::Refuse { code } => state::refused(code, s),
+        Count::Refuse { refusal } => state::refused(refusal, s),
         Count::Commit => commit_with_replies(s, op, log, results, totals, acks, reps),
     }
 }

@@ -7,7 +7,7 @@ ghost use Rattle.normal.specs.RequestNumber.{WeighsRequest};
 use client_table::Latest;
 use entries::Entry;
 use fees::Outcome;
-use frames::Message;
+use frames::{Message, Refusal};
 use numbers::Op;
 use state::{Replica, Returned};
 
@@ -16,7 +16,7 @@ use state::{Replica, Returned};
 pub enum RequestVerdict {
     Nothing,
     Resend { reply: Outcome },
-    Refuse { code: u8 },
+    Refuse { refusal: Refusal },
     Append,
 }
 
@@ -36,7 +36,9 @@ fn weigh_again(e: Entry, request: u64, reply: Outcome, room: usize) -> RequestVe
         return RequestVerdict::Nothing;
     }
     if room < 36 {
-        return RequestVerdict::Refuse { code: 10 };
+        return RequestVerdict::Refuse {
+            refusal: Refusal::NoRoomForReplies,
+        };
     }
     RequestVerdict::Resend { reply }
 }
@@ -58,10 +60,14 @@ fn weigh_new(s: Replica, out: usize) -> RequestVerdict
     ensures { result ≡ new_verdict s out }
 {
     if s.setup.room <= s.op.0 {
-        return RequestVerdict::Refuse { code: 4 };
+        return RequestVerdict::Refuse {
+            refusal: Refusal::PastRoom,
+        };
     }
     if out < sends(s) {
-        return RequestVerdict::Refuse { code: 9 };
+        return RequestVerdict::Refuse {
+            refusal: Refusal::NoRoomForMessages,
+        };
     }
     RequestVerdict::Append
 }
@@ -137,7 +143,7 @@ pub fn on_request(
     match weigh(s, e, latest, out.len(), reps.len()) {
         RequestVerdict::Nothing => state::done(s, 0, 0, false),
         RequestVerdict::Resend { reply } => resend(s, e, reply, reps),
-        RequestVerdict::Refuse { code } => state::refused(code, s),
+        RequestVerdict::Refuse { refusal } => state::refused(refusal, s),
         RequestVerdict::Append => accept(s, e, log, acks, out),
     }
 }

@@ -5,7 +5,7 @@ ghost use Rattle.steps.specs.Steps.{spoke};
 ghost use Rattle.normal.specs.Tick.{Leading, heartbeat_length, prepares_length, prepares_to, prepares_of, primary_tick, backup_tick};
 
 use clock::{Clock, Duty};
-use frames::Message;
+use frames::{Message, Refusal};
 use numbers::Op;
 use state::{Replica, Returned};
 
@@ -31,10 +31,8 @@ fn send_prepares(s: Replica, log: &[u8], out: &mut [u8]) -> usize
     ensures { Wrote (prepares_of s log.now (s.op.0 - s.commit.0)) out.old out.new result }
 {
     let mut at = 0;
-    let mut i = s.commit.0;
-    while i < s.op.0 {
+    for i in s.commit.0..s.op.0 {
         at += send_prepare(s, i, log, &mut out[at..]);
-        i += 1;
     }
     at
 }
@@ -55,7 +53,7 @@ pub fn tick_primary(s: Replica, log: &[u8], out: &mut [u8]) -> Returned
     ensures { spoke result out.new ≡ primary_tick s log.now out.old }
 {
     if out.len() < tick_len(s) {
-        return state::refused(9, s);
+        return state::refused(Refusal::NoRoomForMessages, s);
     }
     let c = s.clock;
     let view = s.view;

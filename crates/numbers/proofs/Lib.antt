@@ -2,4 +2,3 @@ pub mod WordLaws
 pub mod NumberLaws
 pub mod RunLaws
 pub mod CellLaws
-mod TurnLaws

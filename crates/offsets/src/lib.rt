@@ -10,29 +10,14 @@ pub fn free(s: &[u8], at: usize, n: usize) -> usize
     requires { at ≤ length s.now }
     ensures { result ≡ at + reach (free n end) (drop at s.now) }
 {
-    if s.len() - at < n {
-        return s.len();
-    }
-    at + n
+    at + n.min(s.len() - at)
 }
-
-// 256 to the power of 0 to 7.
-const POWERS: [u64; 8] = [
-    1,
-    256,
-    65_536,
-    16_777_216,
-    4_294_967_296,
-    1_099_511_627_776,
-    281_474_976_710_656,
-    72_057_594_037_927_936,
-];
 
 fn power(k: usize) -> u64
     requires { k < 8 }
     ensures { result ≡ 256 ^ k }
 {
-    POWERS[k]
+    1 << (8 * k)
 }
 
 // A number of n bytes, from low to high.
@@ -41,8 +26,7 @@ pub fn number(s: &[u8], at: usize, n: usize, low: u64, high: u64) -> usize
     ensures { result ≡ at + number_reach n 0 low high (drop at s.now) }
 {
     let mut x: u64 = 0;
-    let mut i = 0;
-    while i < n {
+    for i in 0..n {
         if s.len() - at <= i {
             return s.len();
         }
@@ -51,7 +35,6 @@ pub fn number(s: &[u8], at: usize, n: usize, low: u64, high: u64) -> usize
         if !numbers::within(low / p, high / p, x) {
             return at + i;
         }
-        i += 1;
     }
     at + n
 }

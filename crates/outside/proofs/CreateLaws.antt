@@ -17,7 +17,7 @@ use Rattle.config.specs.Setup.{setup_ok}
 use Rattle.config.specs.declared.Setup.{Setup}
 use Rattle.frames.specs.declared.Status.TheVariants.{Normal, Recovering}
 use Rattle.state.specs.State.{new_in}
-use Rattle.state.specs.Answers.{refusal, completed}
+use Rattle.state.specs.Answers.{refusal, completed, code_of}
 use Rattle.state.specs.Lengths.{totals_length, acks_length}
 use Rattle.state.specs.declared.Returned.{Returned}
 use Rattle.state.specs.declared.Replica.{Replica}
@@ -27,9 +27,10 @@ use Rattle.outside.specs.Sound.{creatable, no_replica}
 use Rattle.outside.specs.Creation.{Started, started, create_step, recover_step}
 use Rattle.outside.specs.declared.Lengths.{Lengths}
 use Rattle.outside.proofs.SoundLaws.{Long, creatable-is}
+use Rattle.frames.specs.declared.Refusal.TheVariants.{OutOfRange, NoRoomForMessages}
 
 module _ (u : Setup) (lengths : Lengths) (totals acks out : List ℕ) (b : Bool) (e : b ≡ creatable u lengths) where
-  pub not-created : not b ≡ true → {a : Returned} (z : Replica) → z ≡ no_replica → a ≡ refusal 1 z
+  pub not-created : not b ≡ true → {a : Returned} (z : Replica) → z ≡ no_replica → a ≡ refusal OutOfRange z
       → started a totals acks out ≡ create_step u lengths totals acks out
   unfolding create_step when◌then◌else◌
   not-created h z q p = rw (← e, h, p, q)
@@ -60,28 +61,28 @@ module _ (u : Setup) (lengths : Lengths) (totals acks out : List ℕ) (b : Bool)
           → started a totals' acks' out' ≡ recover_step u v nonce lengths totals acks out
       recovered l p = ap (λ z. started z.answer totals' acks' z.out) (p ∙ sends l) ∙ comes_back l
 
-  pub not-recovered : not b ≡ true → (v : View) (nonce : ℕ) {a : Returned} (z : Replica) → z ≡ no_replica → a ≡ refusal 1 z
+  pub not-recovered : not b ≡ true → (v : View) (nonce : ℕ) {a : Returned} (z : Replica) → z ≡ no_replica → a ≡ refusal OutOfRange z
       → started a totals acks out ≡ recover_step u v nonce lengths totals acks out
   unfolding recover_step when◌then◌else◌
   not-recovered h v nonce z q p = rw (← e, h, p, q)
 
   pub no_room : not b ≡ false → (v : View) (nonce : ℕ) → length out < recoveries_length (new_in u Recovering v nonce) → {a : Returned} (z : Replica)
-      → z ≡ no_replica → a ≡ refusal 9 z → started a totals acks out ≡ recover_step u v nonce lengths totals acks out
+      → z ≡ no_replica → a ≡ refusal NoRoomForMessages z → started a totals acks out ≡ recover_step u v nonce lengths totals acks out
   unfolding recover_step when◌then◌else◌
   no_room h v nonce l z q p = rw (← e, h, lt-ltb (length out) (recoveries_length (new_in u Recovering v nonce)) l, p, q)
 
 -- where it isn't refused, the setup is one and each buffer has its length
 module _ (u : Setup) (lengths : Lengths) (totals acks out : List ℕ) where
   abbrev Tells : Started → Type 0
-  Tells d = d.answer.code ≡ 0 → (setup_ok u ≡ true) × Long u lengths
+  Tells d = code_of d.answer ≡ 0 → (setup_ok u ≡ true) × Long u lengths
 
-  pub create-long : {d : Started} → d ≡ create_step u lengths totals acks out → d.answer.code ≡ 0 → (setup_ok u ≡ true) × Long u lengths
+  pub create-long : {d : Started} → d ≡ create_step u lengths totals acks out → code_of d.answer ≡ 0 → (setup_ok u ≡ true) × Long u lengths
   unfolding create_step
   create-long e =
       subst Tells (sym e)
       (split Tells _ _ _ (λ _ z. absurd (omega (arith, z))) (λ f _. creatable-is u lengths _ refl f))
 
-  pub recover-long : (v : View) (nonce : ℕ) {d : Started} → d ≡ recover_step u v nonce lengths totals acks out → d.answer.code ≡ 0
+  pub recover-long : (v : View) (nonce : ℕ) {d : Started} → d ≡ recover_step u v nonce lengths totals acks out → code_of d.answer ≡ 0
       → (setup_ok u ≡ true) × Long u lengths
   unfolding recover_step
   recover-long v nonce e =

@@ -14,6 +14,7 @@ use Rattle.book.specs.Memory.{Memory, memory}
 use Rattle.recovery.specs.Recovery.{recoveries_length, recoveries_of}
 use Rattle.outside.specs.Sound.{creatable, no_replica}
 use Rattle.outside.specs.declared.Lengths.{Lengths}
+use Rattle.frames.specs.declared.Refusal.TheVariants.{OutOfRange, NoRoomForMessages}
 
 -- the answer, and the runs that a creation writes
 pub record Started : Type 0 where
@@ -36,13 +37,13 @@ zeroed u a totals acks out = started a (over (replicate (totals_length u) 0) tot
 -- new: in Normal, in view 0, with an empty log; it sends nothing
 unfoldable pub create_step : Setup → Lengths → (totals acks out : List ℕ) → Started
 create_step u l totals acks out =
-    when not (creatable u l) then started (refusal 1 no_replica) totals acks out else
+    when not (creatable u l) then started (refusal OutOfRange no_replica) totals acks out else
     zeroed u (quiet (new_in u Normal (record { 0 = 0 }) 0)) totals acks out
 
 -- recover, with the view that was persisted and a nonce: 1, then 9
 unfoldable pub recover_step : Setup → View → (nonce : ℕ) → Lengths → (totals acks out : List ℕ) → Started
 recover_step u v k l totals acks out =
-    when not (creatable u l) then started (refusal 1 no_replica) totals acks out else
-    when ltb (length out) (recoveries_length (new_in u Recovering v k)) then started (refusal 9 no_replica) totals acks out else
+    when not (creatable u l) then started (refusal OutOfRange no_replica) totals acks out else
+    when ltb (length out) (recoveries_length (new_in u Recovering v k)) then started (refusal NoRoomForMessages no_replica) totals acks out else
     zeroed u (completed (new_in u Recovering v k) (recoveries_length (new_in u Recovering v k)) 0 false)
     totals acks (over (recoveries_of (new_in u Recovering v k)) out)

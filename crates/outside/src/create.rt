@@ -9,7 +9,7 @@ ghost use Rattle.outside.specs.Creation.{started, create_step, recover_step};
 use crate::{Lengths, sound};
 use clock::Clock;
 use config::Setup;
-use frames::Status;
+use frames::{Refusal, Status};
 use numbers::View;
 use state::{Replica, Returned};
 
@@ -48,7 +48,7 @@ pub fn create(u: Setup, l: Lengths, totals: &mut [u8], acks: &mut [u8]) -> Retur
     ensures { started result totals.new acks.new [] ≡ create_step u l totals.old acks.old [] }
 {
     if !sound::is_creatable(u, l) {
-        return state::refused(1, no_replica());
+        return state::refused(Refusal::OutOfRange, no_replica());
     }
     empty(u, totals, acks);
     state::done(state::new(u, Status::Normal, View(0), 0), 0, 0, false)
@@ -68,10 +68,10 @@ pub fn recover(
     ensures { started result totals.new acks.new out.new ≡ recover_step u v nonce l totals.old acks.old out.old }
 {
     if !sound::is_creatable(u, l) {
-        return state::refused(1, no_replica());
+        return state::refused(Refusal::OutOfRange, no_replica());
     }
     if out.len() < 20 * (u.n as usize - 1) {
-        return state::refused(9, no_replica());
+        return state::refused(Refusal::NoRoomForMessages, no_replica());
     }
     empty(u, totals, acks);
     recovery::tick_recovering(state::new(u, Status::Recovering, v, nonce), out)

@@ -1,10 +1,10 @@
 -- What is known of a trace so far, and each change of it. Counts are kept to 64 bits. Assumes nothing.
-use Rattle.std.specs.Prelude.{ℕ, ◌+◌, ◌%◌, ◌^◌, Bool, true, false, not, ◌==◌}
-use Rattle.numbers.specs.Words.{when◌then◌else◌, ◌and◌}
-use Rattle.frames.specs.declared.Status.TheVariants.{Normal}
-use Rattle.state.specs.Answers.{refusal}
-use Rattle.state.specs.State.{new_in}
+use Rattle.std.specs.Prelude.{ℕ, ◌+◌, ◌%◌, ◌^◌, Bool, true, false, Option, Some, None, is_err, ◌==◌, ◌&&◌, if◌then◌else◌}
 use Rattle.state.specs.declared.Returned.{Returned}
+use Rattle.playing.specs.declared.Due.{Due}
+use Rattle.playing.specs.declared.Due.TheVariants.{Answer, State}
+use Rattle.playing.specs.declared.LastCall.{LastCall}
+use Rattle.playing.specs.declared.Run.{Run}
 use Rattle.playing.specs.declared.Play.{Play}
 
 -- one more
@@ -14,90 +14,73 @@ next_of x = (x + 1) % 2 ^ 64
 -- before the first line
 abbrev pub no_play : Play
 no_play =
-    record { line = 0; run = record { live = false; titled = false; due = 0; created = false; before = 0; messages = 0; replies = 0; here = 0 }; answer = refusal 0 (new_in (record { n = 0; id = 0; timeout = 0; room = 0; members = 0 }) Normal (record { 0 = 0 }) 0); tally = record { runs = 0; calls = 0; further = 0; takings = 0; differ = 0; clients = 0; larger = 0 } }
+    record { line = 0; titled = false; run = None; tally = record { runs = 0; calls = 0; further = 0; takings = 0; differ = 0; clients = 0; larger = 0 } }
 
 -- at the next line
 abbrev pub next_line : Play → Play
-next_line p =
-    record { line = next_of p.line; run = p.run; answer = p.answer; tally = p.tally }
+next_line p = record p { line = next_of p.line }
 
 -- the run differs: it is counted, and the rest of it is passed over
 abbrev pub ended : Play → Play
-ended p =
-    record { line = p.line; run = record { live = false; titled = false; due = p.run.due; created = p.run.created; before = p.run.before; messages = p.run.messages; replies = p.run.replies; here = p.run.here }; answer = p.answer; tally = record { runs = p.tally.runs; calls = p.tally.calls; further = p.tally.further; takings = p.tally.takings; differ = next_of p.tally.differ; clients = p.tally.clients; larger = p.tally.larger } }
+ended p = record p { titled = false; run = None; tally = record (p.tally) { differ = next_of p.tally.differ } }
 
--- a run that is played still waits for a line
-unfoldable pub unfinished : Play → Bool
-unfinished p =
-    p.run.live and not (p.run.due == 0)
+-- what a run waits for
+abbrev pub due_in : Option Run → Option Due
+due_in None = None
+due_in (Some r) = r.due
+
+-- what the run that is played still waits for
+abbrev pub waiting : Play → Option Due
+waiting p = due_in p.run
 
 -- the run is over
 abbrev pub closed : Play → Play
-closed p =
-    record { line = p.line; run = record { live = false; titled = false; due = p.run.due; created = p.run.created; before = p.run.before; messages = p.run.messages; replies = p.run.replies; here = 0 }; answer = p.answer; tally = p.tally }
+closed p = record p { titled = false; run = None }
 
 -- a title stands there
 abbrev pub titled_now : Play → Play
-titled_now p =
-    record { line = p.line; run = record { live = p.run.live; titled = true; due = p.run.due; created = p.run.created; before = p.run.before; messages = p.run.messages; replies = p.run.replies; here = p.run.here }; answer = p.answer; tally = p.tally }
+titled_now p = record p { titled = true }
 
--- a run begins: an answer is due
-abbrev pub run_begun : Play → ℕ → Play
-run_begun p messages =
-    record { line = p.line; run = record { live = true; titled = p.run.titled; due = 61; created = true; before = p.run.before; messages = messages; replies = 0; here = p.run.here }; answer = p.answer; tally = record { runs = next_of p.tally.runs; calls = p.tally.calls; further = p.tally.further; takings = p.tally.takings; differ = p.tally.differ; clients = p.tally.clients; larger = p.tally.larger } }
+-- a run begins, by a creation that was called: its answer is due
+abbrev pub run_begun : Play → LastCall → Play
+run_begun p last =
+    record p { run = Some (record { due = Some Answer; created = true; last = last; here = 0 }); tally = record (p.tally) { runs = next_of p.tally.runs } }
 
--- a call of the run's replica: an answer is due
-abbrev pub going_on : Play → (messages replies : ℕ) → Play
-going_on p messages replies =
-    record { line = p.line; run = record { live = p.run.live; titled = p.run.titled; due = 61; created = false; before = p.run.before; messages = messages; replies = replies; here = p.run.here }; answer = p.answer; tally = p.tally }
+-- the run's replica was called: an answer is due
+abbrev pub going_on : Play → Run → LastCall → Play
+going_on p r last = record p { run = Some (record r { due = Some Answer; created = false; last = last }) }
 
 -- a run that there is no room for
 abbrev pub too_large : Play → Play
-too_large p =
-    record { line = p.line; run = record { live = p.run.live; titled = false; due = p.run.due; created = p.run.created; before = p.run.before; messages = p.run.messages; replies = p.run.replies; here = p.run.here }; answer = p.answer; tally = record { runs = p.tally.runs; calls = p.tally.calls; further = p.tally.further; takings = p.tally.takings; differ = p.tally.differ; clients = p.tally.clients; larger = next_of p.tally.larger } }
+too_large p = record p { titled = false; tally = record (p.tally) { larger = next_of p.tally.larger } }
 
 -- a client's run
 abbrev pub a_client : Play → Play
-a_client p =
-    record { line = p.line; run = p.run; answer = p.answer; tally = record { runs = p.tally.runs; calls = p.tally.calls; further = p.tally.further; takings = p.tally.takings; differ = p.tally.differ; clients = next_of p.tally.clients; larger = p.tally.larger } }
+a_client p = record p { tally = record (p.tally) { clients = next_of p.tally.clients } }
 
--- a call was made
-abbrev pub called_now : Play → (before : ℕ) → Returned → Play
-called_now p before a =
-    record { line = p.line; run = record { live = p.run.live; titled = p.run.titled; due = p.run.due; created = p.run.created; before = before; messages = p.run.messages; replies = p.run.replies; here = p.run.here }; answer = a; tally = p.tally }
+-- a call was refused
+abbrev pub was_refused : Returned → Bool
+was_refused a = is_err a.outcome
 
 -- a state is due, but after a refused creation
-unfoldable pub state_due : Play → ℕ
-state_due p =
-    when not p.run.created then 58 else
-    when p.answer.code == 0 then 58 else
-    0
+abbrev pub state_due : Run → Option Due
+state_due r = if r.created && was_refused r.last.answer then None else Some State
 
--- a state is due, or nothing
-abbrev pub with_due : Play → (due : ℕ) → Play
-with_due p due =
-    record { line = p.line; run = record { live = p.run.live; titled = p.run.titled; due = due; created = p.run.created; before = p.run.before; messages = p.run.messages; replies = p.run.replies; here = p.run.here }; answer = p.answer; tally = p.tally }
-
--- and the call is counted
-abbrev pub call_counted : Play → (due : ℕ) → Play
-call_counted p due =
-    record { line = p.line; run = record { live = p.run.live; titled = p.run.titled; due = due; created = p.run.created; before = p.run.before; messages = p.run.messages; replies = p.run.replies; here = next_of p.run.here }; answer = p.answer; tally = record { runs = p.tally.runs; calls = next_of p.tally.calls; further = p.tally.further; takings = p.tally.takings; differ = p.tally.differ; clients = p.tally.clients; larger = p.tally.larger } }
-
--- an answer is right; one to a creation isn't counted
-unfoldable pub right : Play → Play
-right p = when p.run.created then with_due p (state_due p) else call_counted p (state_due p)
+-- an answer is right: the call is counted, but for a creation
+abbrev pub right : Play → Run → Play
+right p r =
+    if r.created
+    then record p { run = Some (record r { due = state_due r }) }
+    else record p { run = Some (record r { due = state_due r; here = next_of r.here }); tally = record (p.tally) { calls = next_of p.tally.calls } }
 
 -- a state is right: nothing is due
-abbrev pub state_right : Play → Play
-state_right p =
-    record { line = p.line; run = record { live = p.run.live; titled = p.run.titled; due = 0; created = p.run.created; before = p.run.before; messages = p.run.messages; replies = p.run.replies; here = p.run.here }; answer = p.answer; tally = p.tally }
+abbrev pub state_right : Play → Run → Play
+state_right p r = record p { run = Some (record r { due = None }) }
 
 -- nonce and reports behind a state are right
 abbrev pub further_right : Play → Play
-further_right p =
-    record { line = p.line; run = p.run; answer = p.answer; tally = record { runs = p.tally.runs; calls = p.tally.calls; further = next_of p.tally.further; takings = p.tally.takings; differ = p.tally.differ; clients = p.tally.clients; larger = p.tally.larger } }
+further_right p = record p { tally = record (p.tally) { further = next_of p.tally.further } }
 
 -- the takings behind a state are right
 abbrev pub takings_right : Play → Play
-takings_right p =
-    record { line = p.line; run = p.run; answer = p.answer; tally = record { runs = p.tally.runs; calls = p.tally.calls; further = p.tally.further; takings = next_of p.tally.takings; differ = p.tally.differ; clients = p.tally.clients; larger = p.tally.larger } }
+takings_right p = record p { tally = record (p.tally) { takings = next_of p.tally.takings } }

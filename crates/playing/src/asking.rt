@@ -1,181 +1,146 @@
 // What a line asks for: a call, with what it hands over by value, or a comparison.
 ghost use Rattle.std.specs.Prelude.{◌≡◌};
-ghost use Rattle.comparing.specs.Text.{lesser_of};
-ghost use Rattle.playing.specs.Asking.{too_many, fitting, creation_of, creation_in, recovery_in, going_in, within_run, of_run, asked_by};
+ghost use Rattle.playing.specs.Asking.{in_memory, setup_with, creation_in, recovery_in, going_in, within_run, first_byte_of, of_run, asked_at, asked_by};
 
-use crate::{Asked, ReplicaCall, RunState};
+use crate::{AreaSizes, Asked, Creation, Due, Run, RunCall, RunLine};
 use comparing::words;
 use config::Setup;
 use numbers::View;
 
-// An L or M that is right, and that the memory has no room for.
-fn too_many(x: u64) -> bool
-    ensures { result ≡ too_many x }
+// An L or M, unless it is right and the memory has no room for it.
+fn in_memory(x: u64) -> Option<u32>
+    ensures { result ≡ in_memory x }
 {
-    if 4097 < x {
-        return true;
+    if 8 < x && x != 4097 {
+        return None;
     }
-    if x <= 8 {
-        return false;
-    }
-    x != 4097
+    Some(x as u32)
 }
 
-fn has_room(n: u64, id: u64, timeout: u64, room: u64, members: u64) -> bool
-    ensures { result ≡ fitting n id timeout room members }
+// The setup with these numbers, if the memory has room for it.
+fn setup_with(n: u64, id: u64, timeout: u64, room: u64, members: u64) -> Option<Setup>
+    ensures { result ≡ setup_with n id timeout room members }
 {
-    if 255 < n {
-        return false;
-    }
-    if 255 < id {
-        return false;
-    }
-    if 65535 < timeout {
-        return false;
-    }
-    if too_many(room) {
-        return false;
-    }
-    !too_many(members)
+    Some(Setup {
+        n: u8::try_from(n).ok()?,
+        id: u8::try_from(id).ok()?,
+        timeout: u16::try_from(timeout).ok()?,
+        room: in_memory(room)?,
+        members: in_memory(members)?,
+    })
 }
 
-// The length of an area, cut to what there is.
-fn area(x: u64, most: u64) -> usize
-    ensures { result ≡ lesser_of x most }
+// N n id t l m, R n id t l m view nonce mcap
+fn create(by: Creation, line: &[u8]) -> Asked
+    ensures { result ≡ creation_in by line.now }
 {
-    if x <= most {
-        return x as usize;
-    }
-    most as usize
-}
-
-// A creation with these numbers.
-fn creation(
-    c: ReplicaCall,
-    n: u64,
-    id: u64,
-    timeout: u64,
-    room: u64,
-    members: u64,
-    messages: u64,
-) -> Asked
-    ensures { result ≡ creation_of c n id timeout room members messages }
-{
-    if !has_room(n, id, timeout, room, members) {
-        return Asked::Larger;
-    }
-    let setup = Setup {
-        n: n as u8,
-        id: id as u8,
-        timeout: timeout as u16,
-        room: room as u32,
-        members: members as u32,
+    let setup = setup_with(
+        words::decimal(line, 1),
+        words::decimal(line, 2),
+        words::decimal(line, 3),
+        words::decimal(line, 4),
+        words::decimal(line, 5),
+    );
+    let areas = AreaSizes {
+        messages: words::decimal(line, 8).min(8192) as usize,
+        replies: 0,
     };
-    Asked::Begin {
-        call: c,
-        setup,
-        messages: area(messages, 8192),
+    match setup {
+        None => Asked::Larger,
+        Some(setup) => Asked::Begin { by, setup, areas },
     }
-}
-
-fn create(c: ReplicaCall, line: &[u8]) -> Asked
-    ensures { result ≡ creation_in c line.now }
-{
-    let n = words::decimal(line, 1);
-    let id = words::decimal(line, 2);
-    let timeout = words::decimal(line, 3);
-    let room = words::decimal(line, 4);
-    let members = words::decimal(line, 5);
-    let messages = words::decimal(line, 8);
-    creation(c, n, id, timeout, room, members, messages)
 }
 
 // R n id t l m view nonce mcap
 fn recover(line: &[u8]) -> Asked
     ensures { result ≡ recovery_in line.now }
 {
-    let view = words::decimal(line, 6);
-    let nonce = words::decimal(line, 7);
-    if 4294967295 < view {
+    let Ok(view) = u32::try_from(words::decimal(line, 6)) else {
         return Asked::Larger;
-    }
-    let c = ReplicaCall::Recover {
-        view: View(view as u32),
-        nonce,
     };
-    create(c, line)
+    let nonce = words::decimal(line, 7);
+    create(
+        Creation::Recover {
+            view: View(view),
+            nonce,
+        },
+        line,
+    )
 }
 
 // M mcap rcap frame, T mcap rcap
-fn go_on(call: ReplicaCall, line: &[u8]) -> Asked
-    ensures { result ≡ going_in call line.now }
+fn go_on(by: RunCall, line: &[u8]) -> RunLine
+    ensures { result ≡ going_in by line.now }
 {
-    Asked::Go {
-        call,
-        messages: area(words::decimal(line, 1), 8192),
-        replies: area(words::decimal(line, 2), 512),
+    RunLine::Go {
+        by,
+        areas: AreaSizes {
+            messages: words::decimal(line, 1).min(8192) as usize,
+            replies: words::decimal(line, 2).min(512) as usize,
+        },
     }
 }
 
 // A line of a run that is played.
-fn within(c: u8, line: &[u8]) -> Asked
+fn within(c: u8, line: &[u8]) -> RunLine
     ensures { result ≡ within_run c line.now }
 {
-    if c == b'M' {
-        return go_on(ReplicaCall::Message, line);
+    match c {
+        b'M' => go_on(RunCall::Message, line),
+        b'T' => go_on(RunCall::Idle, line),
+        b'=' => RunLine::Answer,
+        b':' => RunLine::State,
+        b'+' => RunLine::Further,
+        b'$' => RunLine::Takings,
+        _ => RunLine::Unknown,
     }
-    if c == b'T' {
-        return go_on(ReplicaCall::Idle, line);
-    }
-    if c == b'=' {
-        return Asked::Answer;
-    }
-    if c == b':' {
-        return Asked::State;
-    }
-    if c == b'+' {
-        return Asked::Further;
-    }
-    if c == b'$' {
-        return Asked::Takings;
-    }
-    Asked::Unknown
 }
 
-// A line of a run.
-fn of_run(r: RunState, c: u8, line: &[u8]) -> Asked
-    ensures { result ≡ of_run r c line.now }
+// What a line that says this begins with.
+fn first_byte_of(due: Due) -> u8
+    ensures { result ≡ first_byte_of due }
 {
-    if !r.live {
-        return Asked::Nothing;
+    match due {
+        Due::Answer => b'=',
+        Due::State => b':',
     }
-    if r.due == 0 {
-        return within(c, line);
-    }
-    if r.due != c {
-        return Asked::Missing;
-    }
-    within(c, line)
 }
 
-// A line, `c` its first byte, 0: none. A new run begins when the one before is closed.
-pub fn by(r: RunState, c: u8, line: &[u8]) -> Asked
-    ensures { result ≡ asked_by r c line.now }
+// A line of a run, whose line that is due comes first.
+fn of_run(due: Option<Due>, c: u8, line: &[u8]) -> RunLine
+    ensures { result ≡ of_run due c line.now }
 {
-    if c == b'N' {
-        return create(ReplicaCall::Create, line);
+    match due {
+        Some(due) if first_byte_of(due) != c => RunLine::Missing { due },
+        _ => within(c, line),
     }
-    if c == b'R' {
-        return recover(line);
+}
+
+// A line with this first byte. A new run begins when the one before is closed.
+fn at(run: Option<Run>, c: u8, line: &[u8]) -> Asked
+    ensures { result ≡ asked_at run c line.now }
+{
+    match c {
+        b'N' => create(Creation::Create, line),
+        b'R' => recover(line),
+        b'C' => Asked::Client,
+        b'#' | 0 => Asked::Nothing,
+        _ => match run {
+            None => Asked::Nothing,
+            Some(run) => Asked::OfRun {
+                run,
+                line: of_run(run.due, c, line),
+            },
+        },
     }
-    if c == b'C' {
-        return Asked::Client;
+}
+
+// A line, with its first byte if it has one.
+pub fn by(run: Option<Run>, first: Option<u8>, line: &[u8]) -> Asked
+    ensures { result ≡ asked_by run first line.now }
+{
+    match first {
+        None => Asked::Nothing,
+        Some(c) => at(run, c, line),
     }
-    if c == b'#' {
-        return Asked::Nothing;
-    }
-    if c == 0 {
-        return Asked::Nothing;
-    }
-    of_run(r, c, line)
 }

@@ -1,12 +1,8 @@
 // What is known of the trace so far. At its first difference a run ends.
 ghost use Rattle.std.specs.Prelude.{◌≡◌};
-ghost use Rattle.playing.specs.Counts.{next_of, no_play, next_line, ended, unfinished, closed, titled_now, run_begun, going_on, too_large, a_client, called_now, state_due, right, state_right, further_right, takings_right};
+ghost use Rattle.playing.specs.Counts.{next_of, no_play, next_line, ended, waiting, closed, titled_now, run_begun, going_on, too_large, a_client, state_due, right, state_right, further_right, takings_right};
 
-use crate::{Play, RunState, Tally};
-use config::Setup;
-use frames::Status;
-use numbers::View;
-use state::Returned;
+use crate::{Due, LastCall, Play, Run, Tally};
 
 fn next(x: u64) -> u64
     ensures { result ≡ next_of x }
@@ -14,233 +10,193 @@ fn next(x: u64) -> u64
     x.wrapping_add(1)
 }
 
-// Before the first line.
-pub fn nothing() -> Play
-    ensures { result ≡ no_play }
+// What is due after an answer that is right: a refused creation has no state line.
+fn state_due(run: Run) -> Option<Due>
+    ensures { result ≡ state_due run }
 {
-    let setup = Setup {
-        n: 0,
-        id: 0,
-        timeout: 0,
-        room: 0,
-        members: 0,
-    };
-    let s = state::new(setup, Status::Normal, View(0), 0);
-    let answer = state::refused(0, state::with_clock(s, clock::fresh()));
-    let run = RunState {
-        live: false,
-        titled: false,
-        due: 0,
-        created: false,
-        before: 0,
-        messages: 0,
-        replies: 0,
-        here: 0,
-    };
-    let tally = Tally {
-        runs: 0,
-        calls: 0,
-        further: 0,
-        takings: 0,
-        differ: 0,
-        clients: 0,
-        larger: 0,
-    };
-    Play {
-        line: 0,
-        run,
-        answer,
-        tally,
+    if run.created && run.last.answer.outcome.is_err() {
+        None
+    } else {
+        Some(Due::State)
     }
 }
 
-// At the next line.
-pub fn next_line(p: Play) -> Play
-    ensures { result ≡ next_line p }
-{
-    let mut q = p;
-    q.line = next(p.line);
-    q
-}
-
-// The run differs in this line: the rest of it is passed over.
-pub fn ended(p: Play) -> Play
-    ensures { result ≡ ended p }
-{
-    let mut r = p.run;
-    let mut t = p.tally;
-    r.live = false;
-    r.titled = false;
-    t.differ = next(t.differ);
-    let mut q = p;
-    q.run = r;
-    q.tally = t;
-    q
-}
-
-// Whether the run still waits for a line.
-pub fn unfinished(p: Play) -> bool
-    ensures { result ≡ unfinished p }
-{
-    if !p.run.live {
-        return false;
+impl Play {
+    // Before the first line.
+    pub fn new() -> Self
+        ensures { result ≡ no_play }
+    {
+        Self::default()
     }
-    p.run.due != 0
-}
 
-// The run is over.
-pub fn closed(p: Play) -> Play
-    ensures { result ≡ closed p }
-{
-    let mut r = p.run;
-    r.live = false;
-    r.titled = false;
-    r.here = 0;
-    let mut q = p;
-    q.run = r;
-    q
-}
-
-// A title stands there.
-pub fn titled(p: Play) -> Play
-    ensures { result ≡ titled_now p }
-{
-    let mut r = p.run;
-    r.titled = true;
-    let mut q = p;
-    q.run = r;
-    q
-}
-
-// A run begins.
-pub fn begun(p: Play, messages: usize) -> Play
-    ensures { result ≡ run_begun p messages }
-{
-    let mut r = p.run;
-    let mut t = p.tally;
-    r.live = true;
-    r.due = b'=';
-    r.created = true;
-    r.messages = messages;
-    r.replies = 0;
-    t.runs = next(t.runs);
-    let mut q = p;
-    q.run = r;
-    q.tally = t;
-    q
-}
-
-// A call of the run's replica.
-pub fn going_on(p: Play, messages: usize, replies: usize) -> Play
-    ensures { result ≡ going_on p messages replies }
-{
-    let mut r = p.run;
-    r.due = b'=';
-    r.created = false;
-    r.messages = messages;
-    r.replies = replies;
-    let mut q = p;
-    q.run = r;
-    q
-}
-
-// A run that there is no room for; its title waits no longer.
-pub fn too_large(p: Play) -> Play
-    ensures { result ≡ too_large p }
-{
-    let mut r = p.run;
-    let mut t = p.tally;
-    r.titled = false;
-    t.larger = next(t.larger);
-    let mut q = p;
-    q.run = r;
-    q.tally = t;
-    q
-}
-
-pub fn client(p: Play) -> Play
-    ensures { result ≡ a_client p }
-{
-    let mut t = p.tally;
-    t.clients = next(t.clients);
-    let mut q = p;
-    q.tally = t;
-    q
-}
-
-// A call was made, in memory with this digest before.
-pub fn called(p: Play, before: u64, a: Returned) -> Play
-    ensures { result ≡ called_now p before a }
-{
-    let mut r = p.run;
-    r.before = before;
-    let mut q = p;
-    q.run = r;
-    q.answer = a;
-    q
-}
-
-// A refused creation has no state line.
-fn state_due(p: Play) -> u8
-    ensures { result ≡ state_due p }
-{
-    if !p.run.created {
-        return b':';
+    // At the next line.
+    pub fn next_line(self) -> Self
+        ensures { result ≡ next_line self }
+    {
+        Play {
+            line: next(self.line),
+            ..self
+        }
     }
-    if p.answer.code == 0 {
-        return b':';
+
+    // The run differs in this line: the rest of it is passed over.
+    pub fn ended(self) -> Self
+        ensures { result ≡ ended self }
+    {
+        let tally = Tally {
+            differ: next(self.tally.differ),
+            ..self.tally
+        };
+        Play {
+            titled: false,
+            run: None,
+            tally,
+            ..self
+        }
     }
-    0
-}
 
-// An answer that is right; one to a creation isn't counted.
-pub fn right(p: Play) -> Play
-    ensures { result ≡ right p }
-{
-    let mut r = p.run;
-    let mut t = p.tally;
-    r.due = state_due(p);
-    let mut q = p;
-    if p.run.created {
-        q.run = r;
-        return q;
+    // What the run still waits for.
+    pub fn waiting(self) -> Option<Due>
+        ensures { result ≡ waiting self }
+    {
+        self.run?.due
     }
-    r.here = next(r.here);
-    t.calls = next(t.calls);
-    q.run = r;
-    q.tally = t;
-    q
-}
 
-// A state that is right.
-pub fn state_right(p: Play) -> Play
-    ensures { result ≡ state_right p }
-{
-    let mut r = p.run;
-    r.due = 0;
-    let mut q = p;
-    q.run = r;
-    q
-}
+    // The run is over.
+    pub fn closed(self) -> Self
+        ensures { result ≡ closed self }
+    {
+        Play {
+            titled: false,
+            run: None,
+            ..self
+        }
+    }
 
-// Nonce and reports that are right.
-pub fn further_right(p: Play) -> Play
-    ensures { result ≡ further_right p }
-{
-    let mut t = p.tally;
-    t.further = next(t.further);
-    let mut q = p;
-    q.tally = t;
-    q
-}
+    // A title stands there.
+    pub fn titled(self) -> Self
+        ensures { result ≡ titled_now self }
+    {
+        Play {
+            titled: true,
+            ..self
+        }
+    }
 
-// Takings that are right.
-pub fn takings_right(p: Play) -> Play
-    ensures { result ≡ takings_right p }
-{
-    let mut t = p.tally;
-    t.takings = next(t.takings);
-    let mut q = p;
-    q.tally = t;
-    q
+    // A run begins, by this creation.
+    pub fn begun(self, last: LastCall) -> Self
+        ensures { result ≡ run_begun self last }
+    {
+        let run = Run {
+            due: Some(Due::Answer),
+            created: true,
+            last,
+            here: 0,
+        };
+        let tally = Tally {
+            runs: next(self.tally.runs),
+            ..self.tally
+        };
+        Play {
+            run: Some(run),
+            tally,
+            ..self
+        }
+    }
+
+    // A call of the run's replica was made.
+    pub fn going_on(self, run: Run, last: LastCall) -> Self
+        ensures { result ≡ going_on self run last }
+    {
+        let run = Run {
+            due: Some(Due::Answer),
+            created: false,
+            last,
+            ..run
+        };
+        Play {
+            run: Some(run),
+            ..self
+        }
+    }
+
+    // A run that there is no room for; its title waits no longer.
+    pub fn too_large(self) -> Self
+        ensures { result ≡ too_large self }
+    {
+        let tally = Tally {
+            larger: next(self.tally.larger),
+            ..self.tally
+        };
+        Play {
+            titled: false,
+            tally,
+            ..self
+        }
+    }
+
+    pub fn client(self) -> Self
+        ensures { result ≡ a_client self }
+    {
+        let tally = Tally {
+            clients: next(self.tally.clients),
+            ..self.tally
+        };
+        Play { tally, ..self }
+    }
+
+    // The run's answer is right; one to a creation isn't counted.
+    pub fn right(self, run: Run) -> Self
+        ensures { result ≡ right self run }
+    {
+        let due = state_due(run);
+        if run.created {
+            let run = Some(Run { due, ..run });
+            return Play { run, ..self };
+        }
+        let run = Run {
+            due,
+            here: next(run.here),
+            ..run
+        };
+        let tally = Tally {
+            calls: next(self.tally.calls),
+            ..self.tally
+        };
+        Play {
+            run: Some(run),
+            tally,
+            ..self
+        }
+    }
+
+    // The run's state is right.
+    pub fn state_right(self, run: Run) -> Self
+        ensures { result ≡ state_right self run }
+    {
+        let run = Some(Run { due: None, ..run });
+        Play { run, ..self }
+    }
+
+    // Nonce and reports that are right.
+    pub fn further_right(self) -> Self
+        ensures { result ≡ further_right self }
+    {
+        let tally = Tally {
+            further: next(self.tally.further),
+            ..self.tally
+        };
+        Play { tally, ..self }
+    }
+
+    // Takings that are right.
+    pub fn takings_right(self) -> Self
+        ensures { result ≡ takings_right self }
+    {
+        let tally = Tally {
+            takings: next(self.tally.takings),
+            ..self.tally
+        };
+        Play { tally, ..self }
+    }
 }

@@ -1,179 +1,200 @@
-// What differs, in words, to a writer.
-use crate::Play;
-use comparing::words;
-use std::io;
+// What differs, and the counts, in words.
+ghost use Rattle.std.specs.Prelude.{◌≡◌, ◌≤◌, ◌↔◌, true, None, IsOk, IsTrue};
+ghost use Rattle.comparing.specs.Answers.{answer_differs, touched_behind, clean_refusal, further_differs, takings_are};
+ghost use Rattle.comparing.specs.Fields.{state_line, first_differing};
 
-// The number of a line, before what is said of it.
-pub fn line<W: io::Write>(writer: &mut W, n: u64) -> io::Result<()> {
-    text::labelled(writer, b"line ", n)?;
-    text::say(writer, b": ")
+use crate::lent::CallMemory;
+use crate::{Due, LastCall, Tally};
+use comparing::answer::{AnswerPart, FurtherPart};
+use comparing::{answer, fields};
+use frames::Refusal;
+use state::Replica;
+use std::fmt;
+
+// The first thing in which a line and what was called differ.
+#[derive(Clone, Copy)]
+pub enum Difference<'a> {
+    Missing { due: Due },
+    Unknown,
+    Number { number: u8 },
+    Messages { bytes: &'a [u8] },
+    Replies { bytes: &'a [u8] },
+    BehindMessages,
+    BehindReplies,
+    Unclean,
+    Field { name: &'static str, value: u64 },
+    Digest { name: &'static str, value: u64 },
+    TakingsRefused { number: u8 },
 }
 
-fn front<W: io::Write>(writer: &mut W, s: &[u8], n: usize) -> io::Result<()> {
-    if s.len() < n {
-        return Ok(());
+// FORMAT.md's names of the fields. The last five are digests.
+const FIELDS: [&str; 19] = [
+    "status",
+    "view",
+    "last_normal",
+    "op",
+    "commit",
+    "heard",
+    "waiting",
+    "stable",
+    "attempts",
+    "svc",
+    "dvc_sent",
+    "catching_up",
+    "dvcs",
+    "responses",
+    "log",
+    "rows",
+    "totals",
+    "acks",
+    "applied",
+];
+
+// The first n bytes, where there are so many.
+fn front(area: &[u8], n: usize) -> &[u8] {
+    area.get(..n).unwrap_or(&[])
+}
+
+// = code messages replies
+pub fn answer<'a>(last: LastCall, line: &[u8], memory: &'a CallMemory) -> Result<(), Difference<'a>>
+    ensures { IsOk result ↔ (answer_differs last.answer line.now memory.now.out memory.now.reps ≡ None) }
+{
+    let a = last.answer;
+    match answer::differs(a, line, &memory.out, &memory.reps) {
+        None => Ok(()),
+        Some(AnswerPart::Number) => Err(Difference::Number { number: a.number() }),
+        Some(AnswerPart::Messages) => Err(Difference::Messages {
+            bytes: front(&memory.out, a.messages()),
+        }),
+        Some(AnswerPart::Replies) => Err(Difference::Replies {
+            bytes: front(&memory.reps, a.replies()),
+        }),
     }
-    text::hex(writer, &s[0..n])
 }
 
-fn bytes<W: io::Write>(writer: &mut W, what: &[u8], s: &[u8], n: usize) -> io::Result<()> {
-    text::say(writer, what)?;
-    front(writer, s, n)
-}
-
-// What `comparing::answer::differs` found.
-pub fn answer<W: io::Write>(
-    writer: &mut W,
-    p: Play,
-    k: u8,
-    out: &[u8],
-    reps: &[u8],
-) -> io::Result<()> {
-    line(writer, p.line)?;
-    match k {
-        1 => text::labelled(writer, b"the number is ", p.answer.code as u64)?,
-        2 => bytes(writer, b"the messages are", out, p.answer.messages)?,
-        _ => bytes(writer, b"the replies are", reps, p.answer.replies)?,
+// What the call had to leave alone: the bytes behind messages and replies, and all where it is refused.
+pub fn left_alone(last: LastCall, memory: &CallMemory) -> Result<(), Difference<'static>>
+    ensures { IsOk result ↔ ((touched_behind last.answer memory.now.out last.areas.messages memory.now.reps last.areas.replies ≡ None) × (clean_refusal last.answer memory.now.runs last.before ≡ true)) }
+{
+    let a = last.answer;
+    match answer::touched(
+        a,
+        &memory.out,
+        last.areas.messages,
+        &memory.reps,
+        last.areas.replies,
+    ) {
+        None => {}
+        Some(AnswerPart::Replies) => return Err(Difference::BehindReplies),
+        Some(_) => return Err(Difference::BehindMessages),
     }
-    text::say(writer, b"\n")
+    if !answer::clean(a, &memory.runs, last.before) {
+        return Err(Difference::Unclean);
+    }
+    Ok(())
 }
 
-// What `comparing::answer::touched` found.
-pub fn touched<W: io::Write>(writer: &mut W, p: Play, k: u8) -> io::Result<()> {
-    line(writer, p.line)?;
-    match k {
-        1 => text::say(writer, b"bytes behind the messages are written\n"),
-        _ => text::say(writer, b"bytes behind the replies are written\n"),
+// The state line.
+pub fn state(s: Replica, line: &[u8], memory: &CallMemory) -> Result<(), Difference<'static>>
+    ensures { IsOk result ↔ (19 ≤ first_differing line.now 0 (state_line s memory.now.runs)) }
+{
+    let values = fields::values(s, &memory.runs);
+    let k = fields::differing(line, &values);
+    match (FIELDS.get(k), values.get(k)) {
+        (Some(name), Some(value)) if k < 14 => Err(Difference::Field {
+            name,
+            value: *value,
+        }),
+        (Some(name), Some(value)) => Err(Difference::Digest {
+            name,
+            value: *value,
+        }),
+        _ => Ok(()),
     }
 }
 
-// A refused call that left something behind.
-pub fn unclean<W: io::Write>(writer: &mut W, p: Play) -> io::Result<()> {
-    line(writer, p.line)?;
-    text::say(writer, b"a refused call changed the memory\n")
-}
-
-fn first_word<W: io::Write>(writer: &mut W, s: &[u8]) -> io::Result<()> {
-    let n = words::find(s, 32);
-    text::say(writer, &s[0..n])
-}
-
-fn word<W: io::Write>(writer: &mut W, s: &[u8], k: usize) -> io::Result<()> {
-    let from = words::start(s, k);
-    first_word(writer, &s[from..])
-}
-
-// FORMAT.md's name of a field.
-fn name<W: io::Write>(writer: &mut W, k: usize) -> io::Result<()> {
-    word(
-        writer,
-        b"status view last_normal op commit heard waiting stable attempts svc dvc_sent catching_up dvcs responses log rows totals acks applied",
-        k,
-    )
-}
-
-// A field that differs, in the line's form.
-pub fn field<W: io::Write>(writer: &mut W, p: Play, k: usize, x: u64) -> io::Result<()> {
-    line(writer, p.line)?;
-    name(writer, k)?;
-    text::say(writer, b" is ")?;
-    if k < 14 {
-        text::decimal(writer, x)?;
-        return text::say(writer, b"\n");
+// + nonce reports
+pub fn further(s: Replica, line: &[u8], memory: &CallMemory) -> Result<(), Difference<'static>>
+    ensures { IsOk result ↔ (further_differs s line.now memory.now.runs ≡ None) }
+{
+    match answer::further(s, line, &memory.runs) {
+        None => Ok(()),
+        Some(FurtherPart::Nonce) => Err(Difference::Field {
+            name: "nonce",
+            value: s.nonce,
+        }),
+        Some(FurtherPart::Reports) => Err(Difference::Digest {
+            name: "reports",
+            value: fields::reports(s, &memory.runs),
+        }),
     }
-    writeln!(writer, "{x:016x}")
 }
 
-// What `comparing::answer::further` found: the nonce and the digest of the reports.
-pub fn further<W: io::Write>(
-    writer: &mut W,
-    p: Play,
-    k: u8,
-    nonce: u64,
-    reports: u64,
-) -> io::Result<()> {
-    line(writer, p.line)?;
-    if k == 1 {
-        text::labelled(writer, b"nonce is ", nonce)?;
-        return text::say(writer, b"\n");
+// $ sum, against what the call of the takings answered.
+pub fn takings(told: Result<u64, Refusal>, line: &[u8]) -> Result<(), Difference<'static>>
+    ensures { IsOk result ↔ IsTrue (takings_are told line.now) }
+{
+    match told {
+        Ok(value) => {
+            if answer::takings(told, line) {
+                return Ok(());
+            }
+            Err(Difference::Field {
+                name: "takings",
+                value,
+            })
+        }
+        Err(refusal) => Err(Difference::TakingsRefused {
+            number: u8::from(refusal),
+        }),
     }
-    writeln!(writer, "reports is {reports:016x}")
 }
 
-// What `comparing::answer::takings` found, in what the call of the takings answered.
-pub fn takings<W: io::Write>(
-    writer: &mut W,
-    p: Play,
-    k: u8,
-    code: u8,
-    cents: u64,
-) -> io::Result<()> {
-    line(writer, p.line)?;
-    if k == 1 {
-        text::labelled(writer, b"takings is refused by ", code as u64)?;
-        return text::say(writer, b"\n");
+fn hex<W: fmt::Write>(f: &mut fmt::Formatter<W>, bytes: &[u8]) -> fmt::Result {
+    for b in bytes {
+        write!(f, " {b:02X}")?;
     }
-    text::labelled(writer, b"takings is ", cents)?;
-    text::say(writer, b"\n")
+    Ok(())
 }
 
-// The line that is due isn't there.
-pub fn missing<W: io::Write>(writer: &mut W, p: Play) -> io::Result<()> {
-    line(writer, p.line)?;
-    if p.run.due == b'=' {
-        return text::say(writer, b"no answer before it\n");
+impl fmt::Display for Difference<'_> {
+    fn fmt<W: fmt::Write>(&self, f: &mut fmt::Formatter<W>) -> fmt::Result {
+        match *self {
+            Difference::Missing { due: Due::Answer } => f.write_str("no answer before it"),
+            Difference::Missing { due: Due::State } => f.write_str("no state before it"),
+            Difference::Unknown => f.write_str("no line of a trace"),
+            Difference::Number { number } => write!(f, "the number is {number}"),
+            Difference::Messages { bytes } => {
+                f.write_str("the messages are")?;
+                hex(f, bytes)
+            }
+            Difference::Replies { bytes } => {
+                f.write_str("the replies are")?;
+                hex(f, bytes)
+            }
+            Difference::BehindMessages => f.write_str("bytes behind the messages are written"),
+            Difference::BehindReplies => f.write_str("bytes behind the replies are written"),
+            Difference::Unclean => f.write_str("a refused call changed the memory"),
+            Difference::Field { name, value } => write!(f, "{name} is {value}"),
+            Difference::Digest { name, value } => write!(f, "{name} is {value:016x}"),
+            Difference::TakingsRefused { number } => write!(f, "takings is refused by {number}"),
+        }
     }
-    text::say(writer, b"no state before it\n")
 }
 
-pub fn unknown<W: io::Write>(writer: &mut W, p: Play) -> io::Result<()> {
-    line(writer, p.line)?;
-    text::say(writer, b"no line of a trace\n")
-}
-
-// The verdict on a run whose title waits for it.
-pub fn verdict<W: io::Write>(writer: &mut W, p: Play) -> io::Result<()> {
-    if !p.run.titled {
-        return Ok(());
+impl fmt::Display for Tally {
+    fn fmt<W: fmt::Write>(&self, f: &mut fmt::Formatter<W>) -> fmt::Result {
+        writeln!(
+            f,
+            "passed over: {} runs of clients, {} runs of larger sizes",
+            self.clients, self.larger
+        )?;
+        writeln!(f, "nonce and reports: {} lines", self.further)?;
+        writeln!(f, "takings: {} lines", self.takings)?;
+        write!(
+            f,
+            "{} runs, {} calls, {} differ",
+            self.runs, self.calls, self.differ
+        )
     }
-    text::labelled(writer, b"ok, ", p.run.here)?;
-    text::say(writer, b" calls\n")
-}
-
-// A run that there is no room for.
-pub fn larger<W: io::Write>(writer: &mut W, p: Play) -> io::Result<()> {
-    if !p.run.titled {
-        return Ok(());
-    }
-    text::say(writer, b"passed over\n")
-}
-
-// A run's title, without its `# `.
-pub fn title<W: io::Write>(writer: &mut W, trace: &[u8], from: usize, to: usize) -> io::Result<()> {
-    if trace.len() < to {
-        return Ok(());
-    }
-    if to < from {
-        return Ok(());
-    }
-    if to - from < 2 {
-        return Ok(());
-    }
-    text::say(writer, &trace[from + 2..to])?;
-    text::say(writer, b": ")
-}
-
-// The counts.
-pub fn end<W: io::Write>(writer: &mut W, p: Play) -> io::Result<()> {
-    text::labelled(writer, b"passed over: ", p.tally.clients)?;
-    text::labelled(writer, b" runs of clients, ", p.tally.larger)?;
-    text::say(writer, b" runs of larger sizes\n")?;
-    text::labelled(writer, b"nonce and reports: ", p.tally.further)?;
-    text::say(writer, b" lines\n")?;
-    text::labelled(writer, b"takings: ", p.tally.takings)?;
-    text::say(writer, b" lines\n")?;
-    text::decimal(writer, p.tally.runs)?;
-    text::labelled(writer, b" runs, ", p.tally.calls)?;
-    text::labelled(writer, b" calls, ", p.tally.differ)?;
-    text::say(writer, b" differ\n")
 }

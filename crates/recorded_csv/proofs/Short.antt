@@ -15,8 +15,9 @@ use Rattle.entries.specs.declared.Entry.{Entry}
 use Rattle.decimal.specs.Decimal.{figure, decimal}
 use Rattle.decimal.proofs.FigureLaws.{by_size, decimal-one, decimal-more}
 use Rattle.csv_table.specs.Table.{header_words, kind_word, entry_fields, entry_rows_after, table, plain_row, exported}
-use Rattle.csv_table.specs.Calls.{LeftExported, not_exported, exporting, export_call}
-use Rattle.recorded_csv.specs.Shape.{lent_area, ToExport, export_of}
+use Rattle.csv_table.specs.Calls.{refused, exporting, export_call}
+use Rattle.csv_table.specs.declared.refusal.CsvRefusal.TheVariants.{BadEntry}
+use Rattle.recorded_csv.specs.Shape.{RecordedAnswer, as_recorded, lent_area, ToExport, export_of}
 
 -- k figures of a number from its last on, and the others as `decimal` has them
 unfoldable pub short : (k n : ℕ) → List ℕ
@@ -40,10 +41,11 @@ unfoldable pub short_rows : (i : ℕ) → List Entry → List (List (List ℕ))
 short_rows i [] = []
 short_rows i (e ∷ es) = short_row (suc i) e ∷ short_rows (suc i) es
 
-unfoldable pub short_export : ToExport → LeftExported
+unfoldable pub short_export : ToExport → RecordedAnswer
 short_export x =
-    when not (run_ok x.run) then not_exported 2 (lent_area x.room) else
-    exporting (packed plain_row (header_words ∷ short_rows 0 (entries (run_count x.run) x.run))) (lent_area x.room)
+    as_recorded
+    (when not (run_ok x.run) then refused BadEntry (lent_area x.room) else
+    exporting (packed plain_row (header_words ∷ short_rows 0 (entries (run_count x.run) x.run))) (lent_area x.room))
 
 row_is : (op : ℕ) (e : Entry) → entry_fields op e ≡ short_row op e
 unfolding entry_fields short_row

@@ -3,6 +3,7 @@
 --     noted-filled, noted-latest, noted-place    how many there are, the latest view among them, one of them
 --     noted-reads                                the state with its log kept
 -- Assumes nothing.
+use Rattle.std.specs.Prelude.{Option as RustOption, Some, None}
 use Prim.Native.Nat.{ℕ, ◌*◌, ◌≤◌, ◌<◌}
 use mathlib.Core.Path.{◌≡◌, refl, sym, ap, ◌∙◌}
 use mathlib.Core.Bool.{true}
@@ -15,8 +16,7 @@ use Rattle.numbers.proofs.WordLaws.{if-true, split₂}
 use Rattle.entries.specs.Entries.{entries}
 use Rattle.entries.specs.declared.Entry.{Entry}
 use Rattle.config.specs.declared.Setup.{Setup}
-use Rattle.frames.specs.declared.RecoveryState.{RecoveryState}
-use Rattle.frames.specs.declared.RecoveryState.TheVariants.{Absent, Present}
+use Rattle.frames.specs.declared.Progress.{Progress}
 use Rattle.state.specs.State.{with_reports}
 use Rattle.state.specs.Statuses.{is_recovering, no_report}
 use Rattle.state.specs.Lengths.{stored_place}
@@ -37,16 +37,16 @@ use Rattle.reports.proofs.StoredLift.{kept-places}
 
 -- what is held of a response
 
-pub response-there : (v : View) (state : RecoveryState) → (response_of v state).there ≡ true
+pub response-there : (v : View) (state : RustOption Progress) → (response_of v state).there ≡ true
 unfolding response_of
-response-there v Absent = refl
-response-there v (Present o k) = refl
+response-there v None = refl
+response-there v (Some p) = refl
 
-pub response-is : (v : View) (state : RecoveryState) (r : ℕ) (part : List ℕ)
+pub response-is : (v : View) (state : RustOption Progress) (r : ℕ) (part : List ℕ)
     → record { view = v.0; held = held_in state (entries (response_of v state).op.0 part) } ≡ response_in (λ _. part) r (response_of v state)
 unfolding response_of held_in when◌then◌else◌
-response-is v Absent r part = refl
-response-is v (Present o k) r part = refl
+response-is v None r part = refl
+response-is v (Some p) r part = refl
 
 -- ---- the rows
 

@@ -1,4 +1,5 @@
 -- The ways out of send_recovery and on_recovery, on plain variables, as the code's tests and calls give them. Assumes nothing.
+use Rattle.std.specs.Prelude.{Some, None}
 use mathlib.Core.Path.{◌≡◌, refl}
 use mathlib.Core.Bool.{true, false, not}
 use mathlib.Core.List.{List, []}
@@ -13,7 +14,6 @@ use Rattle.numbers.specs.declared.View.{View}
 use Rattle.config.specs.Setup.{setup_ok}
 use Rattle.config.proofs.SetupLaws.{sized}
 use Rattle.frames.specs.declared.Message.TheVariants.{Recovery, RecoveryResponse}
-use Rattle.frames.specs.declared.RecoveryState.TheVariants.{Absent, Present}
 use Rattle.writers.specs.Writers.{encode, size_of, state_size, length_of}
 use Rattle.writers.proofs.WriterLaws.{encode-length}
 use Rattle.state.specs.State.{leads}
@@ -26,11 +26,13 @@ use Rattle.steps.proofs.SendLaws.{bare-asks, bare-long}
 use Rattle.view_change.specs.StartView.{LogHeld}
 use Rattle.view_change.specs.StartViewChange.{started_change}
 use Rattle.recovery.specs.Recovery.{recoveries_length, recoveries_of, recovering_tick, full_length, full_answer, bare_answer, recovery_step}
+use Rattle.frames.specs.declared.Refusal.TheVariants.{NoRoomForMessages}
+use Rattle.frames.specs.Messages.{progress}
 
 -- ---- send_recovery
 
 module _ (s : Replica) (out : List ℕ) where
-  pub ticks-short : (a : Returned) → length out < recoveries_length s → a ≡ refusal 9 s → spoke a out ≡ recovering_tick s out
+  pub ticks-short : (a : Returned) → length out < recoveries_length s → a ≡ refusal NoRoomForMessages s → spoke a out ≡ recovering_tick s out
   unfolding recovering_tick when◌then◌else◌
   ticks-short a h p = rw (lt-ltb (length out) (recoveries_length s) h, p)
 
@@ -55,7 +57,7 @@ module _ (s : Replica) (out : List ℕ) where
 -- ---- the answers to a Recovery
 
 module _ (s : Replica) (r x : ℕ) (log out : List ℕ) where
-  pub full-short : (a : Returned) → length out < full_length s → a ≡ refusal 9 s → spoke a out ≡ full_answer s r x log out
+  pub full-short : (a : Returned) → length out < full_length s → a ≡ refusal NoRoomForMessages s → spoke a out ≡ full_answer s r x log out
   unfolding full_answer when◌then◌else◌
   full-short a h p = rw (lt-ltb (length out) (full_length s) h, p)
 
@@ -65,30 +67,30 @@ module _ (s : Replica) (r x : ℕ) (log out : List ℕ) where
         let z = sized s.setup h.sized in
         (omega (arith, h.op_le, z.room-high), (omega (arith, h.op_le, h.log-long), l))
 
-    full-long : length (encode r (RecoveryResponse s.view x s.setup.id (Present s.op s.commit)) (take (32 * s.op.0) log))
+    full-long : length (encode r (RecoveryResponse s.view x s.setup.id (Some (progress s.op s.commit))) (take (32 * s.op.0) log))
         ≡ full_length s
     unfolding size_of state_size length_of
     full-long =
-        encode-length r (RecoveryResponse s.view x s.setup.id (Present s.op s.commit)) (take (32 * s.op.0) log)
+        encode-length r (RecoveryResponse s.view x s.setup.id (Some (progress s.op s.commit))) (take (32 * s.op.0) log)
         (length-take-le (32 * s.op.0) log (omega (arith, h.op_le, h.log-long)))
 
     pub answers-full : (a : Returned) (w : ℕ) (o : List ℕ)
-        → Wrote (encode r (RecoveryResponse s.view x s.setup.id (Present s.op s.commit)) (take (32 * s.op.0) log)) out o w
+        → Wrote (encode r (RecoveryResponse s.view x s.setup.id (Some (progress s.op s.commit))) (take (32 * s.op.0) log)) out o w
         → a ≡ completed s w 0 false → spoke a o ≡ full_answer s r x log out
     unfolding full_answer when◌then◌else◌
     answers-full a w o q p = rw (le-ltb (length out) (full_length s) l, p, q.bytes, q.count, full-long)
 
 module _ (s : Replica) (r x : ℕ) (out : List ℕ) where
-  pub bare-short : (a : Returned) → length out < 21 → a ≡ refusal 9 s → spoke a out ≡ bare_answer s r x out
+  pub bare-short : (a : Returned) → length out < 21 → a ≡ refusal NoRoomForMessages s → spoke a out ≡ bare_answer s r x out
   unfolding bare_answer when◌then◌else◌
   bare-short a h p = rw (lt-ltb (length out) 21 h, p)
 
-  bare-answer-long : length (encode r (RecoveryResponse s.view x s.setup.id Absent) []) ≡ 21
+  bare-answer-long : length (encode r (RecoveryResponse s.view x s.setup.id None) []) ≡ 21
   unfolding size_of state_size length_of
-  bare-answer-long = encode-length r (RecoveryResponse s.view x s.setup.id Absent) [] refl
+  bare-answer-long = encode-length r (RecoveryResponse s.view x s.setup.id None) [] refl
 
   pub answers-bare : (a : Returned) (w : ℕ) (o : List ℕ) → 21 ≤ length out
-      → Wrote (encode r (RecoveryResponse s.view x s.setup.id Absent) []) out o w → a ≡ completed s w 0 false
+      → Wrote (encode r (RecoveryResponse s.view x s.setup.id None) []) out o w → a ≡ completed s w 0 false
       → spoke a o ≡ bare_answer s r x out
   unfolding bare_answer when◌then◌else◌
   answers-bare a w o h q p = rw (le-ltb (length out) 21 h, p, q.bytes, q.count, bare-answer-long)

@@ -3,6 +3,7 @@
 --     recovery-shown           on_recovery
 --     response-shown           on_recovery_response
 -- Assumes nothing.
+use Rattle.std.specs.Prelude.{Option, Some, None}
 use Prim.Native.Nat.{ℕ, ◌*◌, ◌≤◌, ◌<◌}
 use native.Mathlib.Omega.{arith}
 use mathlib.Core.Path.{◌≡◌, refl, sym, ap, ◌∙◌, subst}
@@ -29,8 +30,7 @@ use Rattle.config.specs.Setup.{setup_ok}
 use Rattle.config.specs.Replicas.{quorum_of}
 use Rattle.config.specs.declared.Setup.{Setup}
 use Rattle.config.proofs.SetupLaws.{Sized, sized, primary-below}
-use Rattle.frames.specs.declared.RecoveryState.{RecoveryState}
-use Rattle.frames.specs.declared.RecoveryState.TheVariants.{Absent, Present}
+use Rattle.frames.specs.declared.Progress.{Progress}
 use Rattle.frames.specs.declared.Message.{Message}
 use Rattle.frames.specs.declared.Message.TheVariants.{Recovery, RecoveryResponse}
 use Rattle.writers.specs.Writers.{encode, state_size, size_of, length_of}
@@ -77,6 +77,8 @@ use Rattle.reports.proofs.ChosenLift.{keeps-chosen}
 use Rattle.recovery.proofs.NotedLift.{response-there, response-is, noted-filled, noted-latest, noted-place, noted-reads}
 use Rattle.recovery.proofs.RecoveredLift.{recovered-did}
 use Rattle.reports.proofs.StoredLift.{StoredOk}
+use Rattle.frames.specs.declared.Refusal.TheVariants.{Uncommits}
+use Rattle.frames.specs.Messages.{progress}
 
 -- what a step leaves that changes log, results, totals and the stored logs
 abbrev pub of_collected : Given → Collected → Step
@@ -106,8 +108,8 @@ with_row : (u : Setup) (m : State) (w v : ℕ) (b : Bool) (h : Held)
     → recover_with u m w v (when b then some h else none)
     ≡ (when not b then ignored m else
     when not (eqb v w) then ignored m else
-    when not (agree m.book.commit h.log m.book.log) then refused 7 else
-    when ltb w m.place.view then refused 7 else
+    when not (agree m.book.commit h.log m.book.log) then refused Uncommits else
+    when ltb w m.place.view then refused Uncommits else
     done (recovered u m w h) [] [])
 unfolding recover_with when◌then◌else◌
 with_row u m w v true h = refl
@@ -142,10 +144,10 @@ module _ (c : Given) (table : List ClientEntry) (applied : List Entry) where
 
   module _ (r x : ℕ) where
     abbrev bare : Message
-    bare = RecoveryResponse s.view x s.setup.id Absent
+    bare = RecoveryResponse s.view x s.setup.id None
 
     abbrev full : Message
-    full = RecoveryResponse s.view x s.setup.id (Present s.op s.commit)
+    full = RecoveryResponse s.view x s.setup.id (Some (progress s.op s.commit))
 
     -- a backup's answer
     bare-long-is : length (encode r bare []) ≡ 21
@@ -165,14 +167,14 @@ module _ (c : Given) (table : List ClientEntry) (applied : List Entry) where
 
       abbrev tells : List Sent
       tells =
-          send r (RecoveryResponse s.view x s.setup.id (Present (op_number (op_of m)) (op_number m.book.commit))) m.book.log
+          send r (RecoveryResponse s.view x s.setup.id (Some (progress (op_number (op_of m)) (op_number m.book.commit)))) m.book.log
 
       full-bytes : messages_out tells ≡ encode r full (take (32 * s.op.0) c.runs.log)
       unfolding op_of model_of book_of
       full-bytes =
           message-log r _ (entries s.op.0 c.runs.log)
           ∙ λ i. encode r
-          (RecoveryResponse s.view x s.setup.id (Present (op_number (cells-length 32 entry_of s.op.0 c.runs.log i)) s.commit))
+          (RecoveryResponse s.view x s.setup.id (Some (progress (op_number (cells-length 32 entry_of s.op.0 c.runs.log i)) s.commit)))
           (packed-log s.op.0 c.runs.log ok bytes log-long i)
 
       full-long : length (encode r full (take (32 * s.op.0) c.runs.log)) ≡ full_length s
@@ -206,7 +208,7 @@ module _ (c : Given) (table : List ClientEntry) (applied : List Entry) where
       split₂ (Agree r x h ok bytes) _ _ _ _ _ _ refl (λ _. idle-shown c table applied) (λ _. response-sent r x h ok bytes)
 
   -- what refusal 1 and the frame's own leave, and the rules of the entries
-  module _ (v : View) (x r : ℕ) (state : RecoveryState) (part : List ℕ)
+  module _ (v : View) (x r : ℕ) (state : Option Progress) (part : List ℕ)
       (h : Collecting c.state (book_runs c.runs) (length c.runs.stored)) (told : ResponsePassed c.state r (response_of v state) (length part))
       (recovering : is_recovering c.state.status ≡ true) (totals : Bytes c.runs.totals) (kept : StoredOk c.state c.runs.stored)
       (log-ok : entries_ok c.state.op.0 c.runs.log ≡ true) (log-bytes : Bytes c.runs.log)
@@ -268,7 +270,7 @@ module _ (c : Given) (table : List ClientEntry) (applied : List Entry) where
     abbrev Gives : Judged → Answer → Type 0
     Gives j a = Shown c (by j) m.book (fitted (length c.out) (length c.reps) a)
 
-    refuse-shown : Gives Refuse (refused 7)
+    refuse-shown : Gives Refuse (refused Uncommits)
     unfolding by_response fitted
     refuse-shown = refl
 
@@ -312,8 +314,8 @@ module _ (c : Given) (table : List ClientEntry) (applied : List Entry) where
 
       abbrev ends : Answer
       ends =
-          when not (agree next.book.commit carried.log next.book.log) then refused 7 else
-          when ltb w next.place.view then refused 7 else
+          when not (agree next.book.commit carried.log next.book.log) then refused Uncommits else
+          when ltb w next.place.view then refused Uncommits else
           done (recovered u next w carried) [] []
 
       below : best.id < u.n
@@ -367,7 +369,7 @@ module _ (c : Given) (table : List ClientEntry) (applied : List Entry) where
         weigh-shown e =
             subst (λ (j : Judged). Gives j ends) (sym weigh-is)
             (split₂ Gives _ _ _ _ _ _ (ap not (sym keep-is)) (λ _. refuse-shown)
-            (λ f. subst (Gives (Begin best best.report.commit)) (sym (if-false (ltb w s.view.0) (refused 7) _ (le-ltb w s.view.0 g)))
+            (λ f. subst (Gives (Begin best best.report.commit)) (sym (if-false (ltb w s.view.0) (refused Uncommits) _ (le-ltb w s.view.0 g)))
             (begin-shown e (not-false keep f))))
 
       -- where its sender was in view w

@@ -1,4 +1,5 @@
 -- RecoveryResponse, Recovery and the tick in Recovering keep the entry rules. Assumes nothing.
+use Rattle.std.specs.Prelude.{Option}
 use Prim.Native.Nat.{ℕ, ◌*◌, ◌≤◌, ◌<◌}
 use mathlib.Core.Path.{◌≡◌, refl, ◌∙◌}
 use mathlib.Core.Bool.{true}
@@ -7,7 +8,7 @@ use lib.ListN.{length, length-set}
 use Rattle.numbers.specs.declared.View.{View}
 use Rattle.numbers.proofs.WordLaws.{split}
 use Rattle.entries.specs.Entries.{entries_ok}
-use Rattle.frames.specs.declared.RecoveryState.{RecoveryState}
+use Rattle.frames.specs.declared.Progress.{Progress}
 use Rattle.state.specs.declared.Replica.{Replica}
 use Rattle.state.specs.declared.Report.{Report}
 use Rattle.reports.specs.Rows.{with_report}
@@ -49,7 +50,7 @@ module _ (s : Replica) (m : Memory) (h : Has s m) where
     unfolding collected_by
     collected-ruled = answer-ruled answer refl
 
-  pub response-ruled : (v : View) (x r : ℕ) (t : RecoveryState) (part : List ℕ) → r < s.setup.n → (response_of v t).op.0 ≤ s.setup.room
+  pub response-ruled : (v : View) (x r : ℕ) (t : Option Progress) (part : List ℕ) → r < s.setup.n → (response_of v t).op.0 ≤ s.setup.room
       → 32 * (response_of v t).op.0 ≤ length part → entries_ok (response_of v t).op.0 part ≡ true
       → RuledBy (of_collected m (response_step s v x r t part m.runs m.stored))
   unfolding response_step

@@ -1,4 +1,5 @@
 -- Recovery and RecoveryResponse keep what refusal 1 asks. Assumes nothing.
+use Rattle.std.specs.Prelude.{Option}
 use mathlib.Core.Path.{◌≡◌, refl}
 use mathlib.Core.Bool.{true}
 use mathlib.Core.List.{List}
@@ -6,7 +7,7 @@ use Prim.Native.Nat.{ℕ, ◌*◌, ◌≤◌, ◌<◌}
 use lib.ListN.{length}
 use Rattle.numbers.specs.declared.View.{View}
 use Rattle.numbers.proofs.WordLaws.{split}
-use Rattle.frames.specs.declared.RecoveryState.{RecoveryState}
+use Rattle.frames.specs.declared.Progress.{Progress}
 use Rattle.state.specs.State.{changing_to, with_reports}
 use Rattle.state.specs.declared.Replica.{Replica}
 use Rattle.state.specs.declared.Report.{Report}
@@ -92,7 +93,7 @@ module _ (s : Replica) (m : Memory) (h : Gathering s m) where
     unfolding collected_by
     collected-kept = judged-kept verdict refl
 
-  pub response-kept : (v : View) (x r : ℕ) (t : RecoveryState) (part : List ℕ)
+  pub response-kept : (v : View) (x r : ℕ) (t : Option Progress) (part : List ℕ)
       → (r < s.setup.n)
       × (((response_of v t).op.0 ≤ s.setup.room)
       × (((response_of v t).commit.0 ≤ (response_of v t).op.0) × (32 * (response_of v t).op.0 ≤ length part)))

@@ -1,5 +1,6 @@
 -- Recovery, RecoveryResponse and the tick of one that recovers aren't refused for want of room in areas of `out_length` and `reps_length` bytes.
 -- Assumes nothing.
+use Rattle.std.specs.Prelude.{Option}
 use mathlib.Core.Path.{◌≡◌}
 use mathlib.Core.Bool.{true}
 use mathlib.Core.List.{List}
@@ -10,7 +11,7 @@ use Rattle.numbers.specs.declared.Op.{Op}
 use Rattle.numbers.proofs.WordLaws.{split}
 use Rattle.config.specs.Setup.{setup_ok}
 use Rattle.config.proofs.SetupLaws.{sized}
-use Rattle.frames.specs.declared.RecoveryState.{RecoveryState}
+use Rattle.frames.specs.declared.Progress.{Progress}
 use Rattle.state.specs.declared.Replica.{Replica}
 use Rattle.state.specs.declared.Reports.{Reports}
 use Rattle.reports.specs.declared.Judged.{Judged}
@@ -22,6 +23,7 @@ use Rattle.steps.proofs.StepsSuffice.{Spoken}
 use Rattle.view_change.proofs.ChangeSuffices.{started-suffices}
 use Rattle.book.specs.Memory.{Runs}
 use Rattle.recovery.specs.Recovery.{Collected, recoveries_length, recovering_tick, full_length, full_answer, bare_answer, recovery_step, recovered_by, by_response, collected_by, response_step}
+use Rattle.state.specs.Answers.{code_of}
 
 module _ (s : Replica) (ok : setup_ok s.setup ≡ true) where
   pub recoveries-fit : recoveries_length s ≤ out_length s.setup
@@ -51,7 +53,7 @@ module _ (s : Replica) (ok : setup_ok s.setup ≡ true) where
 
 module _ (s : Replica) (out reps : ℕ) where
   abbrev Collects : Collected → Type 0
-  Collects d = Answers s.setup out reps d.answer.code
+  Collects d = Answers s.setup out reps (code_of d.answer)
 
   judged-suffices : (rows : Reports) (r : ℕ) (o : Op) (fresh : List ℕ) (x : Runs) (stored : List ℕ) (j : Judged)
       → Collects (by_response j s rows r o fresh x stored)
@@ -60,7 +62,7 @@ module _ (s : Replica) (out reps : ℕ) where
   judged-suffices rows r o fresh x stored Refuse = later (omega arith) (omega arith)
   judged-suffices rows r o fresh x stored (Begin b g) = done
 
-  pub response-suffices : (v : View) (x r : ℕ) (t : RecoveryState) (part : List ℕ) (y : Runs) (stored : List ℕ)
+  pub response-suffices : (v : View) (x r : ℕ) (t : Option Progress) (part : List ℕ) (y : Runs) (stored : List ℕ)
       → Collects (response_step s v x r t part y stored)
   unfolding response_step collected_by
   response-suffices v x r t part y stored =

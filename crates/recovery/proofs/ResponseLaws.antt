@@ -1,4 +1,5 @@
 -- The ways out of on_recovery_response, on plain variables, as the code's tests and calls give them. Assumes nothing.
+use Rattle.std.specs.Prelude.{Option, Some, None}
 use mathlib.Core.Path.{◌≡◌, sym, ap, ◌∙◌, subst}
 use mathlib.Core.Bool.{true, false}
 use mathlib.Core.List.{List}
@@ -13,8 +14,7 @@ use Rattle.numbers.specs.declared.View.{View}
 use Rattle.numbers.specs.declared.Op.{Op}
 use Rattle.numbers.proofs.NumberLaws.{eq-or-not}
 use Rattle.config.proofs.SetupLaws.{sized}
-use Rattle.frames.specs.declared.RecoveryState.{RecoveryState}
-use Rattle.frames.specs.declared.RecoveryState.TheVariants.{Absent, Present}
+use Rattle.frames.specs.declared.Progress.{Progress}
 use Rattle.state.specs.State.{with_reports}
 use Rattle.state.specs.Statuses.{no_report}
 use Rattle.state.specs.Answers.{refusal, completed, quiet}
@@ -36,16 +36,18 @@ use Rattle.steps.proofs.Held.{gathered-rows}
 use Rattle.steps.specs.Steps.{Sound, committed_to, settled}
 use Rattle.book.specs.Memory.{runs}
 use Rattle.recovery.specs.Recovery.{response_of, Collecting, ResponsePassed, Collected, collected, back_in, recovered_by, by_response, collected_by, response_step}
+use Rattle.frames.specs.declared.Refusal.TheVariants.{Uncommits}
+use Rattle.frames.specs.Messages.{progress}
 
 -- ---- what is held of a response
 
-module _ (v : View) (state : RecoveryState) where
-  pub holds-absent : state ≡ Absent
+module _ (v : View) (state : Option Progress) where
+  pub holds-absent : state ≡ None
       → record { there = true; full = false; view = v; op = record { 0 = 0 }; commit = record { 0 = 0 } } ≡ response_of v state
   unfolding response_of
   holds-absent e = rw e
 
-  pub holds-present : (o c : Op) → state ≡ Present o c
+  pub holds-present : (o c : Op) → state ≡ Some (progress o c)
       → record { there = true; full = true; view = v; op = o; commit = c } ≡ response_of v state
   unfolding response_of
   holds-present o c e = rw e
@@ -168,7 +170,7 @@ module _ (s : Replica) (r : ℕ) (d : Report) (fresh log results totals stored :
     unfolding by_response
     keeps-it a t stored' e k w c = leads-to Wait _ e (λ i. collected ((c ∙ ap quiet w) i) (runs log results totals) (k i))
 
-    pub refuses-it : (a : Returned) → j ≡ Refuse → a ≡ refusal 7 s
+    pub refuses-it : (a : Returned) → j ≡ Refuse → a ≡ refusal Uncommits s
         → collected a (runs log results totals) stored ≡ collected_by s r d fresh (runs log results totals) stored
     unfolding by_response
     refuses-it a e c = leads-to Refuse _ e (λ i. collected (c i) (runs log results totals) stored)
@@ -181,7 +183,7 @@ module _ (s : Replica) (r : ℕ) (d : Report) (fresh log results totals stored :
 
 -- ---- on_recovery_response
 
-module _ (s : Replica) (v : View) (x r : ℕ) (state : RecoveryState) (part log results totals stored : List ℕ) where
+module _ (s : Replica) (v : View) (x r : ℕ) (state : Option Progress) (part log results totals stored : List ℕ) where
   pub other-nonce : (a : Returned) → (x ≡ s.nonce → ⊥) → a ≡ quiet s
       → collected a (runs log results totals) stored ≡ response_step s v x r state part (runs log results totals) stored
   unfolding response_step when◌then◌else◌

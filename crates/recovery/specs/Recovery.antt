@@ -1,13 +1,12 @@
 -- send_recovery, on_recovery and on_recovery_response, on the state by value and the bytes of the lent runs. A quorum of responses is judged before
 -- anything is stored; the response that ends the recovery is not stored. Assumes nothing.
-use Rattle.std.specs.Prelude.{◌≡◌, true, false, not, List, [], ℕ, ◌+◌, ◌-◌, ◌*◌, ◌≤◌, ◌<◌, ltb, eqb, length, take}
+use Rattle.std.specs.Prelude.{Option, Some, None, ◌≡◌, true, false, not, List, [], ℕ, ◌+◌, ◌-◌, ◌*◌, ◌≤◌, ◌<◌, ltb, eqb, length, take}
 use Rattle.numbers.specs.Words.{when◌then◌else◌}
 use Rattle.numbers.specs.Numbers.{over}
 use Rattle.numbers.specs.declared.View.{View}
 use Rattle.numbers.specs.declared.Op.{Op}
 use Rattle.frames.specs.declared.Message.TheVariants.{Recovery, RecoveryResponse}
-use Rattle.frames.specs.declared.RecoveryState.{RecoveryState}
-use Rattle.frames.specs.declared.RecoveryState.TheVariants.{Absent, Present}
+use Rattle.frames.specs.declared.Progress.{Progress}
 use Rattle.writers.specs.Writers.{encode, to_others}
 use Rattle.state.specs.State.{leads, with_log, normal_in, with_reports}
 use Rattle.state.specs.Statuses.{is_normal}
@@ -28,6 +27,8 @@ use Rattle.steps.specs.Steps.{Sound, Spoke, spoke, committed_to, settled}
 use Rattle.book.specs.Memory.{Runs, Memory}
 use Rattle.view_change.specs.StartViewChange.{started_change}
 use Rattle.steps.specs.Recorded.{Recorded, recorded}
+use Rattle.frames.specs.declared.Refusal.TheVariants.{Uncommits, NoRoomForMessages}
+use Rattle.frames.specs.Messages.{progress}
 
 -- Recovery to all others
 abbrev pub recoveries_length : Replica → ℕ
@@ -39,7 +40,7 @@ recoveries_of s = to_others s.setup.n s.setup.id (Recovery s.setup.id s.nonce s.
 -- send_recovery, of on_idle in Recovering: the clock is left alone
 unfoldable pub recovering_tick : Replica → List ℕ → Spoke
 recovering_tick s out =
-    when ltb (length out) (recoveries_length s) then spoke (refusal 9 s) out else
+    when ltb (length out) (recoveries_length s) then spoke (refusal NoRoomForMessages s) out else
     spoke (completed s (recoveries_length s) 0 false) (over (recoveries_of s) out)
 
 -- on_recovery, its answer: a primary's with its log
@@ -48,16 +49,16 @@ full_length s = 29 + 32 * s.op.0
 
 unfoldable pub full_answer : Replica → (r x : ℕ) (log out : List ℕ) → Spoke
 full_answer s r x log out =
-    when ltb (length out) (full_length s) then spoke (refusal 9 s) out else
+    when ltb (length out) (full_length s) then spoke (refusal NoRoomForMessages s) out else
     spoke
     (completed s (full_length s) 0 false)
-    (over (encode r (RecoveryResponse s.view x s.setup.id (Present s.op s.commit)) (take (32 * s.op.0) log)) out)
+    (over (encode r (RecoveryResponse s.view x s.setup.id (Some (progress s.op s.commit))) (take (32 * s.op.0) log)) out)
 
 -- a backup's without
 unfoldable pub bare_answer : Replica → (r x : ℕ) → List ℕ → Spoke
 bare_answer s r x out =
-    when ltb (length out) 21 then spoke (refusal 9 s) out else
-    spoke (completed s 21 0 false) (over (encode r (RecoveryResponse s.view x s.setup.id Absent) []) out)
+    when ltb (length out) 21 then spoke (refusal NoRoomForMessages s) out else
+    spoke (completed s 21 0 false) (over (encode r (RecoveryResponse s.view x s.setup.id None) []) out)
 
 -- on_recovery of replica r, with its nonce and view: one of a later view starts the view change, and isn't answered
 unfoldable pub recovery_step : Replica → (r x : ℕ) → View → (log out : List ℕ) → Spoke
@@ -68,9 +69,9 @@ recovery_step s r x v log out =
     bare_answer s r x out
 
 -- what is held of a RecoveryResponse of view v
-unfoldable pub response_of : View → RecoveryState → Report
-response_of v Absent = record { there = true; full = false; view = v; op = record { 0 = 0 }; commit = record { 0 = 0 } }
-response_of v (Present o c) = record { there = true; full = true; view = v; op = o; commit = c }
+unfoldable pub response_of : View → Option Progress → Report
+response_of v None = record { there = true; full = false; view = v; op = record { 0 = 0 }; commit = record { 0 = 0 } }
+response_of v (Some p) = record { there = true; full = true; view = v; op = p.op; commit = p.commit }
 
 -- what refusal 1 leaves
 pub record Collecting (s : Replica) (x : Runs) (stored : ℕ) : Type 0 where
@@ -118,7 +119,7 @@ recovered_by s b g r fresh x stored =
 unfoldable pub by_response : Judged → Replica → (rows : Reports) (r : ℕ) → Op → (fresh : List ℕ) → Runs → (stored : List ℕ) → Collected
 by_response Wait s rows r o fresh x stored =
     collected (quiet (with_reports s rows)) x (kept_log s.setup.room r o fresh stored)
-by_response Refuse s rows r o fresh x stored = collected (refusal 7 s) x stored
+by_response Refuse s rows r o fresh x stored = collected (refusal Uncommits s) x stored
 by_response (Begin b g) s rows r o fresh x stored = recovered_by s b g r fresh x stored
 
 -- the response d of replica r is recorded: a later one of a sender replaces an earlier one, even with a lower view
@@ -129,7 +130,7 @@ collected_by s r d fresh x stored =
     s (with_report s.reports r d) r d.op fresh x stored
 
 -- on_recovery_response of view v, to the nonce x, from replica r; `part` begins with the log that it carries
-unfoldable pub response_step : Replica → View → (x r : ℕ) → RecoveryState → (part : List ℕ) → Runs → (stored : List ℕ) → Collected
+unfoldable pub response_step : Replica → View → (x r : ℕ) → Option Progress → (part : List ℕ) → Runs → (stored : List ℕ) → Collected
 response_step s v x r state part y stored =
     when not (eqb x s.nonce) then collected (quiet s) y stored else
     collected_by s r (response_of v state) part y stored

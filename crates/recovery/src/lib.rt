@@ -7,7 +7,7 @@ ghost use Rattle.steps.specs.Steps.{spoke};
 ghost use Rattle.view_change.specs.StartView.{LogHeld};
 ghost use Rattle.recovery.specs.Recovery.{recovering_tick, full_answer, bare_answer, recovery_step};
 
-use frames::Message;
+use frames::{Message, Refusal};
 use numbers::View;
 use state::{Replica, Returned};
 
@@ -19,7 +19,7 @@ pub fn tick_recovering(s: Replica, out: &mut [u8]) -> Returned
     ensures { spoke result out.new ≡ recovering_tick s out.old }
 {
     if out.len() < 20 * (s.setup.n as usize - 1) {
-        return state::refused(9, s);
+        return state::refused(Refusal::NoRoomForMessages, s);
     }
     let view = s.view;
     let m = Message::Recovery {
@@ -37,7 +37,7 @@ fn answer_full(s: Replica, r: u8, x: u64, log: &[u8], out: &mut [u8]) -> Returne
     ensures { spoke result out.new ≡ full_answer s r x log.now out.old }
 {
     if out.len() < 29 + 32 * (s.op.0 as usize) {
-        return state::refused(9, s);
+        return state::refused(Refusal::NoRoomForMessages, s);
     }
     let v = s.view;
     let o = s.op;
@@ -51,7 +51,7 @@ fn answer_bare(s: Replica, r: u8, x: u64, out: &mut [u8]) -> Returned
     ensures { spoke result out.new ≡ bare_answer s r x out.old }
 {
     if out.len() < 21 {
-        return state::refused(9, s);
+        return state::refused(Refusal::NoRoomForMessages, s);
     }
     let v = s.view;
     let w = writers::kinds::response_bare(out, r, v, x, s.setup.id);

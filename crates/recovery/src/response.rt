@@ -5,24 +5,24 @@ ghost use Rattle.steps.specs.Steps.{Sound};
 ghost use Rattle.book.specs.Memory.{runs};
 ghost use Rattle.recovery.specs.Recovery.{response_of, Collecting, ResponsePassed, collected, recovered_by, collected_by, response_step};
 
-use frames::RecoveryState;
+use frames::{Progress, Refusal};
 use numbers::{Op, View};
 use reports::{Best, Judged};
 use state::{Replica, Report, Returned};
 
 // What is held of a response of view v.
-fn response(v: View, state: RecoveryState) -> Report
+fn response(v: View, state: Option<Progress>) -> Report
     ensures { result ≡ response_of v state }
 {
     match state {
-        RecoveryState::Absent => Report {
+        None => Report {
             there: true,
             full: false,
             view: v,
             op: Op(0),
             commit: Op(0),
         },
-        RecoveryState::Present { op, commit } => Report {
+        Some(Progress { op, commit }) => Report {
             there: true,
             full: true,
             view: v,
@@ -82,7 +82,7 @@ fn collect(
             reports::store::keep(stored, fresh, room, r, o);
             state::done(state::with_reports(s, rows), 0, 0, false)
         }
-        Judged::Refuse => state::refused(7, s),
+        Judged::Refuse => state::refused(Refusal::Uncommits, s),
         Judged::Begin { best, commit } => {
             come_back(s, best, commit, r, fresh, log, results, totals, stored)
         }
@@ -95,7 +95,7 @@ pub fn on_recovery_response(
     v: View,
     x: u64,
     r: u8,
-    state: RecoveryState,
+    state: Option<Progress>,
     part: &[u8],
     log: &mut [u8],
     results: &mut [u8],

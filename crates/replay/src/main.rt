@@ -1,194 +1,86 @@
 // Replays recorded calls through the replica's four calls and compares number, messages, replies, memory and state after each, and the takings by the call that says
-// them. The format of the input is ../shared/vectors/FORMAT.md, with the lines `+` and `$` of host/README.md. Each index is tested before it is used, so that no line,
-// however wrong, asks for a `requires`.
-// Here are the input, and one call with runs of the setup's lengths, which `trace` makes.
+// them. The format of the input is ../shared/vectors/FORMAT.md, with the lines `+` and `$` of host/README.md. No line, however wrong, asks for a `requires`. `playing` has
+// the loop over the trace; here is the replica.
 #![tactic(auto)]
 
-ghost use Rattle.std.specs.Prelude.{◌≡◌, ◌≤◌, length};
-
-use comparing::memory;
 use config::Setup;
-use outside::call::WithOffset;
-use playing::ReplicaCall;
+use frames::Refusal;
+use numbers::View;
+use playing::lent::CallRuns;
+use playing::program;
+use playing::trace::Engine;
+use replica::{call, create};
 use state::{Replica, Returned};
 use std::io;
 
-mod trace; // a whole trace
+// The replica over the table in bytes.
+struct Bytes;
 
-// What is called, the setup, and the state before the call; a creation doesn't look at it.
-#[derive(Clone, Copy)]
-struct Given {
-    pub call: ReplicaCall,
-    pub setup: Setup,
-    pub state: Replica,
-}
-
-// All runs, copied out.
-fn fetch_all(
-    memory: &[u8],
-    log: &mut [u8],
-    results: &mut [u8],
-    totals: &mut [u8],
-    acks: &mut [u8],
-    stored: &mut [u8],
-    table: &mut [u8],
-) {
-    memory::fetch(memory, memory::LOG, log);
-    memory::fetch(memory, memory::RESULTS, results);
-    memory::fetch(memory, memory::TOTALS, totals);
-    memory::fetch(memory, memory::ACKS, acks);
-    memory::fetch(memory, memory::TABLE, table);
-    memory::fetch(memory, memory::STORED, stored);
-}
-
-// All runs, copied back.
-fn store_all<'a>(
-    memory: &mut [u8],
-    log: &'a [u8],
-    results: &'a [u8],
-    totals: &'a [u8],
-    acks: &'a [u8],
-    stored: &'a [u8],
-    table: &'a [u8],
-) {
-    memory::store(memory, memory::LOG, log);
-    memory::store(memory, memory::RESULTS, results);
-    memory::store(memory, memory::TOTALS, totals);
-    memory::store(memory, memory::ACKS, acks);
-    memory::store(memory, memory::TABLE, table);
-    memory::store(memory, memory::STORED, stored);
-}
-
-// L and M as far as the memory goes: a creation with a larger one is only called where the setup is refused, whatever the lengths.
-fn within(x: u32) -> u32
-    ensures { result ≤ 8 }
-{
-    if 8 < x {
-        return 8;
+impl Engine for Bytes {
+    fn create(u: Setup, lent: CallRuns) -> Returned {
+        let CallRuns {
+            log,
+            results,
+            totals,
+            acks,
+            table,
+            stored,
+            ..
+        } = lent;
+        create::create(u, log, results, totals, acks, stored, table)
     }
-    x
-}
 
-fn replicas(n: u8) -> u8
-    ensures { result ≤ 7 }
-{
-    if 7 < n {
-        return 7;
-    }
-    n
-}
-
-// The length of the stored logs.
-fn logs(room: u32, n: u8) -> usize
-    ensures { result ≤ 1792 }
-{
-    let k = reports::judge::place(within(room), replicas(n));
-    if 1792 < k {
-        return 1792;
-    }
-    k
-}
-
-// Of an answer to a frame; the recorded calls name no offset.
-fn returned(a: WithOffset) -> Returned {
-    a.returned
-}
-
-fn made(
-    g: Given,
-    frame: &[u8],
-    log: &mut [u8],
-    results: &mut [u8],
-    totals: &mut [u8],
-    acks: &mut [u8],
-    stored: &mut [u8],
-    table: &mut [u8],
-    out: &mut [u8],
-    reps: &mut [u8],
-) -> Returned {
-    let call = g.call;
-    let u = g.setup;
-    let s = g.state;
-    match call {
-        ReplicaCall::Create => replica::create::create(
-            u, log, results, totals, acks, stored, table,
-        ),
-        ReplicaCall::Recover { view, nonce } => replica::create::recover(
+    fn recover(u: Setup, view: View, nonce: u64, lent: CallRuns) -> Returned {
+        let CallRuns {
+            log,
+            results,
+            totals,
+            acks,
+            table,
+            stored,
+            out,
+            ..
+        } = lent;
+        create::recover(
             u, view, nonce, log, results, totals, acks, stored, table, out,
-        ),
-        ReplicaCall::Message => returned(replica::call::on_message(
+        )
+    }
+
+    fn on_message(s: Replica, frame: &[u8], lent: CallRuns) -> Returned {
+        let CallRuns {
+            log,
+            results,
+            totals,
+            acks,
+            table,
+            stored,
+            out,
+            reps,
+        } = lent;
+        call::on_message(
             s, frame, log, results, totals, acks, stored, table, out, reps,
-        )),
-        ReplicaCall::Idle => replica::call::on_idle(
-            s, log, results, totals, acks, stored, table, out, reps,
-        ),
+        )
     }
-}
 
-// The call, with runs of the setup's lengths: parts of copies, since no two parts of one run can be lent at a time.
-fn make(g: Given, frame: &[u8], mem: &mut [u8], out: &mut [u8], reps: &mut [u8]) -> Returned {
-    let l = within(g.setup.room) as usize;
-    let m = within(g.setup.members) as usize;
-    let n = logs(g.setup.room, g.setup.n);
-    let mut log = [0; 256];
-    let mut results = [0; 72];
-    let mut totals = [0; 64];
-    let mut acks = [0; 8];
-    let mut stored = [0; 1792];
-    let mut table = [0; 200];
-    fetch_all(
-        mem,
-        &mut log,
-        &mut results,
-        &mut totals,
-        &mut acks,
-        &mut stored,
-        &mut table,
-    );
-    let a = made(
-        g,
-        frame,
-        &mut log[0..32 * l],
-        &mut results[0..9 * l],
-        &mut totals[0..8 * m],
-        &mut acks[0..l],
-        &mut stored[0..n],
-        &mut table[0..25 * l],
-        out,
-        reps,
-    );
-    store_all(mem, &log, &results, &totals, &acks, &stored, &table);
-    a
-}
-
-// Room for the whole input.
-fn room() -> [u8; 1048576]
-    ensures { 1048576 ≡ length result }
-{
-    [0; 1048576]
-}
-
-// What is beyond the room isn't played.
-fn say_rest<R: io::Read, W: io::Write>(reader: &mut R, writer: &mut W) -> io::Result<()> {
-    let mut rest = [0; 1];
-    if text::read_full(reader, &mut rest)? == 0 {
-        return Ok(());
+    fn on_idle(s: Replica, lent: CallRuns) -> Returned {
+        let CallRuns {
+            log,
+            results,
+            totals,
+            acks,
+            table,
+            stored,
+            out,
+            reps,
+        } = lent;
+        call::on_idle(s, log, results, totals, acks, stored, table, out, reps)
     }
-    text::say(
-        writer,
-        b"the input is longer than 1048576 bytes, and the rest of it is passed over\n",
-    )
+
+    fn takings(s: Replica) -> Result<u64, Refusal> {
+        call::takings(s)
+    }
 }
 
 fn main(rt: HostRuntime) -> io::Result<()> {
-    let mut input = room();
-    let mut reader = rt.reader();
-    let n = text::read_full(&mut reader, &mut input)?;
-    let mut writer = io::writer(&rt);
-    text::say(
-        &mut writer,
-        b"Recorded calls of replicas with L and M of 8 at most; areas for messages are cut to 8192 bytes, for replies to 512.\n",
-    )?;
-    trace::replay(&mut writer, &input[..n])?;
-    say_rest(&mut reader, &mut writer)
+    program::run::<Bytes, _, _>(&mut rt.reader(), &mut io::writer(&rt))
 }

@@ -19,7 +19,7 @@ use Rattle.config.specs.Replicas.{bit}
 use Rattle.config.specs.declared.Setup.{Setup}
 use Rattle.frames.specs.declared.Status.TheVariants.{Normal, Recovering}
 use Rattle.state.specs.State.{new_in}
-use Rattle.state.specs.Answers.{refusal}
+use Rattle.state.specs.Answers.{refusal, code_of, messages_written}
 use Rattle.state.specs.declared.Replica.{Replica}
 use Rattle.model.specs.State.{State, Answer}
 use Rattle.model.specs.State.Answer.{refused, done}
@@ -42,6 +42,9 @@ use Rattle.replica.specs.Demands.Link.{message, tick as idled}
 use Rattle.replica.specs.Backed.{call_by, calls_in, WroteBacked, OwnOut}
 use Rattle.replica.proofs.CreateLaws.{cleared-refused, cleared-done}
 use Rattle.replica.proofs.DemandLaws.{handed-kept, went}
+use Rattle.frames.specs.declared.Refusal.{Refusal}
+use Rattle.frames.proofs.RefusalLaws.{number-some}
+use Rattle.frames.specs.declared.Refusal.TheVariants.{OutOfRange, NoRoomForMessages}
 
 pub own_out : (s : Replica) (x : Lent) (applied : List Entry) → Kept s x applied → OwnOut s
 unfolding model_of
@@ -54,13 +57,13 @@ own_out s x applied k =
 
 -- the messages of the model's answer a, in the area
 record InArea (x : Lent) (d : Called) (a : Answer) : Type 0 where
-  messages : d.answer.messages ≡ length (messages_out (sent_by a))
+  messages : messages_written d.answer ≡ length (messages_out (sent_by a))
   out : d.lent.core.out ≡ over (messages_out (sent_by a)) x.core.out
 
 wrote : (s : Replica) (x : Lent) (d : Called) (a : Answer) → Means s.setup s x d a → InArea x d a
 unfolding sent_by messages_out packed over
 wrote s x d (refused k) e =
-    record { messages = ap (λ (z : Called). z.answer.messages) e; out = ap (λ (z : Called). z.lent.core.out) e }
+    record { messages = ap (λ (z : Called). (messages_written z.answer)) e; out = ap (λ (z : Called). z.lent.core.out) e }
 wrote s x d (done m ms rs) e = record { messages = e.messages; out = e.out }
 
 link-means : (s : Replica) (x : Lent) (applied : List Entry) (d : Called) → Kept s x applied → (l : Link s x d)
@@ -97,25 +100,25 @@ chain-backed s x applied k none_in not-sent s' x' c d l =
 module _ (u : Setup) (x : Lent) where
   -- the state of one that is done
   abbrev pub IsNew : Replica → Called → Type 0
-  IsNew t d = d.answer.code ≡ 0 → d.answer.state ≡ t
+  IsNew t d = code_of d.answer ≡ 0 → d.answer.state ≡ t
 
-  refused-new : (t : Replica) (k : ℕ) → (k ≡ 0 → ⊥)
+  refused-new : (t : Replica) (k : Refusal)
       → IsNew t (cleared u x (started (refusal k no_replica) x.core.runs.money.totals x.core.acks x.core.out))
-  refused-new t k n = subst (IsNew t) (sym (cleared-refused u x k no_replica n)) (λ e. absurd (n e))
+  refused-new t k = subst (IsNew t) (sym (cleared-refused u x k no_replica)) (λ e. absurd (number-some k e))
 
   pub create-new : IsNew (new_in u Normal (record { 0 = 0 }) 0) (create_call u x)
   unfolding create_call create_step
   create-new =
       split (λ (d : Started). IsNew (new_in u Normal (record { 0 = 0 }) 0) (cleared u x d)) _ _ _
-      (λ _. refused-new _ 1 (λ e. omega (arith, e)))
+      (λ _. refused-new _ OutOfRange)
       (λ _. subst (IsNew (new_in u Normal (record { 0 = 0 }) 0)) (sym (cleared-done u x _ _ refl)) (λ _. refl))
 
   pub recover-new : (v : View) (nonce : ℕ) → IsNew (new_in u Recovering v nonce) (recover_call u v nonce x)
   unfolding recover_call recover_step
   recover-new v nonce =
       let P : Started → Type 0 = λ d. IsNew (new_in u Recovering v nonce) (cleared u x d) in
-      split P _ _ _ (λ _. refused-new _ 1 (λ e. omega (arith, e))) λ _.
-      split P _ _ _ (λ _. refused-new _ 9 (λ e. omega (arith, e)))
+      split P _ _ _ (λ _. refused-new _ OutOfRange) λ _.
+      split P _ _ _ (λ _. refused-new _ NoRoomForMessages)
       (λ _. subst (IsNew (new_in u Recovering v nonce)) (sym (cleared-done u x _ _ refl)) (λ _. refl))
 
 -- after a call that left a new state t, whose memory is handed back as y
@@ -128,14 +131,14 @@ module _ (d : Called) (t : Replica) (new : d.answer.state ≡ t) (none_in : t.st
       (chain-backed d.answer.state y [] (handed-kept _ _ _ _ h kept) (ap (λ (r : Replica). r.starts) new ∙ none_in)
       (ap (λ (r : Replica). r.sent) new ∙ not-sent) s z c e l)
 
-pub backed : (u : Setup) (x : Lent) (d : Called) (y : Lent) (s : Replica) (z : Lent) (e : Called) → CreatePromise u x d → d.answer.code ≡ 0
+pub backed : (u : Setup) (x : Lent) (d : Called) (y : Lent) (s : Replica) (z : Lent) (e : Called) → CreatePromise u x d → code_of d.answer ≡ 0
     → HandedBack d.lent y → (c : Chain s z d.answer.state y) (l : Link s z e)
     → WroteBacked u (calls_in s z d.answer.state y c) s z (call_by s z e l) e
 backed u x d y s z e p k h =
     from-new d _ (subst (IsNew u x _) (sym p.exact) (create-new u x) k) refl refl (p.keeps k) y h s z e
 
 pub backed-recovered : (u : Setup) (v : View) (nonce : ℕ) (x : Lent) (d : Called) (y : Lent) (s : Replica) (z : Lent) (e : Called)
-    → RecoverPromise u v nonce x d → d.answer.code ≡ 0 → HandedBack d.lent y → (c : Chain s z d.answer.state y) (l : Link s z e)
+    → RecoverPromise u v nonce x d → code_of d.answer ≡ 0 → HandedBack d.lent y → (c : Chain s z d.answer.state y) (l : Link s z e)
     → WroteBacked u (calls_in s z d.answer.state y c) s z (call_by s z e l) e
 backed-recovered u v nonce x d y s z e p k h =
     from-new d _ (subst (IsNew u x _) (sym p.exact) (recover-new u x v nonce) k) refl refl (p.keeps k) y h s z e

@@ -5,27 +5,29 @@
 --     idle-unsound, idle-done                     a tick
 --     stays-cleared, is-cleared                   creation
 -- Assumes nothing.
+use Rattle.std.specs.Prelude.{Result, Ok, Err}
 use mathlib.Core.Path.{◌≡◌, sym, ap, ◌∙◌, subst}
 use mathlib.Core.Bool.{Bool, true, false, not}
 use mathlib.Core.List.{List}
 use Prim.Native.Nat.{ℕ}
+use native.Mathlib.Omega.{arith}
 use lib.ListN.{length, replicate}
 use borrow.Author.Tests.{eq-eqb, ne_eqb}
 use Rattle.numbers.specs.Words.{when◌then◌else◌}
-use Rattle.numbers.specs.Numbers.{over}
+use Rattle.numbers.specs.Numbers.{over, Bytes}
 use Rattle.entries.specs.Entries.{entries}
 use Rattle.config.specs.Setup.{setup_ok}
 use Rattle.config.specs.declared.Setup.{Setup}
 use Rattle.fees.specs.Results.{outcomes}
 use Rattle.frames.specs.declared.Message.{Message}
-use Rattle.frames.specs.declared.Checked.{Checked}
-use Rattle.frames.specs.declared.Checked.TheVariants.{Passed, Refused}
+use Rattle.frames.specs.declared.Refusal.{Refusal}
 use Rattle.client_table.specs.Rows.{followed}
 use Rattle.client_table.specs.declared.Latest.{Latest}
 use Rattle.client_table.specs.declared.Change.{Change}
-use Rattle.client_table_bytes.specs.Layout.{byte_row, rows_of}
-use Rattle.client_table_bytes.specs.Steps.{RowsLeft}
-use Rattle.state.specs.Answers.{refusal}
+use Rattle.client_table.specs.Leaves.{Leaves}
+use Rattle.client_table_bytes.specs.Layout.{byte_row, rows_of, rest_of}
+use Rattle.client_table_bytes.proofs.LayoutLaws.{left-leaves}
+use Rattle.state.specs.Answers.{refusal, code_of}
 use Rattle.state.specs.Lengths.{table_length}
 use Rattle.state.specs.declared.Returned.{Returned}
 use Rattle.state.specs.declared.Replica.{Replica}
@@ -38,20 +40,22 @@ use Rattle.outside.specs.Calls.{checked_of, change_by}
 use Rattle.outside.specs.Creation.{Started, started}
 use Rattle.replica.specs.Calls.{latest_for, table_after, tabled, followed_by, Following, with_table, following, checked_call, message_call, idle_call, cleared}
 use Rattle.replica.specs.Lent.{Lent, lent, Called, called, lengths_of}
+use Rattle.frames.specs.declared.Refusal.TheVariants.{OutOfRange}
 
 -- ---- the client table
 
 module _ (s : Replica) (a : Returned) (log results table : List ℕ) where
-  pub follow-refused : (a.code ≡ 0 → ⊥) → tabled a table ≡ followed_by s a log results table
+  pub follow-refused : (code_of a ≡ 0 → ⊥) → tabled a table ≡ followed_by s a log results table
   unfolding followed_by when◌then◌else◌
-  follow-refused h = rw (ne_eqb a.code 0 h)
+  follow-refused h = rw (ne_eqb (code_of a) 0 h)
 
-  pub follow-done : a.code ≡ 0 → (k : Change) → k ≡ change_by s a → {table' : List ℕ}
-      → RowsLeft s.setup.room table table'
+  pub follow-done : code_of a ≡ 0 → (k : Change) → k ≡ change_by s a → Following s a (length log) (length results) (length table)
+      → {table' : List ℕ} → Bytes table'
+      → Leaves rows_of rest_of s.setup.room table table'
       (followed byte_row k (rows_of s.setup.room table) (entries k.to.0 log) (outcomes k.done.0 results))
       → tabled a table' ≡ followed_by s a log results table
   unfolding followed_by table_after when◌then◌else◌
-  follow-done h k e l = rw (eq-eqb a.code 0 h, l.bytes, e)
+  follow-done h k e f b l = rw (eq-eqb (code_of a) 0 h, (left-leaves b (omega (arith, f.table-long)) l).bytes, e)
 
 -- what the core left is what the table needs
 pub stays-follow : (s : Replica) (d : Recorded) (a : Returned) (m : Memory) (table : ℕ) → setup_ok s.setup ≡ true → Stays s d
@@ -80,25 +84,25 @@ followed-is s d a m table e q =
 
 -- ---- a frame
 
-module _ (s : Replica) (frame : List ℕ) (x : Lent) (j : Checked) (q : j ≡ checked_of s (lengths_of x) frame) where
-  pub malformed : (k o : ℕ) → j ≡ Refused k o → {a : Returned} → a ≡ refusal k s → called a x ≡ message_call s frame x
+module _ (s : Replica) (frame : List ℕ) (x : Lent) (j : Result Message Refusal) (q : j ≡ checked_of s (lengths_of x) frame) where
+  pub malformed : (k : Refusal) → j ≡ Err k → {a : Returned} → a ≡ refusal k s → called a x ≡ message_call s frame x
   unfolding message_call checked_call
-  malformed k o r p = rw (← q, r, p)
+  malformed k r p = rw (← q, r, p)
 
-  pub passes : (m : Message) → j ≡ Passed m → {d : Called} → d ≡ checked_call (Passed m) s frame x → d ≡ message_call s frame x
+  pub passes : (m : Message) → j ≡ Ok m → {d : Called} → d ≡ checked_call (Ok m) s frame x → d ≡ message_call s frame x
   unfolding message_call
   passes m r p = rw (← q, r) p
 
 -- that passed refusals 1 to 6
 pub taken : (s : Replica) (m : Message) (frame : List ℕ) (x : Lent) (l : Latest) → l ≡ latest_for m s.setup.room x.table → {d : Called}
-    → d ≡ following s x.table (message_step m s l frame x.core) → d ≡ checked_call (Passed m) s frame x
+    → d ≡ following s x.table (message_step m s l frame x.core) → d ≡ checked_call (Ok m) s frame x
 unfolding checked_call
 taken s m frame x l e p = p ∙ ap (λ (y : Latest). following s x.table (message_step m s y frame x.core)) e
 
 -- ---- a tick
 
 module _ (s : Replica) (x : Lent) (b : Bool) (e : b ≡ sound s (lengths_of x)) where
-  pub idle-unsound : not b ≡ true → {a : Returned} → a ≡ refusal 1 s → called a x ≡ idle_call s x
+  pub idle-unsound : not b ≡ true → {a : Returned} → a ≡ refusal OutOfRange s → called a x ≡ idle_call s x
   unfolding idle_call when◌then◌else◌
   idle-unsound h p = rw (← e, h, p)
 
@@ -113,10 +117,10 @@ module _ (u : Setup) (x : Lent) {a : Returned} {totals acks out : List ℕ} {d :
   left table =
       called a (lent x.core.runs.log x.core.runs.money.results totals acks x.core.stored table out x.core.reps)
 
-  pub stays-cleared : (a.code ≡ 0 → ⊥) → left x.table ≡ cleared u x d
+  pub stays-cleared : (code_of a ≡ 0 → ⊥) → left x.table ≡ cleared u x d
   unfolding cleared when◌then◌else◌
-  stays-cleared h = rw (← e, ne_eqb a.code 0 h)
+  stays-cleared h = rw (← e, ne_eqb (code_of a) 0 h)
 
-  pub is-cleared : a.code ≡ 0 → {table : List ℕ} → table ≡ over (replicate (table_length u) 0) x.table → left table ≡ cleared u x d
+  pub is-cleared : code_of a ≡ 0 → {table : List ℕ} → table ≡ over (replicate (table_length u) 0) x.table → left table ≡ cleared u x d
   unfolding cleared when◌then◌else◌
-  is-cleared h t = rw (← e, eq-eqb a.code 0 h, t)
+  is-cleared h t = rw (← e, eq-eqb (code_of a) 0 h, t)

@@ -21,7 +21,7 @@ use Rattle.frames.specs.declared.Status.{Status}
 use Rattle.client_table_bytes.specs.Layout.{no_row, byte_row, rows_of}
 use Rattle.client_table_bytes.proofs.LayoutLaws.{left-cleared, byte-lawful}
 use Rattle.state.specs.State.{new_in}
-use Rattle.state.specs.Answers.{refusal}
+use Rattle.state.specs.Answers.{refusal, code_of}
 use Rattle.state.specs.Statuses.{is_recovering, no_report}
 use Rattle.state.specs.Lengths.{acks_length, totals_length, table_length}
 use Rattle.state.specs.declared.Returned.{Returned}
@@ -43,6 +43,9 @@ use Rattle.outside.proofs.SoundLaws.{Long, is-sound}
 use Rattle.replica.specs.Calls.{cleared}
 use Rattle.replica.specs.Lent.{Lent, lent, called, lengths_of}
 use Rattle.replica.specs.Meaning.{meaning_of, Kept}
+use Rattle.frames.specs.declared.Refusal.{Refusal}
+use Rattle.frames.proofs.RefusalLaws.{number-some}
+use Rattle.frames.specs.Refusals.{number_of}
 
 -- ---- what it leaves
 
@@ -57,15 +60,15 @@ emptied u x out =
     out x.core.reps
 
 module _ (u : Setup) (x : Lent) where
-  pub cleared-refused : (k : ℕ) (z : Replica) → (k ≡ 0 → ⊥)
+  pub cleared-refused : (k : Refusal) (z : Replica)
       → cleared u x (started (refusal k z) x.core.runs.money.totals x.core.acks x.core.out) ≡ called (refusal k z) x
   unfolding cleared when◌then◌else◌
-  cleared-refused k z h = rw (ne_eqb k 0 h)
+  cleared-refused k z = rw (ne_eqb (number_of k) 0 (number-some k))
 
-  pub cleared-done : (a : Returned) (out : List ℕ) → a.code ≡ 0
+  pub cleared-done : (a : Returned) (out : List ℕ) → code_of a ≡ 0
       → cleared u x (zeroed u a x.core.runs.money.totals x.core.acks out) ≡ called a (emptied u x out)
   unfolding cleared emptied when◌then◌else◌
-  cleared-done a out h = rw (eq-eqb a.code 0 h)
+  cleared-done a out h = rw (eq-eqb (code_of a) 0 h)
 
 zero-totals : (k : ℕ) (rest : List ℕ) → cells 8 total_of k (replicate (8 * k) 0 ++ rest) ≡ replicate k 0
 unfolding cells num

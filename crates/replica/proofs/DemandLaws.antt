@@ -4,6 +4,7 @@
 --     went                                                 what a chain leads to is what the model's calls lead to
 --     chain-goes, demand-3, demand-3-recovered             demand 3, from any state that calls produced, and from a creation
 -- Assumes nothing.
+use Rattle.std.specs.Prelude.{Result, Ok, Err}
 use mathlib.Core.Path.{◌≡◌, refl, sym, ap, ◌∙◌, subst}
 use mathlib.Core.Bool.{not}
 use mathlib.Core.List.{List, []}
@@ -14,9 +15,8 @@ use Rattle.numbers.specs.declared.View.{View}
 use Rattle.numbers.proofs.WordLaws.{split}
 use Rattle.entries.specs.declared.Entry.{Entry}
 use Rattle.config.specs.declared.Setup.{Setup}
-use Rattle.frames.specs.declared.Checked.{Checked}
-use Rattle.frames.specs.declared.Checked.TheVariants.{Passed, Refused}
-use Rattle.state.specs.Answers.{refusal}
+use Rattle.frames.specs.declared.Refusal.{Refusal}
+use Rattle.state.specs.Answers.{refusal, code_of, outcome_code}
 use Rattle.state.specs.declared.Replica.{Replica}
 use Rattle.steps.specs.Recorded.{Recorded}
 use Rattle.steps.proofs.RefusedSteps as S
@@ -27,7 +27,7 @@ use Rattle.layout.specs.Layout.{book_of, model_of}
 use Rattle.safety.specs.Demand.{Call, answer, run, Safe, Later}
 use Rattle.safety.proofs.Runs.{demand3}
 use Rattle.outside.specs.Calls.{checked_of, change_by}
-use Rattle.outside.specs.declared.takings.Taken.{Taken}
+use Rattle.std.specs.Prelude.{Result, Ok, Err}
 use Rattle.replica.specs.Calls.{latest_for, table_after, Tabled, tabled, followed_by, with_table, following, checked_call, message_call, idle_call}
 use Rattle.replica.specs.Lent.{Lent, Called, called, lengths_of}
 use Rattle.replica.specs.Meaning.{Reached, Kept, Means, meaning_of, applied_after, frame_answer, tick_answer}
@@ -39,6 +39,9 @@ use Rattle.replica.specs.Backed.{call_by, calls_in}
 use Rattle.replica.proofs.KeptLaws.{reached-safe}
 use Rattle.replica.proofs.TakingsLaws.{full-addition}
 use Rattle.replica.proofs.AgainLaws.{answers-in}
+use Rattle.frames.specs.declared.Refusal.TheVariants.{OutOfRange}
+use Rattle.frames.proofs.RefusalLaws.{number-some}
+use Rattle.frames.specs.declared.Message.{Message}
 
 -- ---- one answer
 
@@ -54,29 +57,30 @@ one-creation u x d e p q = p.exact ∙ sym q.exact
 pub one-recovery : (u : Setup) (v : View) (k : ℕ) (x : Lent) (d e : Called) → RecoverPromise u v k x d → RecoverPromise u v k x e → d ≡ e
 one-recovery u v k x d e p q = p.exact ∙ sym q.exact
 
-pub one-takings : (s : Replica) (r t : Taken) → TakingsPromise s r → TakingsPromise s t → r ≡ t
+pub one-takings : (s : Replica) (r t : Result ℕ Refusal) → TakingsPromise s r → TakingsPromise s t → r ≡ t
 one-takings s r t p q = p.exact ∙ sym q.exact
 
 -- ---- demand 1
 
 module _ (s : Replica) (x : Lent) where
-  refuses : (k : ℕ) → Untouched s x (called (refusal k s) x)
-  refuses k h = refl
+  refuses : (k : Refusal) → Untouched s x (called (refusal k s) x)
+  refuses k j h = let same : k ≡ j = cc h in rw same
 
   follows : (d : Recorded) → S.Untouched s x.core d → Untouched s x (following s x.table d)
   unfolding following followed_by
   follows d h =
-      let k = change_by s d.answer in
-      split (λ (t : Tabled). Untouched s x (with_table d.memory t)) (not (eqb d.answer.code 0))
+      split (λ (t : Tabled). Untouched s x (with_table d.memory t)) (not (eqb (code_of d.answer) 0))
       (tabled d.answer x.table)
-      (tabled d.answer (table_after s.setup.room k x.table d.memory.runs.log d.memory.runs.money.results))
-      (λ _ n. ap (λ (z : Recorded). called z.answer (record { core = z.memory; table = x.table })) (h n))
-      (λ f n. absurd (n (eqb-true d.answer.code 0 (not-false (eqb d.answer.code 0) f))))
+      (tabled d.answer (table_after s.setup.room (change_by s d.answer) x.table d.memory.runs.log d.memory.runs.money.results))
+      (λ _ k e. ap (λ (z : Recorded). called z.answer (record { core = z.memory; table = x.table })) (h k e))
+      (λ f k e.
+      let zero : code_of d.answer ≡ 0 = eqb-true (code_of d.answer) 0 (not-false (eqb (code_of d.answer) 0) f) in
+      absurd (number-some k (sym (ap outcome_code e) ∙ zero)))
 
-  checks : (f : List ℕ) (j : Checked) → Untouched s x (checked_call j s f x)
+  checks : (f : List ℕ) (j : Result Message Refusal) → Untouched s x (checked_call j s f x)
   unfolding checked_call
-  checks f (Refused k p) = refuses k
-  checks f (Passed m) = follows _ (R.message-untouched m s (latest_for m s.setup.room x.table) f x.core)
+  checks f (Err k) = refuses k
+  checks f (Ok m) = follows _ (R.message-untouched m s (latest_for m s.setup.room x.table) f x.core)
 
   pub message-untouched : (f : List ℕ) (d : Called) → MessagePromise s f x d → Untouched s x d
   unfolding message_call
@@ -85,7 +89,7 @@ module _ (s : Replica) (x : Lent) where
   pub tick-untouched : (d : Called) → IdlePromise s x d → Untouched s x d
   unfolding idle_call
   tick-untouched d p =
-      subst (Untouched s x) (sym p.exact) (split (Untouched s x) _ _ _ (λ _. refuses 1) (λ _. follows _ (R.idle-untouched s x.core)))
+      subst (Untouched s x) (sym p.exact) (split (Untouched s x) _ _ _ (λ _. refuses OutOfRange) (λ _. follows _ (R.idle-untouched s x.core)))
 
 -- ---- memory handed back
 
@@ -192,10 +196,10 @@ chain-goes s x applied s' x' k c =
     }
 
 -- from a creation, or a recovery, that wasn't refused
-pub demand-3 : (u : Setup) (x : Lent) (d : Called) (y : Lent) (s : Replica) (z : Lent) → CreatePromise u x d → d.answer.code ≡ 0
+pub demand-3 : (u : Setup) (x : Lent) (d : Called) (y : Lent) (s : Replica) (z : Lent) → CreatePromise u x d → code_of d.answer ≡ 0
     → HandedBack d.lent y → Chain s z d.answer.state y → GoesOn d.answer.state y [] s z
 demand-3 u x d y s z p e h c = chain-goes _ _ _ _ _ (handed-kept _ _ _ _ h (p.keeps e)) c
 
 pub demand-3-recovered : (u : Setup) (v : View) (k : ℕ) (x : Lent) (d : Called) (y : Lent) (s : Replica) (z : Lent) → RecoverPromise u v k x d
-    → d.answer.code ≡ 0 → HandedBack d.lent y → Chain s z d.answer.state y → GoesOn d.answer.state y [] s z
+    → code_of d.answer ≡ 0 → HandedBack d.lent y → Chain s z d.answer.state y → GoesOn d.answer.state y [] s z
 demand-3-recovered u v k x d y s z p e h c = chain-goes _ _ _ _ _ (handed-kept _ _ _ _ h (p.keeps e)) c

@@ -51,10 +51,11 @@ use Rattle.safety.proofs.Runs.{demand3}
 use Rattle.safety.proofs.Latest.{safe-rising, safe-latest}
 use Rattle.outside.specs.Calls.{carried_by, told_of, change_by}
 use Rattle.outside.proofs.SoundLaws.{Whole, sound-is, is-sound}
-use Rattle.replica.specs.Calls.{table_after, following, latest_for}
+use Rattle.replica.specs.Calls.{table_after, following, latest_for, latest_found, found_for, found_by}
 use Rattle.replica.specs.Lent.{Lent, Called, called}
 use Rattle.replica.specs.Meaning.{runs_of, meaning_of, Owned, Reached, Kept, Done, Means, applied_after}
 use Rattle.replica.proofs.TableLaws.{refused-follows, done-follows, table-after}
+use Rattle.frames.specs.declared.Refusal.{Refusal}
 
 -- ---- one call more
 
@@ -123,11 +124,11 @@ module _ (s : Replica) (x : Lent) (applied : List Entry) (o : Owned x) (k : Kept
       }
 
   tells : (e : Entry) → RowTells rows (Request e) (latest_for (Request e) s.setup.room x.table)
-  unfolding latest_for told_of carried_by when◌then◌else◌
+  unfolding latest_for latest_found found_for found_by carried_by
   tells e = found-tells (rows_of s.setup.room x.table) e.client k.ordered
 
   pub row-tells : (y : Message) → RowTells rows y (latest_for y s.setup.room x.table)
-  unfolding latest_for told_of carried_by when◌then◌else◌
+  unfolding latest_for latest_found found_for found_by carried_by
   row-tells (Request e) = tells e
   row-tells (Prepare v a c e) = tells e
   row-tells (PrepareOk v a r) = tt
@@ -142,7 +143,7 @@ module _ (s : Replica) (x : Lent) (applied : List Entry) (o : Owned x) (k : Kept
 
   -- ---- a refusal
 
-  pub refused-kept : (i : ℕ) (d : Called) → d ≡ called (refusal i s) x → Promised s x (meaning_of s x applied) d (refused i)
+  pub refused-kept : (i : Refusal) (d : Called) → d ≡ called (refusal i s) x → Promised s x (meaning_of s x applied) d (refused i)
   unfolding after model_of book_of
   refused-kept i d e = (e, subst (λ (y : Called). Kept y.answer.state y.lent applied) (sym e) k)
 

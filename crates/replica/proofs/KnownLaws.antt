@@ -1,8 +1,9 @@
 -- What is known of the client whose entry a message carries. A Request or Prepare appends no more than this entry, and installs no log.
---     his-known, none-known    of a message that carries one, and of one that carries none
+--     found-his                what was found is of him
 --     still_one, entry-back    nothing appended; an entry that was appended, read back
 --     appends                  what was found of its client is what the append asks for
 -- Assumes nothing.
+use Rattle.std.specs.Prelude.{Option, Some, None, Ok}
 use mathlib.Core.Path.{◌≡◌, refl, sym, ap, ◌∙◌, subst}
 use mathlib.Core.Bool.{true, false, false≢true}
 use mathlib.Core.List.{List, ◌++◌}
@@ -21,12 +22,10 @@ use Rattle.entries.proofs.PlaceLaws.{place_is}
 use Rattle.frames.specs.Refusals.{check_frame}
 use Rattle.frames.specs.declared.Message.{Message}
 use Rattle.frames.specs.declared.Message.TheVariants.{Request, Prepare, PrepareOk, Commit, GetState, NewState, StartViewChange, DoViewChange, StartView, Recovery, RecoveryResponse}
-use Rattle.frames.specs.declared.Checked.TheVariants.{Passed}
 use Rattle.client_table.specs.declared.Latest.{Latest}
-use Rattle.client_table.specs.declared.Latest.TheVariants.{Nothing}
-use Rattle.client_table_bytes.specs.declared.Found.{Found}
-use Rattle.client_table_bytes.specs.Layout.{rows_of}
-use Rattle.client_table_bytes.specs.Steps.{found_in, latest_of, AppendsFor}
+use Rattle.client_table.specs.Found.{Found, found_in, AppendsFor}
+use Rattle.client_table_bytes.specs.declared.MarkedRow.{MarkedRow}
+use Rattle.client_table_bytes.specs.Layout.{byte_row, rows_of}
 use Rattle.book.specs.Log.{with_entries}
 use Rattle.book.specs.Memory.{Memory}
 use Rattle.state.specs.declared.Returned.{Returned}
@@ -48,43 +47,26 @@ use Rattle.normal.specs.Prepare.{prepared_by}
 use Rattle.handlers.specs.Handlers.{handled, message_step}
 use Rattle.handlers.proofs.FrameLaws.{request-ok, prepare-ok}
 use Rattle.outside.specs.Calls.{carried_by, change_by}
-use Rattle.outside.specs.declared.call.Carrying.{Carrying}
-use Rattle.outside.proofs.CallLaws.{told-his, told-other}
-use Rattle.replica.specs.declared.call.Known.{Known}
-use Rattle.replica.specs.Calls.{latest_for, KnownFor}
+use Rattle.replica.specs.Calls.{found_by, found_for}
+use Rattle.state.specs.Answers.{installed_of}
 
-module _ {m : Message} {n : ℕ} {table : List ℕ} {k : Known} (c : Carrying) (e : c ≡ carried_by m) where
-  pub his-known : c.carries ≡ true
-      → (k.carries ≡ true)
-      × ((k.found ≡ found_in (rows_of n table) c.client) × (k.latest ≡ latest_of (found_in (rows_of n table) c.client)))
-      → KnownFor m n table k
-  unfolding latest_for
-  his-known t h =
-      let is = ap (λ (z : Carrying). found_in (rows_of n table) z.client) e in
-      let his = ap (λ (z : Carrying). z.carries) (sym e) ∙ t in
-      record {
-        carries = h.0 ∙ sym his;
-        found = λ _. h.1.0 ∙ is;
-        latest = h.1.1 ∙ ap latest_of is ∙ sym (told-his m _ his);
-      }
-
-  pub none-known : c.carries ≡ false → (k.carries ≡ false) × (k.latest ≡ Nothing) → KnownFor m n table k
-  unfolding latest_for
-  none-known t h =
-      let his = ap (λ (z : Carrying). z.carries) (sym e) ∙ t in
-      record {
-        carries = h.0 ∙ sym his;
-        found = λ y. absurd (false≢true (sym his ∙ y));
-        latest = h.1 ∙ sym (told-other m _ his);
-      }
+-- what was found is of the client whose entry the message carries
+pub found-his : (m : Message) (n : ℕ) (table : List ℕ) (f : Found MarkedRow) → found_for m n table ≡ Some f
+    → (c : ℕ) × (carried_by m ≡ Some c) × (f ≡ found_in byte_row (rows_of n table) c)
+unfolding found_for found_by
+found-his m n table f h = go (carried_by m) refl h
+  where
+    go : (o : Option ℕ) → carried_by m ≡ o → found_by o n table ≡ Some f → (c : ℕ) × (carried_by m ≡ Some c) × (f ≡ found_in byte_row (rows_of n table) c)
+    go None e q = absurd (cc q)
+    go (Some c) e q = (c, e, cc q)
 
 -- no more than one entry behind those of s, and it is of client c
 record One (s : Replica) (c : ℕ) (a : Returned) (log : List ℕ) : Type 0 where
-  kept : a.installed ≡ false
+  kept : installed_of a ≡ false
   one : a.state.op.0 ≤ s.op.0 + 1
   client : s.op.0 < a.state.op.0 → (entry_of (drop (32 * s.op.0) log)).client ≡ c
 
-still_one : {s : Replica} {c : ℕ} {a : Returned} {log : List ℕ} → a.installed ≡ false → a.state.op.0 ≡ s.op.0 → One s c a log
+still_one : {s : Replica} {c : ℕ} {a : Returned} {log : List ℕ} → installed_of a ≡ false → a.state.op.0 ≡ s.op.0 → One s c a log
 still_one i e = record { kept = i; one = omega (arith, e); client = λ l. absurd (omega (arith, e, l)) }
 
 entry-back : (n : ℕ) (log : List ℕ) (e : Entry) → EntryFits e → 32 * n ≤ length log
@@ -159,36 +141,42 @@ abbrev OneBy : Replica → ℕ → Recorded → Type 0
 OneBy s c d = One s c d.answer d.memory.runs.log
 
 handled-one : (x : Message) (s : Replica) (latest : Latest) (frame : List ℕ) (m : Memory) → Gathering s m → Bytes frame
-    → check_frame s.setup frame ≡ Passed x → (carried_by x).carries ≡ true → OneBy s (carried_by x).client (handled x s latest frame m)
+    → check_frame s.setup frame ≡ Ok x → (c : ℕ) → carried_by x ≡ Some c → OneBy s c (handled x s latest frame m)
 unfolding handled carried_by
-handled-one (Request e) s latest frame m g b ok h = request-one s m g e latest (request-ok s.setup frame e ok b).0
-handled-one (Prepare v o c e) s latest frame m g b ok h =
-    prepare-one s m g v (prepared_by o c e latest) (prepare-ok s.setup frame v o c e ok b).0
-handled-one (PrepareOk v o r) s latest frame m g b ok h = absurd (false≢true h)
-handled-one (Commit v c) s latest frame m g b ok h = absurd (false≢true h)
-handled-one (GetState r v o) s latest frame m g b ok h = absurd (false≢true h)
-handled-one (NewState v a z c) s latest frame m g b ok h = absurd (false≢true h)
-handled-one (StartViewChange v r) s latest frame m g b ok h = absurd (false≢true h)
-handled-one (DoViewChange v r l o c) s latest frame m g b ok h = absurd (false≢true h)
-handled-one (StartView v o c) s latest frame m g b ok h = absurd (false≢true h)
-handled-one (Recovery r x v) s latest frame m g b ok h = absurd (false≢true h)
-handled-one (RecoveryResponse v x r t) s latest frame m g b ok h = absurd (false≢true h)
+handled-one (Request e) s latest frame m g b ok c h =
+    let his : OneBy s e.client (handled (Request e) s latest frame m) = request-one s m g e latest (request-ok s.setup frame e ok b).0 in
+    let P : ℕ → Type 0 = λ k. OneBy s k (handled (Request e) s latest frame m) in
+    subst P (cc h) his
+handled-one (Prepare v o k e) s latest frame m g b ok c h =
+    let his : OneBy s e.client (handled (Prepare v o k e) s latest frame m) =
+    prepare-one s m g v (prepared_by o k e latest) (prepare-ok s.setup frame v o k e ok b).0 in
+    let P : ℕ → Type 0 = λ n. OneBy s n (handled (Prepare v o k e) s latest frame m) in
+    subst P (cc h) his
+handled-one (PrepareOk v o r) s latest frame m g b ok c h = absurd (cc h)
+handled-one (Commit v k) s latest frame m g b ok c h = absurd (cc h)
+handled-one (GetState r v o) s latest frame m g b ok c h = absurd (cc h)
+handled-one (NewState v a z k) s latest frame m g b ok c h = absurd (cc h)
+handled-one (StartViewChange v r) s latest frame m g b ok c h = absurd (cc h)
+handled-one (DoViewChange v r l o k) s latest frame m g b ok c h = absurd (cc h)
+handled-one (StartView v o k) s latest frame m g b ok c h = absurd (cc h)
+handled-one (Recovery r x v) s latest frame m g b ok c h = absurd (cc h)
+handled-one (RecoveryResponse v x r t) s latest frame m g b ok c h = absurd (cc h)
 
 message-one : (x : Message) (s : Replica) (latest : Latest) (frame : List ℕ) (m : Memory) → Gathering s m → Bytes frame
-    → check_frame s.setup frame ≡ Passed x → (carried_by x).carries ≡ true → OneBy s (carried_by x).client (message_step x s latest frame m)
+    → check_frame s.setup frame ≡ Ok x → (c : ℕ) → carried_by x ≡ Some c → OneBy s c (message_step x s latest frame m)
 unfolding message_step
-message-one x s latest frame m g b ok h =
-    split (OneBy s (carried_by x).client) _ _ _ (λ _. handled-one x s latest frame m g b ok h) (λ _. still_one refl refl)
+message-one x s latest frame m g b ok c h =
+    split (OneBy s c) _ _ _ (λ _. handled-one x s latest frame m g b ok c h) (λ _. still_one refl refl)
 
 pub appends : (x : Message) (s : Replica) (latest : Latest) (frame : List ℕ) (m : Memory) → Gathering s m → Bytes frame
-    → check_frame s.setup frame ≡ Passed x → (carried_by x).carries ≡ true
+    → check_frame s.setup frame ≡ Ok x → (c : ℕ) → carried_by x ≡ Some c
     → (a : Returned) (m' : Memory) → recorded a m' ≡ message_step x s latest frame m
-    → (f : Found) (table : List ℕ) → f ≡ found_in (rows_of s.setup.room table) (carried_by x).client
-    → AppendsFor s.setup.room (change_by s a) f table m'.runs.log
-appends x s latest frame m g b ok h a m' e f table p =
-    let o = subst (OneBy s (carried_by x).client) (sym e) (message-one x s latest frame m g b ok h) in
+    → (f : Found MarkedRow) (table : List ℕ) → f ≡ found_in byte_row (rows_of s.setup.room table) c
+    → AppendsFor byte_row (change_by s a) f (rows_of s.setup.room table) m'.runs.log
+appends x s latest frame m g b ok c h a m' e f table p =
+    let o = subst (OneBy s c) (sym e) (message-one x s latest frame m g b ok c h) in
     record {
       kept = o.kept;
       one = o.one;
-      found = λ l. p ∙ ap (found_in (rows_of s.setup.room table)) (sym (o.client l));
+      found = λ l. p ∙ ap (found_in byte_row (rows_of s.setup.room table)) (sym (o.client l));
     }

@@ -33,6 +33,8 @@ use Rattle.replica.specs.Marked.{heard, heard_in, each, CallOf, Played, PlayedSo
 use Rattle.replica.specs.Marked.Played.{none, more}
 use Rattle.model.proofs.ExamplesHold.{marked-hold}
 use Rattle.model.proofs.Open.{open-marked}
+use Rattle.state.specs.Answers.{messages_written, replies_written}
+use Rattle.frames.specs.declared.Refusal.{Refusal}
 
 take-front : (w s : List ℕ) → take (length w) (w ++ s) ≡ w
 take-front [] s = refl
@@ -49,8 +51,8 @@ heard-means u s x d m (refused k) e = ap heard e
 heard-means u s x d m (done n ms rs) e =
     λ i. record {
       number = e.code i;
-      messages = counted (messages_out ms) x.core.out d.lent.core.out d.answer.messages e.messages e.out i;
-      replies = counted (replies_out rs) x.core.reps d.lent.core.reps d.answer.replies e.replies e.reps i;
+      messages = counted (messages_out ms) x.core.out d.lent.core.out (messages_written d.answer) e.messages e.out i;
+      replies = counted (replies_out rs) x.core.reps d.lent.core.reps (replies_written d.answer) e.replies e.reps i;
     }
 
 -- a call shows the model's answer a, and leaves memory that calls produced
@@ -94,7 +96,7 @@ played-so u m s x applied (e ∷ es) (d ∷ ds) p q k (more _ _ _ _ _ _ y o c h 
 
 -- a creation that is refused is followed by no call
 abbrev Ends : Example → Type 0
-Ends e = (k : ℕ) → create e.setup ≡ refused k → e.calls ≡ []
+Ends e = (k : Refusal) → create e.setup ≡ refused k → e.calls ≡ []
 
 none_then : (s : Replica) (x : Lent) (es : List Event) (ds : List Called) → es ≡ [] → Played s x es ds → each heard ds ≡ []
 unfolding each
@@ -113,7 +115,7 @@ unfolding create new_at empty_book applied_in
 new_applied u m ms rs =
     split (λ (a : Answer). a ≡ done m ms rs → m.book.applied ≡ []) (setup_ok u) _ _ (λ _ e. sym (ap applied_in e)) (λ _ e. cc)
 
-begins : (u : Setup) (es : List Event) (a : Answer) → create u ≡ a → ((k : ℕ) → a ≡ refused k → es ≡ []) → (x : Lent) (d : Called) (y : Lent)
+begins : (u : Setup) (es : List Event) (a : Answer) → create u ≡ a → ((k : Refusal) → a ≡ refused k → es ≡ []) → (x : Lent) (d : Called) (y : Lent)
     (ds : List Called) → CreatePromise u x d → Means u no_replica x d a → HandedBack d.lent y → Played d.answer.state y es ds
     → each heard (d ∷ ds) ≡ each heard_in (seen_from u a es)
 unfolding each seen_from heard heard_in saw_refused saw answer_seen

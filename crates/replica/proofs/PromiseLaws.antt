@@ -1,4 +1,5 @@
 -- From `exact` to `meaning` and `keeps`. Assumes nothing.
+use Rattle.std.specs.Prelude.{Result, Ok, Err}
 use mathlib.Core.Path.{◌≡◌, refl, sym, ap, subst}
 use mathlib.Core.Bool.{not}
 use mathlib.Core.List.{List}
@@ -10,8 +11,7 @@ use Rattle.numbers.proofs.WordLaws.{if-false}
 use Rattle.entries.specs.declared.Entry.{Entry}
 use Rattle.config.specs.declared.Setup.{Setup}
 use Rattle.frames.specs.Refusals.{check_frame}
-use Rattle.frames.specs.declared.Checked.{Checked}
-use Rattle.frames.specs.declared.Checked.TheVariants.{Passed, Refused}
+use Rattle.frames.specs.declared.Refusal.{Refusal}
 use Rattle.state.specs.declared.Replica.{Replica}
 use Rattle.handlers.specs.Handlers.{message_step, idle_step}
 use Rattle.handlers.proofs.Stays.{message-stays, idle-stays}
@@ -30,6 +30,7 @@ use Rattle.replica.specs.Meaning.{meaning_of, Owned, Reached, Kept, frame_answer
 use Rattle.replica.specs.Promise.{MessagePromise, IdlePromise, CreatePromise, RecoverPromise}
 use Rattle.replica.proofs.KeptLaws.{goes_on, Promised, given, rows, whole, never-1, fit, row-tells, refused-kept, step_kept}
 use Rattle.replica.proofs.StartLaws.{create-means, create-keeps, recover-means, recover-keeps}
+use Rattle.frames.specs.declared.Message.{Message}
 
 -- ---- a frame, and a tick
 
@@ -50,7 +51,7 @@ module _ (s : Replica) (x : Lent) (applied : List Entry) (o : Owned x) (k : Kept
   bytes = (record { log = o.log; money = record { results = o.results; totals = o.totals } }, o.stored)
 
   module _ (frame : List ℕ) (b : Bytes frame) where
-    abbrev says : Checked → Answer
+    abbrev says : Result Message Refusal → Answer
     says y = sized-to (on_checked u m frame y)
 
     frame_is : frame_answer s frame x applied ≡ says (check_frame u frame)
@@ -59,12 +60,12 @@ module _ (s : Replica) (x : Lent) (applied : List Entry) (o : Owned x) (k : Kept
 
     call-is : message_call s frame x ≡ checked_call (check_frame u frame) s frame x
     unfolding message_call
-    call-is = ap (λ (y : Checked). checked_call y s frame x) (past-1 s (lengths_of x) frame k.sound)
+    call-is = ap (λ (y : Result Message Refusal). checked_call y s frame x) (past-1 s (lengths_of x) frame k.sound)
 
-    checked-kept : (y : Checked) → check_frame u frame ≡ y → Reached u (after m (says y)) → Promised s x m (checked_call y s frame x) (says y)
+    checked-kept : (y : Result Message Refusal) → check_frame u frame ≡ y → Reached u (after m (says y)) → Promised s x m (checked_call y s frame x) (says y)
     unfolding checked_call on_checked fitted
-    checked-kept (Refused i q) e r = refused-kept s x applied o k i _ refl
-    checked-kept (Passed y) e r =
+    checked-kept (Err i) e r = refused-kept s x applied o k i _ refl
+    checked-kept (Ok y) e r =
         let latest = latest_for y u.room x.table in
         let g = (whole s x applied o k).gathering in
         step_kept s x applied o k (message_step y s latest frame x.core) _

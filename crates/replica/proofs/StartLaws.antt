@@ -20,7 +20,7 @@ use Rattle.frames.specs.declared.Status.TheVariants.{Normal, Recovering}
 use Rattle.frames.specs.declared.Message.TheVariants.{Recovery}
 use Rattle.writers.specs.Writers.{size_of, length_of}
 use Rattle.state.specs.State.{new_in}
-use Rattle.state.specs.Answers.{refusal, completed, quiet}
+use Rattle.state.specs.Answers.{refusal, completed, quiet, code_of}
 use Rattle.state.specs.declared.Replica.{Replica}
 use Rattle.state.proofs.SoundLaws.{both}
 use Rattle.steps.proofs.SendLaws.{bare-long}
@@ -39,6 +39,9 @@ use Rattle.replica.specs.Calls.{cleared, create_call, recover_call}
 use Rattle.replica.specs.Lent.{Lent, Called, called, lengths_of}
 use Rattle.replica.specs.Meaning.{Kept, Done, Means}
 use Rattle.replica.proofs.CreateLaws.{emptied, cleared-refused, cleared-done, new-reads, new-kept}
+use Rattle.frames.specs.declared.Refusal.TheVariants.{OutOfRange, NoRoomForMessages}
+use Rattle.frames.specs.declared.Refusal.{Refusal}
+use Rattle.frames.proofs.RefusalLaws.{number-some}
 
 -- ---- creation
 
@@ -83,26 +86,26 @@ module _ (u : Setup) (x : Lent) where
   MeansBy d a = Means u no_replica x (cleared u x d) a
 
   abbrev KeptBy : Started → Type 0
-  KeptBy d = (cleared u x d).answer.code ≡ 0 → Kept (cleared u x d).answer.state (cleared u x d).lent []
+  KeptBy d = (code_of (cleared u x d).answer) ≡ 0 → Kept (cleared u x d).answer.state (cleared u x d).lent []
 
   abbrev KeptIn : Called → Type 0
-  KeptIn d = d.answer.code ≡ 0 → Kept d.answer.state d.lent []
+  KeptIn d = code_of d.answer ≡ 0 → Kept d.answer.state d.lent []
 
-  refused-kept : (k : ℕ) → (k ≡ 0 → ⊥) → KeptBy (started (refusal k no_replica) x.core.runs.money.totals x.core.acks x.core.out)
-  refused-kept k n = subst KeptIn (sym (cleared-refused u x k no_replica n)) (λ e. absurd (n e))
+  refused-kept : (k : Refusal) → KeptBy (started (refusal k no_replica) x.core.runs.money.totals x.core.acks x.core.out)
+  refused-kept k = subst KeptIn (sym (cleared-refused u x k no_replica)) (λ e. absurd (number-some k e))
 
   pub create-means : lengths_ok u (lengths_of x) ≡ true → Means u no_replica x (create_call u x) (create u)
   unfolding create_call create_step create
   create-means l =
-      subst (Means u no_replica x (create_call u x)) (sym (by-not (setup_ok u) (done (new_at u Normal 0 0) [] []) (refused 1)))
-      (split₂ MeansBy _ _ _ _ _ _ (ap not (by-setup l)) (λ _. cleared-refused u x 1 no_replica (λ e. omega (arith, e)))
+      subst (Means u no_replica x (create_call u x)) (sym (by-not (setup_ok u) (done (new_at u Normal 0 0) [] []) (refused OutOfRange)))
+      (split₂ MeansBy _ _ _ _ _ _ (ap not (by-setup l)) (λ _. cleared-refused u x OutOfRange no_replica)
       (λ f.
       subst (λ (d : Called). Done u x d (new_at u Normal 0 0) [] []) (sym (cleared-done u x _ _ refl)) (created-done (setup-ok f) (long f))))
 
-  pub create-keeps : (create_call u x).answer.code ≡ 0 → Kept (create_call u x).answer.state (create_call u x).lent []
+  pub create-keeps : (code_of (create_call u x).answer) ≡ 0 → Kept (create_call u x).answer.state (create_call u x).lent []
   unfolding create_call create_step
   create-keeps =
-      split KeptBy _ _ _ (λ _. refused-kept 1 (λ e. omega (arith, e)))
+      split KeptBy _ _ _ (λ _. refused-kept OutOfRange)
       (λ f.
       subst KeptIn (sym (cleared-done u x _ _ refl))
       (λ _. new-kept u x x.core.out (setup-ok f) (long f) Normal (record { 0 = 0 }) 0 (new [] [] (create-is (setup-ok f)))))
@@ -129,13 +132,13 @@ module _ (u : Setup) (v : View) (nonce : ℕ) (x : Lent) where
 
   -- the model's answer, by the same tests
   answer-is : recover u v.0 nonce (length x.core.out)
-      ≡ (when not (setup_ok u) then refused 1 else
-      when ltb (length x.core.out) (length (messages_out (send_recovery u m₀))) then refused 9 else
+      ≡ (when not (setup_ok u) then refused OutOfRange else
+      when ltb (length x.core.out) (length (messages_out (send_recovery u m₀))) then refused NoRoomForMessages else
       sent)
   unfolding recover
   answer-is =
-      ap (λ (a : Answer). when setup_ok u then a else refused 1) (sends-only (length x.core.out) 0 m₀ (send_recovery u m₀))
-      ∙ by-not (setup_ok u) _ (refused 1)
+      ap (λ (a : Answer). when setup_ok u then a else refused OutOfRange) (sends-only (length x.core.out) 0 m₀ (send_recovery u m₀))
+      ∙ by-not (setup_ok u) _ (refused OutOfRange)
 
   recovering-done : setup_ok u ≡ true → Long u (lengths_of x)
       → Done u x (called (completed t (recoveries_length t) 0 false) (emptied u x (over (recoveries_of t) x.core.out))) m₀ (send_recovery u m₀) []
@@ -156,18 +159,18 @@ module _ (u : Setup) (v : View) (nonce : ℕ) (x : Lent) where
   unfolding recover_call recover_step
   recover-means l =
       subst (Means u no_replica x (recover_call u v nonce x)) (sym answer-is)
-      (split₂ (MeansBy u x) _ _ _ _ _ _ (ap not (by-setup u x l)) (λ _. cleared-refused u x 1 no_replica (λ e. omega (arith, e))) λ f.
+      (split₂ (MeansBy u x) _ _ _ _ _ _ (ap not (by-setup u x l)) (λ _. cleared-refused u x OutOfRange no_replica) λ f.
       split₂ (MeansBy u x) _ _ _ _ _ _ (ap (ltb (length x.core.out)) (sym (sent-long (setup-ok u x f))))
-      (λ _. cleared-refused u x 9 no_replica (λ e. omega (arith, e)))
+      (λ _. cleared-refused u x NoRoomForMessages no_replica)
       (λ _.
       subst (λ (d : Called). Done u x d m₀ (send_recovery u m₀) []) (sym (cleared-done u x _ _ refl))
       (recovering-done (setup-ok u x f) (long u x f))))
 
-  pub recover-keeps : (recover_call u v nonce x).answer.code ≡ 0 → Kept (recover_call u v nonce x).answer.state (recover_call u v nonce x).lent []
+  pub recover-keeps : (code_of (recover_call u v nonce x).answer) ≡ 0 → Kept (recover_call u v nonce x).answer.state (recover_call u v nonce x).lent []
   unfolding recover_call recover_step
   recover-keeps =
-      split (KeptBy u x) _ _ _ (λ _. refused-kept u x 1 (λ e. omega (arith, e))) λ f.
-      split (KeptBy u x) _ _ _ (λ _. refused-kept u x 9 (λ e. omega (arith, e)))
+      split (KeptBy u x) _ _ _ (λ _. refused-kept u x OutOfRange) λ f.
+      split (KeptBy u x) _ _ _ (λ _. refused-kept u x NoRoomForMessages)
       (λ g.
       subst (KeptIn u x) (sym (cleared-done u x _ _ refl))
       (λ _.

@@ -24,7 +24,7 @@ use Rattle.client_table_bytes.specs.Layout.{byte_row, encode_row, rows_of}
 use Rattle.client_table_bytes.specs.Steps.{RowsLeft}
 use Rattle.client_table_bytes.specs.declared.MarkedRow.{MarkedRow}
 use Rattle.client_table_bytes.proofs.LayoutLaws.{left-same}
-use Rattle.state.specs.Answers.{refusal}
+use Rattle.state.specs.Answers.{refusal, code_of}
 use Rattle.state.specs.Lengths.{table_length}
 use Rattle.state.specs.declared.Replica.{Replica}
 use Rattle.steps.specs.Recorded.{Recorded, recorded}
@@ -34,6 +34,8 @@ use Rattle.outside.specs.Calls.{change_by}
 use Rattle.replica.specs.Calls.{table_after, Tabled, followed_by, with_table, following}
 use Rattle.replica.specs.Lent.{called}
 use Rattle.replica.proofs.RowLaws.{rows_fit, results_fit, followed-fits, read_back}
+use Rattle.frames.specs.declared.Refusal.{Refusal}
+use Rattle.frames.specs.Refusals.{number_of}
 
 -- ---- nothing changed
 
@@ -42,7 +44,7 @@ unfolding rows_committed
 none-replied xs [] = refl
 none-replied xs (e ∷ es) = refl
 
-module _ (s : Replica) (i : ℕ) where
+module _ (s : Replica) (i : Refusal) where
   abbrev still : Change
   still = change_by s (refusal i s)
 
@@ -67,14 +69,14 @@ module _ (s : Replica) (i : ℕ) where
         → following s table (recorded (refusal i s) m) ≡ called (refusal i s) (record { core = m; table = table })
     unfolding following followed_by when◌then◌else◌
     refused-follows m =
-        split (λ (t : Tabled). with_table m t ≡ called (refusal i s) (record { core = m; table = table })) (not (eqb i 0)) _ _ (λ _. refl)
+        split (λ (t : Tabled). with_table m t ≡ called (refusal i s) (record { core = m; table = table })) (not (eqb (number_of i) 0)) _ _ (λ _. refl)
         (λ _.
         ap (λ (t : List ℕ). called (refusal i s) (record { core = m; table = t }))
         (same-table m.runs.log m.runs.money.results))
 
 -- ---- what a call did
 
-pub done-follows : (s : Replica) (table : List ℕ) (d : Recorded) → d.answer.code ≡ 0
+pub done-follows : (s : Replica) (table : List ℕ) (d : Recorded) → code_of d.answer ≡ 0
     → following s table d
     ≡ called d.answer
     (record {

@@ -2,9 +2,9 @@
 --     takings-promised     from `exact` to `meaning`
 --     full-addition        fees taken less refunds paid
 -- Assumes nothing.
-use mathlib.Core.Path.{◌≡◌, ap, ◌∙◌}
+use mathlib.Core.Path.{refl, ◌≡◌, ap, ◌∙◌}
 use mathlib.Core.List.{List}
-use Prim.Native.Nat.{◌+◌}
+use Prim.Native.Nat.{ℕ, ◌+◌}
 use lib.ListN.{length}
 use Rattle.numbers.proofs.WordLaws.{if-true}
 use Rattle.entries.specs.declared.Entry.{Entry}
@@ -12,8 +12,9 @@ use Rattle.state.specs.declared.Replica.{Replica}
 use Rattle.layout.specs.Layout.{book_of, model_of}
 use Rattle.safety.specs.Money.{sum, all_refunds}
 use Rattle.safety.specs.Demand.{Safe, zeros}
-use Rattle.outside.specs.Takings.{taken, takings_call}
-use Rattle.outside.specs.declared.takings.Taken.{Taken}
+use Rattle.outside.specs.Takings.{takings_call}
+use Rattle.std.specs.Prelude.{Result, Ok, Err}
+use Rattle.frames.specs.declared.Refusal.{Refusal}
 use Rattle.outside.proofs.SoundLaws.{sound-is, whole-alone}
 use Rattle.replica.specs.Lent.{Lent}
 use Rattle.replica.specs.Meaning.{Kept, meaning_of}
@@ -30,21 +31,21 @@ module _ (s : Replica) (x : Lent) (applied : List Entry) (k : Kept s x applied) 
   unfolding model_of book_of
   kept-sum = safe.takings-are
 
-  call-adds : takings_call s ≡ taken 0 (sum (meaning_of s x applied).book.totals)
+  call-adds : takings_call s ≡ Ok (sum (meaning_of s x applied).book.totals)
   unfolding takings_call
   call-adds =
       let w = sound-is s x.core (length x.table) k.sound in
-      if-true _ _ _ (whole-alone s x.core (length x.table) w) ∙ ap (taken 0) kept-sum
+      if-true _ _ _ (whole-alone s x.core (length x.table) w) ∙ ap Ok kept-sum
 
-  pub full-addition : (r : Taken) → TakingsPromise s r → FullAddition s x applied r
+  pub full-addition : (r : Result ℕ Refusal) → TakingsPromise s r → FullAddition s x applied r
   unfolding model_of book_of
   full-addition r p =
-      let e = p.meaning x applied k in
       record {
-        answered = e;
-        balanced =
-            ap (λ (t : Taken). t.cents + all_refunds (zeros s.setup) applied) e ∙ safe.sum-of-totals;
+        cents = sum (meaning_of s x applied).book.totals;
+        answered = p.meaning x applied k;
+        added = refl;
+        balanced = safe.sum-of-totals;
       }
 
-pub takings-promised : (s : Replica) (r : Taken) → r ≡ takings_call s → TakingsPromise s r
+pub takings-promised : (s : Replica) (r : Result ℕ Refusal) → r ≡ takings_call s → TakingsPromise s r
 takings-promised s r e = record { exact = e; meaning = λ x applied k. e ∙ call-adds s x applied k }

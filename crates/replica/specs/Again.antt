@@ -9,6 +9,7 @@ use Rattle.safety.specs.Again.{AskedAgain, reply_again}
 use Rattle.replica.specs.Lent.{Lent, Called}
 use Rattle.replica.specs.Meaning.{Owned, meaning_of}
 use Rattle.replica.specs.Promise.{MessagePromise}
+use Rattle.state.specs.Answers.{code_of, messages_written, replies_written}
 
 -- the reply to the entry at place i, 36 bytes: the view as it is now, the outcome and total of the time when the entry was applied
 abbrev pub again_bytes : Replica → Lent → (applied : List Entry) → Entry → (i : ℕ) → List ℕ
@@ -16,10 +17,10 @@ again_bytes s x applied e i = reply_bytes (reply_again s.setup (meaning_of s x a
 
 -- What the call leaves: that reply over the front of its area, no message, and a state and memory that mean what they meant.
 pub record WroteAgain (s : Replica) (x : Lent) (applied : List Entry) (e : Entry) (i : ℕ) (d : Called) : Type 0 where
-  pub code : d.answer.code ≡ 0
-  pub messages : d.answer.messages ≡ 0
+  pub code : code_of d.answer ≡ 0
+  pub messages : messages_written d.answer ≡ 0
   pub out : d.lent.core.out ≡ x.core.out
-  pub replies : d.answer.replies ≡ 36
+  pub replies : replies_written d.answer ≡ 36
   pub reps : d.lent.core.reps ≡ over (again_bytes s x applied e i) x.core.reps
   pub same : meaning_of d.answer.state d.lent applied ≡ meaning_of s x applied
 

@@ -16,6 +16,7 @@ use Rattle.replica.specs.Meaning.{Kept, meaning_of}
 use Rattle.replica.specs.Demands.{Link, Chain}
 use Rattle.replica.specs.Demands.Link.{message, tick as idled}
 use Rattle.replica.specs.Demands.Chain.{none, more}
+use Rattle.state.specs.Answers.{messages_written}
 
 -- a frame, or a tick, with the sizes of the areas that are lent with it
 abbrev pub framed_in : Lent → List ℕ → Call
@@ -43,7 +44,7 @@ said_by s x applied c = sent_by (answer s.setup (meaning_of s x applied) c)
 pub record WroteBacked (u : Setup) (cs : List Call) (s : Replica) (x : Lent) (c : Call) (d : Called) : Type 0 where
   pub applied : List Entry
   pub kept : Kept s x applied
-  pub messages : d.answer.messages ≡ length (messages_out (said_by s x applied c))
+  pub messages : messages_written d.answer ≡ length (messages_out (said_by s x applied c))
   pub out : d.lent.core.out ≡ over (messages_out (said_by s x applied c)) x.core.out
   pub backed : AllBacked u (AskedIn u (cs ++ c ∷ [])) (said_by s x applied c)
 

@@ -1,7 +1,7 @@
 -- The outside calls: creation, recovery, a frame, a tick (the Rust's `new`, `recover`, `on_message`, `on_idle`), on the state by value and the bytes of
 -- everything that is lent. Refusals in document 01's order: 1; 2 to 6 on the frame alone; the Rust's early returns and the later causes in the
 -- handlers; 9, 10. Assumes nothing.
-use Rattle.std.specs.Prelude.{◌≡◌, true, not, List, ◌++◌, ℕ, ◌*◌, ◌≤◌, eqb, drop, replicate}
+use Rattle.std.specs.Prelude.{Option, Some, None, Result, Ok, Err, ◌≡◌, true, not, List, ◌++◌, ℕ, ◌*◌, ◌≤◌, eqb, drop, replicate}
 use Rattle.numbers.specs.Words.{when◌then◌else◌}
 use Rattle.numbers.specs.Numbers.{over}
 use Rattle.numbers.specs.Cells.{packed}
@@ -11,14 +11,15 @@ use Rattle.config.specs.Setup.{setup_ok}
 use Rattle.config.specs.declared.Setup.{Setup}
 use Rattle.fees.specs.Results.{outcomes}
 use Rattle.frames.specs.declared.Message.{Message}
-use Rattle.frames.specs.declared.Checked.{Checked}
-use Rattle.frames.specs.declared.Checked.TheVariants.{Passed, Refused}
+use Rattle.frames.specs.declared.Refusal.{Refusal}
+use Rattle.client_table.specs.Found.{Found, found_in, latest_of}
 use Rattle.client_table.specs.Rows.{followed}
 use Rattle.client_table.specs.declared.Latest.{Latest}
+use Rattle.client_table.specs.declared.Latest.TheVariants.{Nothing}
 use Rattle.client_table.specs.declared.Change.{Change}
 use Rattle.client_table_bytes.specs.Layout.{byte_row, encode_row, rows_of}
-use Rattle.client_table_bytes.specs.Steps.{found_in, latest_of}
-use Rattle.state.specs.Answers.{refusal}
+use Rattle.client_table_bytes.specs.declared.MarkedRow.{MarkedRow}
+use Rattle.state.specs.Answers.{refusal, code_of}
 use Rattle.state.specs.Lengths.{log_length, results_length, table_length}
 use Rattle.state.specs.declared.Returned.{Returned}
 use Rattle.state.specs.declared.Replica.{Replica}
@@ -26,19 +27,26 @@ use Rattle.book.specs.Memory.{Memory}
 use Rattle.steps.specs.Recorded.{Recorded}
 use Rattle.handlers.specs.Handlers.{message_step, idle_step}
 use Rattle.outside.specs.Sound.{sound}
-use Rattle.outside.specs.Calls.{checked_of, carried_by, told_of, change_by}
+use Rattle.outside.specs.Calls.{checked_of, carried_by, change_by}
 use Rattle.outside.specs.Creation.{Started, started_memory, create_step, recover_step}
-use Rattle.replica.specs.declared.call.Known.{Known}
 use Rattle.replica.specs.Lent.{Lent, Called, called, lengths_of}
+use Rattle.frames.specs.declared.Refusal.TheVariants.{OutOfRange}
 
--- what is known of the client whose entry a message carries, by his row among the first n
+-- what is found, among the first n rows, of the client whose entry a message carries
+unfoldable pub found_by : Option ℕ → (n : ℕ) (table : List ℕ) → Option (Found MarkedRow)
+found_by None n table = None
+found_by (Some client) n table = Some (found_in byte_row (rows_of n table) client)
+
+unfoldable pub found_for : Message → (n : ℕ) (table : List ℕ) → Option (Found MarkedRow)
+found_for m n table = found_by (carried_by m) n table
+
+-- the same as the core is told it
+unfoldable pub latest_found : Option (Found MarkedRow) → Latest
+latest_found None = Nothing
+latest_found (Some f) = latest_of byte_row f
+
 unfoldable pub latest_for : Message → (n : ℕ) (table : List ℕ) → Latest
-latest_for m n table = told_of m (latest_of (found_in (rows_of n table) (carried_by m).client))
-
-pub record KnownFor (m : Message) (n : ℕ) (table : List ℕ) (k : Known) : Type 0 where
-  pub carries : k.carries ≡ (carried_by m).carries
-  pub found : (carried_by m).carries ≡ true → k.found ≡ found_in (rows_of n table) (carried_by m).client
-  pub latest : k.latest ≡ latest_for m n table
+latest_for m n table = latest_found (found_for m n table)
 
 -- the client table brought up to a change
 unfoldable pub table_after : (n : ℕ) → Change → (table log results : List ℕ) → List ℕ
@@ -57,7 +65,7 @@ tabled a table = record { answer = a; table = table }
 -- the table follows what the core did, s being the state before it; a refused call leaves it
 unfoldable pub followed_by : Replica → Returned → (log results table : List ℕ) → Tabled
 followed_by s a log results table =
-    when not (eqb a.code 0) then tabled a table else
+    when not (eqb (code_of a) 0) then tabled a table else
     tabled a (table_after s.setup.room (change_by s a) table log results)
 
 -- what its code needs: the state and the runs that the core left are sound
@@ -78,9 +86,9 @@ following s table d =
     with_table d.memory (followed_by s d.answer d.memory.runs.log d.memory.runs.money.results table)
 
 -- a frame, by what refusals 1 to 6 say
-unfoldable pub checked_call : Checked → Replica → (frame : List ℕ) → Lent → Called
-checked_call (Refused k p) s frame x = called (refusal k s) x
-checked_call (Passed m) s frame x =
+unfoldable pub checked_call : Result Message Refusal → Replica → (frame : List ℕ) → Lent → Called
+checked_call (Err k) s frame x = called (refusal k s) x
+checked_call (Ok m) s frame x =
     following s x.table (message_step m s (latest_for m s.setup.room x.table) frame x.core)
 
 -- on_message
@@ -90,7 +98,7 @@ message_call s frame x = checked_call (checked_of s (lengths_of x) frame) s fram
 -- on_idle
 unfoldable pub idle_call : Replica → Lent → Called
 idle_call s x =
-    when not (sound s (lengths_of x)) then called (refusal 1 s) x else
+    when not (sound s (lengths_of x)) then called (refusal OutOfRange s) x else
     following s x.table (idle_step s x.core)
 
 -- after a creation the table is zeroed; a refused one leaves it
@@ -99,7 +107,7 @@ cleared u x d =
     called d.answer
     (record {
       core = started_memory x.core d;
-      table = when eqb d.answer.code 0 then over (replicate (table_length u) 0) x.table else x.table;
+      table = when eqb (code_of d.answer) 0 then over (replicate (table_length u) 0) x.table else x.table;
     })
 
 -- new

@@ -10,6 +10,7 @@ use Rattle.replica.specs.Promise.{MessagePromise, IdlePromise, CreatePromise}
 use Rattle.replica.specs.Demands.{HandedBack}
 use Rattle.model.specs.Examples.{Event, SeenCall, Example}
 use Rattle.model.specs.Examples.Event.{idle, idle_in, gets}
+use Rattle.state.specs.Answers.{code_of, messages_written, replies_written}
 
 -- what a caller hears of a call
 pub record HeardBack : Type 0 where
@@ -21,9 +22,9 @@ pub record HeardBack : Type 0 where
 unfoldable pub heard : Called → HeardBack
 heard d =
     record {
-      number = d.answer.code;
-      messages = take d.answer.messages d.lent.core.out;
-      replies = take d.answer.replies d.lent.core.reps;
+      number = code_of d.answer;
+      messages = take (messages_written d.answer) d.lent.core.out;
+      replies = take (replies_written d.answer) d.lent.core.reps;
     }
 
 -- of an example

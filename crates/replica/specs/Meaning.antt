@@ -6,7 +6,7 @@ use Rattle.entries.specs.declared.Entry.{Entry}
 use Rattle.config.specs.declared.Setup.{Setup}
 use Rattle.client_table_bytes.specs.Layout.{byte_row, rows_of}
 use Rattle.state.specs.Statuses.{no_report}
-use Rattle.state.specs.Answers.{refusal}
+use Rattle.state.specs.Answers.{refusal, code_of, messages_written, replies_written}
 use Rattle.state.specs.Lengths.{stored_place}
 use Rattle.state.specs.declared.Replica.{Replica}
 use Rattle.model.specs.State.{State, Sent, Reply, Answer, after}
@@ -63,12 +63,12 @@ pub record Kept (s : Replica) (x : Lent) (applied : List Entry) : Type 0 where
 -- a call that is done: the model's next state is what is read from what was left; its messages and replies stand over the fronts of the two areas, with
 -- their exact counts
 pub record Done (u : Setup) (x : Lent) (d : Called) (m : State) (ms : List Sent) (rs : List Reply) : Type 0 where
-  pub code : d.answer.code ≡ 0
+  pub code : code_of d.answer ≡ 0
   pub setup : d.answer.state.setup ≡ u
   pub state : meaning_of d.answer.state d.lent m.book.applied ≡ m
-  pub messages : d.answer.messages ≡ length (messages_out ms)
+  pub messages : messages_written d.answer ≡ length (messages_out ms)
   pub out : d.lent.core.out ≡ over (messages_out ms) x.core.out
-  pub replies : d.answer.replies ≡ length (replies_out rs)
+  pub replies : replies_written d.answer ≡ length (replies_out rs)
   pub reps : d.lent.core.reps ≡ over (replies_out rs) x.core.reps
 
 -- the model's answer, of a call with memory x; a refusal leaves that as it was, and hands back state s

@@ -1,79 +1,42 @@
 // on_message and on_idle: refusals 1 to 6, the client's row, the core, and the client table brought up to what the core did.
-ghost use Rattle.std.specs.Prelude.{◌≡◌, true, false, length, ◌*◌, ◌≤◌};
+ghost use Rattle.std.specs.Prelude.{◌≡◌, Ok, length, ◌*◌, ◌≤◌};
 ghost use Rattle.frames.specs.Kinds.{well_formed};
 ghost use Rattle.frames.specs.Refusals.{check_frame};
-ghost use Rattle.frames.specs.declared.Checked.TheVariants.{Passed};
-ghost use Rattle.client_table.specs.declared.Latest.TheVariants.{Nothing};
-ghost use Rattle.client_table_bytes.specs.Layout.{rows_of};
-ghost use Rattle.client_table_bytes.specs.Steps.{found_in, latest_of, AppendsFor};
+ghost use Rattle.client_table.specs.Found.{AppendsFor};
+ghost use Rattle.client_table_bytes.specs.Layout.{byte_row, rows_of};
+ghost use Rattle.state.specs.Answers.{code_of, offset_of_answer};
 ghost use Rattle.state.specs.Lengths.{table_length};
 ghost use Rattle.steps.specs.Recorded.{Gathering};
 ghost use Rattle.book.specs.Memory.{memory};
 ghost use Rattle.offsets.specs.Offsets.{Points};
 ghost use Rattle.outside.specs.Calls.{change_by};
-ghost use Rattle.replica.specs.Calls.{KnownFor, Following, tabled, followed_by, checked_call};
+ghost use Rattle.replica.specs.Calls.{found_for, latest_found, Following, tabled, followed_by, checked_call};
 ghost use Rattle.replica.specs.Lent.{called, Keeps, lent};
 ghost use Rattle.replica.specs.Promise.{MessagePromise, IdlePromise, TakingsPromise};
 
-use client_table::Latest;
-use client_table_bytes::{Found, MarkedRow};
-use frames::{Checked, Message};
+use client_table::{Found, Latest};
+use client_table_bytes::{ByteRows, MarkedRow};
+use frames::{Message, Refusal};
 use outside::Lengths;
-use outside::call::WithOffset;
-use outside::takings::Taken;
 use state::{Replica, Returned};
 
-// What is known of the client whose entry a message carries: what was found of him, and that as the core is told it.
-#[derive(Clone, Copy)]
-pub struct Known {
-    pub carries: bool,
-    pub found: Found,
-    pub latest: Latest,
-}
-
-// Of a message that carries no entry.
-fn nothing() -> Known
-    ensures { (result.carries ≡ false) × (result.latest ≡ Nothing) }
-{
-    let row = MarkedRow {
-        client: 0,
-        request: 0,
-        mark: 0,
-        total: 0,
-    };
-    Known {
-        carries: false,
-        found: Found {
-            at: 0,
-            there: false,
-            row,
-        },
-        latest: Latest::Nothing,
-    }
-}
-
-// Of a client, among the first n rows.
-fn known_of(client: u64, n: u32, table: &[u8]) -> Known
+// What is found of the client whose entry a message carries, among the first n rows.
+fn found_for(m: Message, n: u32, table: &[u8]) -> Option<Found<MarkedRow>>
     requires { 25 * n ≤ length table.now }
-    ensures { (result.carries ≡ true) × ((result.found ≡ found_in (rows_of n table.now) client) × (result.latest ≡ latest_of (found_in (rows_of n table.now) client))) }
+    ensures { result ≡ found_for m n table.now }
 {
-    let f = client_table_bytes::find(table, n as usize, client);
-    Known {
-        carries: true,
-        found: f,
-        latest: client_table_bytes::latest(f),
-    }
+    let client = outside::call::carried_by(m)?;
+    Some(client_table::find::<ByteRows>(table, n as usize, client))
 }
 
-fn known_for(m: Message, n: u32, table: &[u8]) -> Known
-    requires { 25 * n ≤ length table.now }
-    ensures { KnownFor m n table.now result }
+// The same as the core is told it.
+fn latest_found(f: Option<Found<MarkedRow>>) -> Latest
+    ensures { result ≡ latest_found f }
 {
-    let c = outside::call::carried_by(m);
-    if c.carries {
-        return known_of(c.client, n, table);
+    match f {
+        Some(found) => client_table::told::<ByteRows>(found),
+        None => Latest::Nothing,
     }
-    nothing()
 }
 
 // The table follows what the core did, `s` being the state before it; a refused call leaves it.
@@ -81,11 +44,11 @@ fn follow(s: Replica, a: Returned, log: &[u8], results: &[u8], table: &mut [u8])
     requires { Following s a (length log.now) (length results.now) (length table.old) }
     ensures { tabled result table.new ≡ followed_by s a log.now results.now table.old }
 {
-    if a.code != 0 {
+    if a.outcome.is_err() {
         return a;
     }
     let k = outside::call::change_by(s, a);
-    client_table_bytes::follow(table, s.setup.room as usize, log, results, k);
+    client_table::follow::<ByteRows>(table, s.setup.room as usize, log, results, k);
     a
 }
 
@@ -93,19 +56,19 @@ fn follow(s: Replica, a: Returned, log: &[u8], results: &[u8], table: &mut [u8])
 fn follow_found(
     s: Replica,
     a: Returned,
-    f: Found,
+    f: Found<MarkedRow>,
     log: &[u8],
     results: &[u8],
     table: &mut [u8],
 ) -> Returned
-    requires { Following s a (length log.now) (length results.now) (length table.old) × (a.code ≡ 0 → AppendsFor s.setup.room (change_by s a) f table.old log.now) }
+    requires { Following s a (length log.now) (length results.now) (length table.old) × (code_of a ≡ 0 → AppendsFor byte_row (change_by s a) f (rows_of s.setup.room table.old) log.now) }
     ensures { tabled result table.new ≡ followed_by s a log.now results.now table.old }
 {
-    if a.code != 0 {
+    if a.outcome.is_err() {
         return a;
     }
     let k = outside::call::change_by(s, a);
-    client_table_bytes::follow_found(table, s.setup.room as usize, f, log, results, k);
+    client_table::follow_found::<ByteRows>(table, s.setup.room as usize, f, log, results, k);
     a
 }
 
@@ -123,18 +86,18 @@ fn take(
     out: &mut [u8],
     reps: &mut [u8],
 ) -> Returned
-    requires { Gathering s (memory log.old results.old totals.old acks.old stored.old out.old reps.old) × ((check_frame s.setup frame.now ≡ Passed m) × (length table.old ≡ table_length s.setup)) }
-    ensures { called result (lent log.new results.new totals.new acks.new stored.new table.new out.new reps.new) ≡ checked_call (Passed m) s frame.now (lent log.old results.old totals.old acks.old stored.old table.old out.old reps.old) }
+    requires { Gathering s (memory log.old results.old totals.old acks.old stored.old out.old reps.old) × ((check_frame s.setup frame.now ≡ Ok m) × (length table.old ≡ table_length s.setup)) }
+    ensures { called result (lent log.new results.new totals.new acks.new stored.new table.new out.new reps.new) ≡ checked_call (Ok m) s frame.now (lent log.old results.old totals.old acks.old stored.old table.old out.old reps.old) }
 {
-    let k = known_for(m, s.setup.room, table);
-    let latest = k.latest;
+    let found = found_for(m, s.setup.room, table);
+    let latest = latest_found(found);
     let a = handlers::message::on_message(
         s, m, latest, frame, log, results, totals, acks, stored, out, reps,
     );
-    if k.carries {
-        return follow_found(s, a, k.found, log, results, table);
+    match found {
+        Some(f) => follow_found(s, a, f, log, results, table),
+        None => follow(s, a, log, results, table),
     }
-    follow(s, a, log, results, table)
 }
 
 // on_message: any bytes, in any state, with any memory.
@@ -149,10 +112,10 @@ pub fn on_message(
     table: &mut [u8],
     out: &mut [u8],
     reps: &mut [u8],
-) -> WithOffset
-    ensures { Keeps (MessagePromise s frame.now) result.returned
+) -> Returned
+    ensures { Keeps (MessagePromise s frame.now) result
         (lent log.old results.old totals.old acks.old stored.old table.old out.old reps.old)
-        (lent log.new results.new totals.new acks.new stored.new table.new out.new reps.new) × Points well_formed frame.now result.returned.code result.offset }
+        (lent log.new results.new totals.new acks.new stored.new table.new out.new reps.new) × Points well_formed frame.now (code_of result) (offset_of_answer result) }
 {
     let l = Lengths {
         log: log.len(),
@@ -163,16 +126,10 @@ pub fn on_message(
         table: table.len(),
     };
     match outside::call::checked(s, l, frame) {
-        Checked::Refused { number, offset } => WithOffset {
-            returned: state::refused(number, s),
-            offset,
-        },
-        Checked::Passed { message } => WithOffset {
-            returned: take(
-                s, message, frame, log, results, totals, acks, stored, table, out, reps,
-            ),
-            offset: 0,
-        },
+        Err(refusal) => state::refused(refusal, s),
+        Ok(message) => take(
+            s, message, frame, log, results, totals, acks, stored, table, out, reps,
+        ),
     }
 }
 
@@ -199,14 +156,14 @@ pub fn on_idle(
         table: table.len(),
     };
     if !outside::sound::is_sound(s, l) {
-        return state::refused(1, s);
+        return state::refused(Refusal::OutOfRange, s);
     }
     let a = handlers::idle::on_idle(s, log, results, totals, acks, stored, out, reps);
     follow(s, a, log, results, table)
 }
 
 // takings: the sum over all members that the state keeps, in any state.
-pub fn takings(s: Replica) -> Taken
+pub fn takings(s: Replica) -> Result<u64, Refusal>
     ensures { TakingsPromise s result }
 {
     outside::takings::takings(s)

@@ -29,7 +29,7 @@ pub fn create(
         table: table.len(),
     };
     let a = outside::create::create(u, l, totals, acks);
-    if a.code != 0 {
+    if a.outcome.is_err() {
         return a;
     }
     numbers::fill(table, 25 * (u.room as usize), 0);
@@ -60,7 +60,7 @@ pub fn recover(
         table: table.len(),
     };
     let a = outside::create::recover(u, v, nonce, l, totals, acks, out);
-    if a.code != 0 {
+    if a.outcome.is_err() {
         return a;
     }
     numbers::fill(table, 25 * (u.room as usize), 0);

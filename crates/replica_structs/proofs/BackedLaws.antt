@@ -18,6 +18,7 @@ use Rattle.replica_structs.specs.Demands.{RowsHandedBack, RowsLink, RowsChain}
 use Rattle.replica_structs.specs.Backed.{rows_call_by, rows_calls_in}
 use Rattle.replica_structs.proofs.CarryLaws.{create-carried, recover-carried}
 use Rattle.replica_structs.proofs.DemandLaws.{handed, handed-rows, linked, chained}
+use Rattle.state.specs.Answers.{code_of}
 
 pub rows-own-out : (s : Replica) (x : LentRows) (applied : List Entry) → KeptRows s x applied → OwnOut s
 rows-own-out s x applied k = own_out s (in_bytes x) applied k.kept
@@ -37,7 +38,7 @@ carried u s x k f s' z e c l =
     subst (λ (ds : List Call). WroteBacked u ds s' (in_bytes z) (rows_call_by s' z e l) (called_bytes e)) r.is v
 
 pub rows-backed : (u : Setup) (x : LentRows) (d : CalledRows) (y : LentRows) (s : Replica) (z : LentRows) (e : CalledRows) → CreateRowsPromise u x d
-    → d.answer.code ≡ 0 → RowsHandedBack d.lent y → (c : RowsChain s z d.answer.state y) (l : RowsLink s z e)
+    → code_of d.answer ≡ 0 → RowsHandedBack d.lent y → (c : RowsChain s z d.answer.state y) (l : RowsLink s z e)
     → WroteBacked u (rows_calls_in s z d.answer.state y c) s (in_bytes z) (rows_call_by s z e l) (called_bytes e)
 rows-backed u x d y s z e p k h =
     let w = create-carried u x d p in
@@ -45,7 +46,7 @@ rows-backed u x d y s z e p k h =
     (λ s' z' e'. backed u (in_bytes x) (called_bytes d) (in_bytes y) s' (in_bytes z') (called_bytes e') w.0 k (handed d.lent y h)) s z e
 
 pub rows-backed-recovered : (u : Setup) (v : View) (nonce : ℕ) (x : LentRows) (d : CalledRows) (y : LentRows) (s : Replica) (z : LentRows) (e : CalledRows)
-    → RecoverRowsPromise u v nonce x d → d.answer.code ≡ 0 → RowsHandedBack d.lent y → (c : RowsChain s z d.answer.state y) (l : RowsLink s z e)
+    → RecoverRowsPromise u v nonce x d → code_of d.answer ≡ 0 → RowsHandedBack d.lent y → (c : RowsChain s z d.answer.state y) (l : RowsLink s z e)
     → WroteBacked u (rows_calls_in s z d.answer.state y c) s (in_bytes z) (rows_call_by s z e l) (called_bytes e)
 rows-backed-recovered u v nonce x d y s z e p k h =
     let w = recover-carried u x d v nonce p in

@@ -20,18 +20,19 @@ use Rattle.entries.specs.Entries.{EntryFits}
 use Rattle.entries.specs.declared.Entry.{Entry}
 use Rattle.fees.specs.Results.{ResultFits}
 use Rattle.fees.specs.declared.Outcome.{Outcome}
+use Rattle.client_table.specs.Found.{found_in, latest_of}
 use Rattle.client_table.specs.Rows.{spot_of, is_there, followed}
 use Rattle.client_table.specs.Shape.{row_at}
 use Rattle.client_table.specs.Latest.{kept_of}
 use Rattle.client_table.specs.declared.Change.{Change}
+use Rattle.client_table.proofs.FindLaws.{latest-found}
 use Rattle.client_table.proofs.LatestLaws.{latest-same}
 use Rattle.client_table.proofs.AlikeLaws.{Alike, Both, Coded, spot-row, there-alike, followed-alike}
 use Rattle.client_table_bytes.specs.Layout.{byte_row, row_of, encode_row, rows_of, no_row}
-use Rattle.client_table_bytes.specs.Steps.{RowFits, latest_of, found_in}
+use Rattle.client_table_bytes.specs.Steps.{RowFits}
 use Rattle.client_table_bytes.specs.declared.MarkedRow as T
 use Rattle.client_table_bytes.proofs.LayoutLaws.{row-codec, left-cleared}
 use Rattle.client_table_structs.specs.Shape.{unused_row, struct_row, is_used, reply_in, latest_among}
-use Rattle.client_table_structs.specs.Shape as S
 use Rattle.client_table_structs.specs.declared.Row.{Row}
 use Rattle.client_table_structs.specs.declared.KeptReply.{KeptReply}
 use Rattle.client_table_structs.specs.declared.KeptReply.TheVariants.{Unused, Waiting, Kept}
@@ -118,17 +119,19 @@ module _ (k : Change) (xs : List Row) (ok : RowsOk xs) (log : List Entry) (os : 
 
 -- ---- what is told of a client
 
-pub told-alike : (xs : List Row) → RowsOk xs → (c : ℕ) → latest_among xs c ≡ latest_of (found_in (map byte_of xs) c)
-unfolding S.found_among found_in is_there byte_of
+pub told-alike : (xs : List Row) → RowsOk xs → (c : ℕ) → latest_among xs c ≡ latest_of byte_row (found_in byte_row (map byte_of xs) c)
+unfolding is_there byte_of
 told-alike xs ok c =
     let b = all_both xs ok in
     let x : Row = row_at struct_row xs (spot_of struct_row xs c) in
     let i = spot-row struct_row byte_row Is struct-alike xs (map byte_of xs) b c c refl in
-    latest-same _ _ _ _ _ _ (there-alike struct_row byte_row Is struct-alike xs (map byte_of xs) b c c refl)
+    latest-found struct_row xs c
+    ∙ latest-same _ _ _ _ _ _ (there-alike struct_row byte_row Is struct-alike xs (map byte_of xs) b c c refl)
     (λ t. (
       ap (λ (z : T.MarkedRow). z.request) i.1,
       kept_same x.reply (and_left _ _ t) ∙ ap (λ (z : T.MarkedRow). kept_of z.mark z.total) i.1,
     ))
+    ∙ sym (latest-found byte_row (map byte_of xs) c)
 
 -- ---- rows in bytes
 

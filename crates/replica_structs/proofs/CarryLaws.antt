@@ -13,6 +13,7 @@ use Rattle.replica.specs.Promise.{MessagePromise, IdlePromise, CreatePromise, Re
 use Rattle.replica.proofs.PromiseLaws.{message-promised, idle-promised, create-promised, recover-promised}
 use Rattle.replica_structs.specs.Calls.{LentRows, CalledRows}
 use Rattle.replica_structs.specs.Promise.{in_bytes, called_bytes, KeptRows, MessageRowsPromise, IdleRowsPromise, CreateRowsPromise, RecoverRowsPromise}
+use Rattle.state.specs.Answers.{code_of}
 
 module _ (s : Replica) (x : LentRows) (d : CalledRows) (applied : List Entry) (o : Owned (in_bytes x)) (k : KeptRows s x applied) where
   pub message-carried : (frame : List ℕ) → Bytes frame → MessageRowsPromise s frame x d
@@ -31,13 +32,13 @@ module _ (s : Replica) (x : LentRows) (d : CalledRows) (applied : List Entry) (o
 
 module _ (u : Setup) (x : LentRows) (d : CalledRows) where
   pub create-carried : CreateRowsPromise u x d
-      → CreatePromise u (in_bytes x) (called_bytes d) × (d.answer.code ≡ 0 → KeptRows d.answer.state d.lent [])
+      → CreatePromise u (in_bytes x) (called_bytes d) × (code_of d.answer ≡ 0 → KeptRows d.answer.state d.lent [])
   create-carried p =
       let w = create-promised u (in_bytes x) (called_bytes d) p.same in
       (w, λ e. record { rows = p.keeps e; kept = w.keeps e })
 
   pub recover-carried : (v : View) (nonce : ℕ) → RecoverRowsPromise u v nonce x d
-      → RecoverPromise u v nonce (in_bytes x) (called_bytes d) × (d.answer.code ≡ 0 → KeptRows d.answer.state d.lent [])
+      → RecoverPromise u v nonce (in_bytes x) (called_bytes d) × (code_of d.answer ≡ 0 → KeptRows d.answer.state d.lent [])
   recover-carried v nonce p =
       let w = recover-promised u v nonce (in_bytes x) (called_bytes d) p.same in
       (w, λ e. record { rows = p.keeps e; kept = w.keeps e })

@@ -6,6 +6,7 @@
 --     malformed, taken                                     a frame
 --     idle-unsound, idle-done                              a tick
 -- Assumes nothing.
+use Rattle.std.specs.Prelude.{Result, Ok, Err}
 use Rattle.std.specs.Prelude.{◌≡◌, ℕ, ◌*◌, ◌<◌, ◌≤◌, Bool, true, false, not, eqb, List, length}
 use mathlib.Core.Path.{refl, sym, ap, ◌∙◌, subst}
 use native.Mathlib.Omega.{arith}
@@ -18,8 +19,7 @@ use Rattle.config.specs.declared.Setup.{Setup}
 use Rattle.config.proofs.SetupLaws.{sized}
 use Rattle.frames.specs.Refusals.{check_frame}
 use Rattle.frames.specs.declared.Message.{Message}
-use Rattle.frames.specs.declared.Checked.{Checked}
-use Rattle.frames.specs.declared.Checked.TheVariants.{Passed, Refused}
+use Rattle.frames.specs.declared.Refusal.{Refusal}
 use Rattle.client_table.specs.declared.Latest.{Latest}
 use Rattle.client_table.specs.declared.Change.{Change}
 use Rattle.state.specs.Answers.{refusal}
@@ -37,6 +37,7 @@ use Rattle.outside.specs.declared.Lengths.{Lengths}
 use Rattle.outside.proofs.SoundLaws.{sound-is}
 use Rattle.outside.proofs.CallLaws.{passed_is}
 use Rattle.replica_structs.specs.Core.{lengths_by, lengths_in, Passes, checked_core, idle_core, started_in, create_core, recover_core, no_change, change_after, row_bytes}
+use Rattle.frames.specs.declared.Refusal.TheVariants.{OutOfRange}
 
 -- ---- refusal 1
 
@@ -73,7 +74,7 @@ module _ (log results totals acks stored table : ℕ) {t : ℕ} (p : t ≡ row_b
       → checked_of s (record { log = log; results = results; totals = totals; acks = acks; stored = stored; table = t }) frame
       ≡ checked_of s (lengths_by log results totals acks stored table) frame
   unfolding checked_of
-  checked-by s frame = ap (λ (b : Bool). when not b then Refused 1 0 else check_frame s.setup frame) (sound-by s)
+  checked-by s frame = ap (λ (b : Bool). when not b then Err OutOfRange else check_frame s.setup frame) (sound-by s)
 
 module _ (m : Memory) (table : ℕ) {t : ℕ} (p : t ≡ row_bytes table) where
   pub sound-counted : (s : Replica) → sound s (lengths_with m t) ≡ sound s (lengths_in m table)
@@ -107,7 +108,7 @@ module _ (m : Memory) (table : ℕ) {t : ℕ} (p : t ≡ row_bytes table) where
 pub gathered : (s : Replica) (m : Memory) (table : ℕ) → sound s (lengths_in m table) ≡ true → Gathering s m
 gathered s m table e = (sound-is s m (25 * table) e).gathering
 
-pub passes : (c : Checked) (s : Replica) (table : ℕ) (frame : List ℕ) (m : Memory) → c ≡ checked_of s (lengths_in m table) frame
+pub passes : (c : Result Message Refusal) (s : Replica) (table : ℕ) (frame : List ℕ) (m : Memory) → c ≡ checked_of s (lengths_in m table) frame
     → Passes c s frame m
 passes c s table frame m e y p =
     let k = passed_is s (lengths_in m table) frame y (sym e ∙ p) in
@@ -129,7 +130,7 @@ module _ (s : Replica) where
   abbrev pub ReadyBy : Recorded → Type 0
   ReadyBy d = Ready (length d.memory.runs.log) (length d.memory.runs.money.results) (change_after s d.answer)
 
-  refused-ready : (m : Memory) → ReadyBy (recorded (refusal 1 s) m)
+  refused-ready : (m : Memory) → ReadyBy (recorded (refusal OutOfRange s) m)
   unfolding change_after when◌then◌else◌
   refused-ready m = nothing-ready (length m.runs.log) (length m.runs.money.results)
 
@@ -138,25 +139,25 @@ module _ (s : Replica) where
   stays-ready d g =
       let z = g.sound in
       split (Ready (length d.memory.runs.log) (length d.memory.runs.money.results)) _ _ _
+      (λ _. nothing-ready (length d.memory.runs.log) (length d.memory.runs.money.results))
       (λ _.
       record {
         log-long = omega (arith, z.op_le, z.log-long);
         results-long = omega (arith, z.op_le, z.commit-le, z.results-long);
         done-le = z.commit-le;
       })
-      (λ _. nothing-ready (length d.memory.runs.log) (length d.memory.runs.money.results))
 
   module _ (l : Latest) (frame : List ℕ) (m : Memory) where
-    checked-ready : (c : Checked) → check_frame s.setup frame ≡ c → Gathering s m → ReadyBy (checked_core c s l frame m)
+    checked-ready : (c : Result Message Refusal) → check_frame s.setup frame ≡ c → Gathering s m → ReadyBy (checked_core c s l frame m)
     unfolding checked_core
-    checked-ready (Refused k p) e g = stays-ready (recorded (refusal k s) m) g
-    checked-ready (Passed y) e g = stays-ready _ (message-stays y s (told_of y l) frame m g e).gathering
+    checked-ready (Err k) e g = stays-ready (recorded (refusal k s) m) g
+    checked-ready (Ok y) e g = stays-ready _ (message-stays y s (told_of y l) frame m g e).gathering
 
-    pub message-ready : (table : ℕ) (c : Checked) → c ≡ checked_of s (lengths_in m table) frame → ReadyBy (checked_core c s l frame m)
+    pub message-ready : (table : ℕ) (c : Result Message Refusal) → c ≡ checked_of s (lengths_in m table) frame → ReadyBy (checked_core c s l frame m)
     unfolding checked_of checked_core
     message-ready table c e =
-        subst (λ (j : Checked). ReadyBy (checked_core j s l frame m)) (sym e)
-        (split (λ (j : Checked). ReadyBy (checked_core j s l frame m)) _ _ _ (λ _. refused-ready m)
+        subst (λ (j : Result Message Refusal). ReadyBy (checked_core j s l frame m)) (sym e)
+        (split (λ (j : Result Message Refusal). ReadyBy (checked_core j s l frame m)) _ _ _ (λ _. refused-ready m)
         (λ f. checked-ready (check_frame s.setup frame) refl (gathered s m table (not-false _ f))))
 
   pub idle-ready : (table : ℕ) (m : Memory) → ReadyBy (idle_core s table m)
@@ -167,12 +168,12 @@ module _ (s : Replica) where
 
 -- ---- a frame
 
-module _ (c : Checked) (s : Replica) (l : Latest) (frame : List ℕ) (m : Memory) where
-  pub malformed : (k q : ℕ) → c ≡ Refused k q → {a : Returned} → a ≡ refusal k s → recorded a m ≡ checked_core c s l frame m
+module _ (c : Result Message Refusal) (s : Replica) (l : Latest) (frame : List ℕ) (m : Memory) where
+  pub malformed : (k : Refusal) → c ≡ Err k → {a : Returned} → a ≡ refusal k s → recorded a m ≡ checked_core c s l frame m
   unfolding checked_core
-  malformed k q r p = rw (r, p)
+  malformed k r p = rw (r, p)
 
-  pub taken : (y : Message) → c ≡ Passed y → (t : Latest) → t ≡ told_of y l → {d : Recorded} → d ≡ message_step y s t frame m
+  pub taken : (y : Message) → c ≡ Ok y → (t : Latest) → t ≡ told_of y l → {d : Recorded} → d ≡ message_step y s t frame m
       → d ≡ checked_core c s l frame m
   unfolding checked_core
   taken y r t n p = rw (r, ← n) p
@@ -180,7 +181,7 @@ module _ (c : Checked) (s : Replica) (l : Latest) (frame : List ℕ) (m : Memory
 -- ---- a tick
 
 module _ (s : Replica) (table : ℕ) (m : Memory) (b : Bool) (e : b ≡ sound s (lengths_in m table)) where
-  pub idle-unsound : b ≡ false → {a : Returned} → a ≡ refusal 1 s → recorded a m ≡ idle_core s table m
+  pub idle-unsound : b ≡ false → {a : Returned} → a ≡ refusal OutOfRange s → recorded a m ≡ idle_core s table m
   unfolding idle_core when◌then◌else◌
   idle-unsound h p = rw (← e, h, p)
 

@@ -3,7 +3,7 @@
 --     linked, chained    a call, and a chain of them, are calls over the byte table
 --     rows-chain-goes, rows-demand-3, rows-demand-3-recovered    demand 3, from any state that calls produced, and from a creation
 -- Assumes nothing.
-use Rattle.std.specs.Prelude.{◌≡◌, ℕ, List, [], ◌∷◌, length}
+use Rattle.std.specs.Prelude.{Result, Ok, Err, ◌≡◌, ℕ, List, [], ◌∷◌, length, replicate, nat_eq}
 use mathlib.Core.Path.{refl, sym, ap, ◌∙◌, subst}
 use native.Mathlib.Omega.{arith}
 use borrow.Author.Tests.{ne_eqb}
@@ -11,12 +11,10 @@ use Rattle.numbers.specs.declared.View.{View}
 use Rattle.numbers.proofs.WordLaws.{split, if-false}
 use Rattle.entries.specs.declared.Entry.{Entry}
 use Rattle.config.specs.declared.Setup.{Setup}
-use Rattle.frames.specs.declared.Checked.{Checked}
-use Rattle.frames.specs.declared.Checked.TheVariants.{Passed, Refused}
+use Rattle.frames.specs.declared.Refusal.{Refusal}
 use Rattle.client_table.specs.declared.Latest.{Latest}
-use Rattle.client_table_structs.specs.Shape.{latest_among}
 use Rattle.client_table_structs.specs.declared.Row.{Row}
-use Rattle.state.specs.Answers.{refusal}
+use Rattle.state.specs.Answers.{refusal, outcome_code, code_of}
 use Rattle.state.specs.declared.Replica.{Replica}
 use Rattle.steps.specs.Recorded.{Recorded}
 use Rattle.steps.proofs.RefusedSteps as S
@@ -31,7 +29,7 @@ use Rattle.replica.specs.Demands.Chain.{none, more}
 use Rattle.replica.specs.Backed.{call_by, calls_in}
 use Rattle.replica.proofs.DemandLaws.{handed-kept, chain-goes}
 use Rattle.replica_structs.specs.Core.{lengths_in, client_in, checked_core, idle_core, started_in, create_core, recover_core}
-use Rattle.replica_structs.specs.Calls.{LentRows, CalledRows, called_rows, following_rows, checked_rows, message_rows, idle_rows, cleared_rows, create_rows, recover_rows}
+use Rattle.replica_structs.specs.Calls.{LentRows, CalledRows, called_rows, latest_in, following_rows, checked_rows, message_rows, idle_rows, cleared_rows, create_rows, recover_rows}
 use Rattle.replica_structs.specs.Promise.{table_bytes, in_bytes, called_bytes, RowsOk, KeptRows, MessageRowsPromise, IdleRowsPromise, CreateRowsPromise, RecoverRowsPromise}
 use Rattle.replica_structs.specs.Demands.{UntouchedRows, RowsHandedBack, RowsLink, RowsChain, RowsGoOn}
 use Rattle.replica_structs.specs.Demands.RowsLink.{message as sent, tick as idled}
@@ -39,6 +37,12 @@ use Rattle.replica_structs.specs.Demands.RowsChain.{none as no_rows, more as mor
 use Rattle.replica_structs.specs.Backed.{rows_call_by, rows_calls_in}
 use Rattle.replica_structs.proofs.StepLaws.{refused-rows}
 use Rattle.replica_structs.proofs.CarryLaws.{message-carried, idle-carried, create-carried, recover-carried}
+use Rattle.frames.specs.declared.Refusal.TheVariants.{OutOfRange, NoRoomForMessages}
+use Rattle.frames.proofs.RefusalLaws.{number-some}
+use Rattle.frames.specs.Refusals.{number_of}
+use Rattle.numbers.specs.Words.{when◌then◌else◌}
+use Rattle.client_table_structs.specs.Shape.{unused_row}
+use Rattle.frames.specs.declared.Message.{Message}
 
 -- ---- demand 1: a frame, and a tick
 
@@ -46,25 +50,25 @@ module _ (s : Replica) (x : LentRows) where
   -- the rows follow what the core did: where it left all as it was, they stay
   follows : (d : Recorded) → S.Untouched s x.core d → UntouchedRows s x (following_rows s x.table d)
   unfolding following_rows
-  follows d h n =
-      ap (following_rows s x.table) (h n) ∙ refused-rows s x.table d.answer.code x.core
+  follows d h k e =
+      ap (following_rows s x.table) (h k e) ∙ refused-rows s x.table k x.core
 
-  checks : (c : Checked) (l : Latest) (frame : List ℕ) → S.Untouched s x.core (checked_core c s l frame x.core)
+  checks : (c : Result Message Refusal) (l : Latest) (frame : List ℕ) → S.Untouched s x.core (checked_core c s l frame x.core)
   unfolding checked_core
-  checks (Refused k p) l frame = S.refused s x.core k
-  checks (Passed m) l frame = R.message-untouched m s (told_of m l) frame x.core
+  checks (Err k) l frame = S.refused s x.core k
+  checks (Ok m) l frame = R.message-untouched m s (told_of m l) frame x.core
 
   pub message-rows-untouched : (frame : List ℕ) (d : CalledRows) → MessageRowsPromise s frame x d → UntouchedRows s x d
   unfolding message_rows checked_rows
   message-rows-untouched frame d p =
       let c = checked_of s (lengths_in x.core (length x.table)) frame in
-      subst (UntouchedRows s x) (sym p.exact) (follows _ (checks c (latest_among x.table (client_in c)) frame))
+      subst (UntouchedRows s x) (sym p.exact) (follows _ (checks c (latest_in x.table (client_in c)) frame))
 
   pub tick-rows-untouched : (d : CalledRows) → IdleRowsPromise s x d → UntouchedRows s x d
   unfolding idle_rows idle_core
   tick-rows-untouched d p =
       subst (UntouchedRows s x) (sym p.exact)
-      (follows _ (split (S.Untouched s x.core) _ _ _ (λ _. S.refused s x.core 1) (λ _. R.idle-untouched s x.core)))
+      (follows _ (split (S.Untouched s x.core) _ _ _ (λ _. S.refused s x.core OutOfRange) (λ _. R.idle-untouched s x.core)))
 
 -- ---- demand 1: creation
 
@@ -73,28 +77,32 @@ module _ (x : LentRows) where
   abbrev UntouchedBy : Started → Type 0
   UntouchedBy d = UntouchedRows no_replica x (cleared_rows x.table (started_in x.core d))
 
-  refuses : (k : ℕ) → (k ≡ 0 → ⊥) → UntouchedBy (started (refusal k no_replica) x.core.runs.money.totals x.core.acks x.core.out)
+  refuses : (k : Refusal) → UntouchedBy (started (refusal k no_replica) x.core.runs.money.totals x.core.acks x.core.out)
   unfolding cleared_rows
-  refuses k n _ =
-      ap (λ (l : List Row). called_rows (refusal k no_replica) (record { core = x.core; table = l })) (if-false _ _ _ (ne_eqb k 0 n))
+  refuses k j h =
+      let same : k ≡ j = cc h in
+      let left : called_rows (refusal k no_replica) (record { core = x.core; table = when nat_eq (number_of k) 0 then replicate (length x.table) unused_row else x.table })
+      ≡ called_rows (refusal k no_replica) x =
+      ap (λ (l : List Row). called_rows (refusal k no_replica) (record { core = x.core; table = l })) (if-false _ _ _ (ne_eqb (number_of k) 0 (number-some k))) in
+      left ∙ ap (λ (i : Refusal). called_rows (refusal i no_replica) x) same
 
-  done : (d : Started) → d.answer.code ≡ 0 → UntouchedBy d
+  done : (d : Started) → code_of d.answer ≡ 0 → UntouchedBy d
   unfolding cleared_rows
-  done d e n = absurd (n e)
+  done d e k h = absurd (number-some k (sym (ap outcome_code h) ∙ e))
 
   module _ (u : Setup) where
     pub create-rows-untouched : (d : CalledRows) → CreateRowsPromise u x d → UntouchedRows no_replica x d
     unfolding create_rows create_core create_step
     create-rows-untouched d p =
         subst (UntouchedRows no_replica x) (sym p.exact)
-        (split UntouchedBy _ _ _ (λ _. refuses 1 (λ e. omega (arith, e))) (λ _. done _ refl))
+        (split UntouchedBy _ _ _ (λ _. refuses OutOfRange) (λ _. done _ refl))
 
     pub recover-rows-untouched : (v : View) (nonce : ℕ) (d : CalledRows) → RecoverRowsPromise u v nonce x d → UntouchedRows no_replica x d
     unfolding recover_rows recover_core recover_step
     recover-rows-untouched v nonce d p =
         subst (UntouchedRows no_replica x) (sym p.exact)
-        (split UntouchedBy _ _ _ (λ _. refuses 1 (λ e. omega (arith, e))) λ _.
-        split UntouchedBy _ _ _ (λ _. refuses 9 (λ e. omega (arith, e))) (λ _. done _ refl))
+        (split UntouchedBy _ _ _ (λ _. refuses OutOfRange) λ _.
+        split UntouchedBy _ _ _ (λ _. refuses NoRoomForMessages) (λ _. done _ refl))
 
 -- ---- demand 3
 
@@ -150,11 +158,11 @@ rows-chain-goes s x applied s' x' k c =
 
 -- from a creation, or a recovery, that wasn't refused
 pub rows-demand-3 : (u : Setup) (x : LentRows) (d : CalledRows) (y : LentRows) (s : Replica) (z : LentRows) → CreateRowsPromise u x d
-    → d.answer.code ≡ 0 → RowsHandedBack d.lent y → RowsChain s z d.answer.state y → RowsGoOn d.answer.state y [] s z
+    → code_of d.answer ≡ 0 → RowsHandedBack d.lent y → RowsChain s z d.answer.state y → RowsGoOn d.answer.state y [] s z
 rows-demand-3 u x d y s z p e h c = rows-chain-goes _ _ _ _ _ (handed-rows _ _ _ _ h ((create-carried u x d p).1 e)) c
 
 pub rows-demand-3-recovered : (u : Setup) (v : View) (nonce : ℕ) (x : LentRows) (d : CalledRows) (y : LentRows) (s : Replica) (z : LentRows)
-    → RecoverRowsPromise u v nonce x d → d.answer.code ≡ 0 → RowsHandedBack d.lent y → RowsChain s z d.answer.state y
+    → RecoverRowsPromise u v nonce x d → code_of d.answer ≡ 0 → RowsHandedBack d.lent y → RowsChain s z d.answer.state y
     → RowsGoOn d.answer.state y [] s z
 rows-demand-3-recovered u v nonce x d y s z p e h c =
     rows-chain-goes _ _ _ _ _ (handed-rows _ _ _ _ h ((recover-carried u x d v nonce p).1 e)) c

@@ -3,7 +3,7 @@
 --     message-rows, idle-rows                               a frame, and a tick
 --     create-refused, create-rows, recover-refused, recover-rows    creation, where the core refused it and where it did it
 -- Assumes nothing.
-use Rattle.std.specs.Prelude.{◌≡◌, ℕ, ◌*◌, ◌≤◌, List, length, replicate}
+use Rattle.std.specs.Prelude.{Option, Result, ◌≡◌, ℕ, ◌*◌, ◌≤◌, List, length, replicate}
 use mathlib.Core.Path.{refl, sym, ap, ◌∙◌, subst}
 use borrow.Author.Tests.{eq-eqb, ne_eqb}
 use Rattle.numbers.specs.declared.View.{View}
@@ -11,11 +11,11 @@ use Rattle.numbers.proofs.WordLaws.{if-true, if-false}
 use Rattle.entries.specs.Entries.{entries}
 use Rattle.config.specs.declared.Setup.{Setup}
 use Rattle.fees.specs.Results.{outcomes}
-use Rattle.frames.specs.declared.Checked.{Checked}
+use Rattle.frames.specs.declared.Refusal.{Refusal}
 use Rattle.client_table.specs.Rows.{followed}
 use Rattle.client_table.specs.declared.Latest.{Latest}
 use Rattle.client_table.specs.declared.Change.{Change}
-use Rattle.client_table_structs.specs.Shape.{unused_row, struct_row, latest_among}
+use Rattle.client_table_structs.specs.Shape.{unused_row, struct_row}
 use Rattle.client_table_structs.specs.declared.Row.{Row}
 use Rattle.state.specs.declared.Returned.{Returned}
 use Rattle.state.specs.declared.Replica.{Replica}
@@ -23,10 +23,12 @@ use Rattle.book.specs.Memory.{Memory}
 use Rattle.steps.specs.Recorded.{Recorded, recorded}
 use Rattle.outside.specs.Calls.{checked_of}
 use Rattle.replica_structs.specs.Core.{lengths_in, client_in, checked_core, idle_core, create_core, recover_core, change_after}
-use Rattle.replica_structs.specs.Calls.{LentRows, CalledRows, called_rows, rows_after, following_rows, checked_rows, message_rows, idle_rows, cleared_rows, create_rows, recover_rows}
+use Rattle.replica_structs.specs.Calls.{LentRows, CalledRows, called_rows, latest_in, rows_after, following_rows, checked_rows, message_rows, idle_rows, cleared_rows, create_rows, recover_rows}
 use Rattle.replica_structs.specs.Promise.{MessageRowsPromise, IdleRowsPromise, CreateRowsPromise, RecoverRowsPromise}
 use Rattle.replica_structs.proofs.CoreLaws.{ReadyBy}
 use Rattle.replica_structs.proofs.SameLaws.{message-same, idle-same, create-same, create-ok, recover-same, recover-ok}
+use Rattle.state.specs.Answers.{code_of}
+use Rattle.frames.specs.declared.Message.{Message}
 
 -- ---- from `exact` to the rest
 
@@ -78,8 +80,8 @@ module _ (s : Replica) (x : LentRows) (a : Returned) (m : Memory) (d : Recorded)
         rw (t, p) (ap (λ (z : Recorded). following_rows s x.table z) core)
 
     -- c, l: what `checked` and the table's `latest` gave
-    pub message-rows : (frame : List ℕ) (c : Checked) → c ≡ checked_of s (lengths_in x.core (length x.table)) frame
-        → (client : ℕ) → client ≡ client_in c → (l : Latest) → l ≡ latest_among x.table client → d ≡ checked_core c s l frame x.core
+    pub message-rows : (frame : List ℕ) (c : Result Message Refusal) → c ≡ checked_of s (lengths_in x.core (length x.table)) frame
+        → (client : Option ℕ) → client ≡ client_in c → (l : Latest) → l ≡ latest_in x.table client → d ≡ checked_core c s l frame x.core
         → MessageRowsPromise s frame x (called_rows a (record { core = m; table = table }))
     unfolding message_rows checked_rows
     message-rows frame c e client g l h q =
@@ -94,33 +96,33 @@ module _ (s : Replica) (x : LentRows) (a : Returned) (m : Memory) (d : Recorded)
 -- ---- creation: a and m are what the core left
 
 module _ (x : LentRows) (a : Returned) (m : Memory) where
-  uncleared : (a.code ≡ 0 → ⊥) → called_rows a (record { core = m; table = x.table }) ≡ cleared_rows x.table (recorded a m)
+  uncleared : (code_of a ≡ 0 → ⊥) → called_rows a (record { core = m; table = x.table }) ≡ cleared_rows x.table (recorded a m)
   unfolding cleared_rows
   uncleared n =
-      ap (λ (l : List Row). called_rows a (record { core = m; table = l })) (sym (if-false _ _ _ (ne_eqb a.code 0 n)))
+      ap (λ (l : List Row). called_rows a (record { core = m; table = l })) (sym (if-false _ _ _ (ne_eqb (code_of a) 0 n)))
 
-  cleared : a.code ≡ 0 → {table : List Row} → table ≡ replicate (length x.table) unused_row
+  cleared : code_of a ≡ 0 → {table : List Row} → table ≡ replicate (length x.table) unused_row
       → called_rows a (record { core = m; table = table }) ≡ cleared_rows x.table (recorded a m)
   unfolding cleared_rows
   cleared e t =
-      ap (λ (l : List Row). called_rows a (record { core = m; table = l })) (t ∙ sym (if-true _ _ _ (eq-eqb a.code 0 e)))
+      ap (λ (l : List Row). called_rows a (record { core = m; table = l })) (t ∙ sym (if-true _ _ _ (eq-eqb (code_of a) 0 e)))
 
   module _ (u : Setup) (q : recorded a m ≡ create_core u (length x.table) x.core) where
-    pub create-refused : (a.code ≡ 0 → ⊥) → CreateRowsPromise u x (called_rows a (record { core = m; table = x.table }))
+    pub create-refused : (code_of a ≡ 0 → ⊥) → CreateRowsPromise u x (called_rows a (record { core = m; table = x.table }))
     unfolding create_rows
     create-refused n = create-promised u x _ (uncleared n ∙ ap (λ (d : Recorded). cleared_rows x.table d) q)
 
-    pub create-rows : a.code ≡ 0 → {table : List Row} → table ≡ replicate (length x.table) unused_row
+    pub create-rows : code_of a ≡ 0 → {table : List Row} → table ≡ replicate (length x.table) unused_row
         → CreateRowsPromise u x (called_rows a (record { core = m; table = table }))
     unfolding create_rows
     create-rows e t = create-promised u x _ (cleared e t ∙ ap (λ (d : Recorded). cleared_rows x.table d) q)
 
   module _ (u : Setup) (v : View) (nonce : ℕ) (q : recorded a m ≡ recover_core u v nonce (length x.table) x.core) where
-    pub recover-refused : (a.code ≡ 0 → ⊥) → RecoverRowsPromise u v nonce x (called_rows a (record { core = m; table = x.table }))
+    pub recover-refused : (code_of a ≡ 0 → ⊥) → RecoverRowsPromise u v nonce x (called_rows a (record { core = m; table = x.table }))
     unfolding recover_rows
     recover-refused n = recover-promised u v nonce x _ (uncleared n ∙ ap (λ (d : Recorded). cleared_rows x.table d) q)
 
-    pub recover-rows : a.code ≡ 0 → {table : List Row} → table ≡ replicate (length x.table) unused_row
+    pub recover-rows : code_of a ≡ 0 → {table : List Row} → table ≡ replicate (length x.table) unused_row
         → RecoverRowsPromise u v nonce x (called_rows a (record { core = m; table = table }))
     unfolding recover_rows
     recover-rows e t = recover-promised u v nonce x _ (cleared e t ∙ ap (λ (d : Recorded). cleared_rows x.table d) q)

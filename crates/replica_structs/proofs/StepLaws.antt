@@ -4,7 +4,7 @@
 --     table-read                  the rows, read from their bytes
 --     refused-keeps, step_same    a refusal; a step that shows the model's answer, with the rows that follow it
 -- Assumes nothing.
-use Rattle.std.specs.Prelude.{◌≡◌, ℕ, ◌*◌, false, eqb, List, [], ◌++◌, map, length, drop}
+use Rattle.std.specs.Prelude.{Result, Ok, Err, is_err, ◌≡◌, ℕ, ◌*◌, false, eqb, List, [], ◌++◌, map, length, drop}
 use mathlib.Core.Path.{refl, sym, ap, ◌∙◌, subst}
 use mathlib.Core.List.{append-nil}
 use native.Mathlib.Omega.{arith}
@@ -12,7 +12,7 @@ use lib.ListN.{drop_of_length-le}
 use borrow.Author.Tests.{eq-eqb}
 use Rattle.numbers.specs.Words.{when◌then◌else◌}
 use Rattle.numbers.specs.Cells.{packed}
-use Rattle.numbers.proofs.WordLaws.{split, if-true}
+use Rattle.numbers.proofs.WordLaws.{split, if-true, if-false}
 use Rattle.numbers.proofs.CellLaws.{cells-length}
 use Rattle.entries.specs.Entries.{entry_of, entries}
 use Rattle.entries.specs.declared.Entry.{Entry}
@@ -26,7 +26,7 @@ use Rattle.client_table_bytes.specs.Layout.{byte_row, encode_row, rows_of}
 use Rattle.client_table_bytes.specs.declared.MarkedRow as B
 use Rattle.client_table_structs.specs.Shape.{struct_row}
 use Rattle.client_table_structs.specs.declared.Row.{Row}
-use Rattle.state.specs.Answers.{refusal}
+use Rattle.state.specs.Answers.{refusal, installed_of}
 use Rattle.state.specs.declared.Replica.{Replica}
 use Rattle.book.specs.Memory.{Memory}
 use Rattle.steps.specs.Recorded.{Recorded, recorded}
@@ -50,6 +50,10 @@ use Rattle.replica_structs.specs.Calls.{LentRows, CalledRows, called_rows, rows_
 use Rattle.replica_structs.specs.Promise.{byte_of, table_bytes, in_bytes, called_bytes, RowsOk, KeptRows}
 use Rattle.replica_structs.proofs.CodedLaws.{grew-coded}
 use Rattle.replica_structs.proofs.ByteLaws.{followed_same, followed-ok, bytes-long, rows-read}
+use Rattle.frames.specs.declared.Refusal.{Refusal}
+use Rattle.frames.proofs.RefusalLaws.{number-some}
+use Rattle.state.specs.Answers.{outcome_code}
+use Rattle.state.specs.declared.Output.{Output}
 
 -- ---- nothing changed
 
@@ -64,14 +68,15 @@ still k xs m i t d =
     drop_of_length-le os {i = k.commit.0} (omega (arith, cells-length 9 result_of k.done.0 m.runs.money.results, d)) in
     sym (follow-appended struct_row k xs log os i xs (sym (append-none struct_row xs (drop k.op.0 log) p)) q)
 
-pub refused-rows : (s : Replica) (table : List Row) (i : ℕ) (m : Memory)
+pub refused-rows : (s : Replica) (table : List Row) (i : Refusal) (m : Memory)
     → following_rows s table (recorded (refusal i s) m) ≡ called_rows (refusal i s) (record { core = m; table = table })
 unfolding following_rows change_after when◌then◌else◌
-refused-rows s table i m =
-    split
-    (λ (k : Change). called_rows (refusal i s) (record { core = m; table = rows_after k table m })
-    ≡ called_rows (refusal i s) (record { core = m; table = table })) (eqb i 0) (change_by s (refusal i s)) no_change
-    (λ _. rw (still (change_by s (refusal i s)) table m refl refl refl)) (λ _. rw (still no_change table m refl refl refl))
+refused-rows s table i m = rw (still no_change table m refl refl refl)
+
+-- a call whose number is 0 isn't refused
+not-err : (o : Result Output Refusal) → outcome_code o ≡ 0 → is_err o ≡ false
+not-err (Ok d) h = refl
+not-err (Err k) h = absurd (number-some k h)
 
 -- ---- a step
 
@@ -94,7 +99,7 @@ module _ (s : Replica) (x : LentRows) (applied : List Entry) (o : Owned (in_byte
   pub table-read : rows_of s.setup.room (table_bytes x.table) ≡ map byte_of x.table
   table-read = ap (λ (n : ℕ). rows_of n (table_bytes x.table)) (sym room-is) ∙ rows-read x.table kept.rows
 
-  pub refused-keeps : (i : ℕ)
+  pub refused-keeps : (i : Refusal)
       → Keeps (following_rows s x.table (recorded (refusal i s) x.core)) (called (refusal i s) (in_bytes x))
   refused-keeps i =
       subst (λ (d : CalledRows). Keeps d (called (refusal i s) y)) (sym (refused-rows s x.table i x.core))
@@ -116,7 +121,7 @@ module _ (s : Replica) (x : LentRows) (applied : List Entry) (o : Owned (in_byte
     unfolding model_of book_of
     coded =
         subst Coded (sym (ap (λ (m : State). m.book.results) did.state))
-        (grew-coded (meaning_of s y applied).book m'.book d.answer.installed
+        (grew-coded (meaning_of s y applied).book m'.book (installed_of d.answer)
         (reached-settled s.setup (meaning_of s y applied) kept.kept.reached).coded did.grew)
 
     table_same : table_after s.setup.room k (table_bytes x.table) d.memory.runs.log d.memory.runs.money.results
@@ -132,7 +137,7 @@ module _ (s : Replica) (x : LentRows) (applied : List Entry) (o : Owned (in_byte
 
     change-is : change_after s d.answer ≡ change_by s d.answer
     unfolding change_after
-    change-is = if-true _ _ _ (eq-eqb _ _ did.code)
+    change-is = if-false _ _ _ (not-err _ did.code)
 
     rows_are : following_rows s x.table d
         ≡ called_rows d.answer

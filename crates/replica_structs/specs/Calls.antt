@@ -1,11 +1,11 @@
 -- The outside calls with the client table as a slice of row structs. Assumes nothing.
-use Rattle.std.specs.Prelude.{ℕ, List, length, replicate, ◌==◌}
+use Rattle.std.specs.Prelude.{ℕ, List, length, replicate, ◌==◌, Option, Some, None, Result}
 use Rattle.numbers.specs.Words.{when◌then◌else◌}
 use Rattle.numbers.specs.declared.View.{View}
 use Rattle.entries.specs.Entries.{entries}
 use Rattle.config.specs.declared.Setup.{Setup}
 use Rattle.fees.specs.Results.{outcomes}
-use Rattle.frames.specs.declared.Checked.{Checked}
+use Rattle.frames.specs.declared.Refusal.{Refusal}
 use Rattle.client_table.specs.Rows.{followed}
 use Rattle.client_table.specs.declared.Change.{Change}
 use Rattle.client_table_structs.specs.Shape.{unused_row, struct_row, latest_among}
@@ -16,6 +16,10 @@ use Rattle.book.specs.Memory.{Memory, memory}
 use Rattle.steps.specs.Recorded.{Recorded}
 use Rattle.outside.specs.Calls.{checked_of}
 use Rattle.replica_structs.specs.Core.{lengths_in, client_in, checked_core, idle_core, create_core, recover_core, change_after}
+use Rattle.state.specs.Answers.{code_of}
+use Rattle.client_table.specs.declared.Latest.{Latest}
+use Rattle.client_table.specs.declared.Latest.TheVariants.{Nothing}
+use Rattle.frames.specs.declared.Message.{Message}
 
 -- everything that a call is lent
 pub record LentRows : Type 0 where
@@ -48,10 +52,15 @@ unfoldable pub following_rows : Replica → (table : List Row) → Recorded → 
 following_rows s table d =
     called_rows d.answer (record { core = d.memory; table = rows_after (change_after s d.answer) table d.memory })
 
+-- what the table has of the client that is asked for
+unfoldable pub latest_in : List Row → Option ℕ → Latest
+latest_in rows None = Nothing
+latest_in rows (Some client) = latest_among rows client
+
 -- a frame, by what refusals 1 to 6 say
-unfoldable pub checked_rows : Checked → Replica → (frame : List ℕ) → LentRows → CalledRows
+unfoldable pub checked_rows : Result Message Refusal → Replica → (frame : List ℕ) → LentRows → CalledRows
 checked_rows c s frame x =
-    following_rows s x.table (checked_core c s (latest_among x.table (client_in c)) frame x.core)
+    following_rows s x.table (checked_core c s (latest_in x.table (client_in c)) frame x.core)
 
 -- on_message
 unfoldable pub message_rows : Replica → (frame : List ℕ) → LentRows → CalledRows
@@ -65,7 +74,7 @@ idle_rows s x = following_rows s x.table (idle_core s (length x.table) x.core)
 unfoldable pub cleared_rows : (table : List Row) → Recorded → CalledRows
 cleared_rows table d =
     called_rows d.answer
-    (record { core = d.memory; table = when d.answer.code == 0 then replicate (length table) unused_row else table })
+    (record { core = d.memory; table = when (code_of d.answer) == 0 then replicate (length table) unused_row else table })
 
 -- new, recover
 unfoldable pub create_rows : Setup → LentRows → CalledRows

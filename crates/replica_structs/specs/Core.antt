@@ -1,13 +1,12 @@
 -- The outside calls but for the client table, of which they are told its length and a client's latest request: so the table may have any form. In refusal 1 a
 -- row counts as its 25 bytes. Assumes nothing.
-use Rattle.std.specs.Prelude.{◌≡◌, ℕ, ◌*◌, false, not, List, ◌==◌, nat_lt}
+use Rattle.std.specs.Prelude.{Option, None, Result, Ok, Err, is_err, ◌≡◌, ℕ, ◌*◌, false, not, List, nat_lt}
 use Rattle.numbers.specs.Words.{when◌then◌else◌}
 use Rattle.numbers.specs.declared.View.{View}
 use Rattle.config.specs.declared.Setup.{Setup}
 use Rattle.frames.specs.Refusals.{check_frame}
 use Rattle.frames.specs.declared.Message.{Message}
-use Rattle.frames.specs.declared.Checked.{Checked}
-use Rattle.frames.specs.declared.Checked.TheVariants.{Passed, Refused}
+use Rattle.frames.specs.declared.Refusal.{Refusal}
 use Rattle.client_table.specs.declared.Latest.{Latest}
 use Rattle.client_table.specs.declared.Change.{Change}
 use Rattle.state.specs.Answers.{refusal}
@@ -20,6 +19,7 @@ use Rattle.outside.specs.Sound.{lengths_with, sound}
 use Rattle.outside.specs.Calls.{carried_by, told_of, change_by}
 use Rattle.outside.specs.Creation.{Started, started_memory, create_step, recover_step}
 use Rattle.outside.specs.declared.Lengths.{Lengths}
+use Rattle.frames.specs.declared.Refusal.TheVariants.{OutOfRange}
 
 -- the lengths of the lent state buffers, with so many rows in the table
 abbrev pub lengths_by : (log results totals acks stored table : ℕ) → Lengths
@@ -30,23 +30,23 @@ abbrev pub lengths_in : Memory → (table : ℕ) → Lengths
 lengths_in m table = lengths_with m (25 * table)
 
 -- the client whose row a frame asks for
-unfoldable pub client_in : Checked → ℕ
-client_in (Refused k p) = 0
-client_in (Passed m) = (carried_by m).client
+unfoldable pub client_in : Result Message Refusal → Option ℕ
+client_in (Err k) = None
+client_in (Ok m) = carried_by m
 
 -- on_message, by what refusals 1 to 6 say
-unfoldable pub checked_core : Checked → Replica → Latest → (frame : List ℕ) → Memory → Recorded
-checked_core (Refused k p) s l frame m = recorded (refusal k s) m
-checked_core (Passed y) s l frame m = message_step y s (told_of y l) frame m
+unfoldable pub checked_core : Result Message Refusal → Replica → Latest → (frame : List ℕ) → Memory → Recorded
+checked_core (Err k) s l frame m = recorded (refusal k s) m
+checked_core (Ok y) s l frame m = message_step y s (told_of y l) frame m
 
 -- what its code needs: of a frame that passed, that it passed refusals 2 to 6 and that state and runs are sound
-abbrev pub Passes : Checked → Replica → (frame : List ℕ) → Memory → Type 0
-Passes c s frame m = (y : Message) → c ≡ Passed y → Gathering s m × (check_frame s.setup frame ≡ Passed y)
+abbrev pub Passes : Result Message Refusal → Replica → (frame : List ℕ) → Memory → Type 0
+Passes c s frame m = (y : Message) → c ≡ Ok y → Gathering s m × (check_frame s.setup frame ≡ Ok y)
 
 -- on_idle
 unfoldable pub idle_core : Replica → (table : ℕ) → Memory → Recorded
 idle_core s table m =
-    when not (sound s (lengths_in m table)) then recorded (refusal 1 s) m else
+    when not (sound s (lengths_in m table)) then recorded (refusal OutOfRange s) m else
     idle_step s m
 
 -- new, recover
@@ -66,7 +66,7 @@ no_change =
     record { installed = false; op = record { 0 = 0 }; commit = record { 0 = 0 }; to = record { 0 = 0 }; done = record { 0 = 0 } }
 
 unfoldable pub change_after : Replica → Returned → Change
-change_after s a = when a.code == 0 then change_by s a else no_change
+change_after s a = when is_err a.outcome then no_change else change_by s a
 
 -- the bytes of so many rows, as the code counts them: of more rows than any table has, none
 unfoldable pub row_bytes : ℕ → ℕ

@@ -1,7 +1,8 @@
 -- Demands 1 and 3 of the outside calls over row structs, over any chain of them that are linked by their promises alone. Assumes nothing.
-use Rattle.std.specs.Prelude.{◌≡◌, ℕ, List, ◌≢◌}
+use Rattle.std.specs.Prelude.{◌≡◌, ℕ, List, Err}
 use Rattle.numbers.specs.Numbers.{Bytes}
 use Rattle.entries.specs.declared.Entry.{Entry}
+use Rattle.frames.specs.declared.Refusal.{Refusal}
 use Rattle.state.specs.Answers.{refusal}
 use Rattle.state.specs.declared.Replica.{Replica}
 use Rattle.replica.specs.Meaning.{Owned}
@@ -9,9 +10,9 @@ use Rattle.replica.specs.Demands.{GoesOn}
 use Rattle.replica_structs.specs.Calls.{LentRows, CalledRows, called_rows}
 use Rattle.replica_structs.specs.Promise.{in_bytes, RowsOk, MessageRowsPromise, IdleRowsPromise}
 
--- Demand 1: a call that is refused leaves the state, every lent byte and every row as they were, with counts of 0: any rows, not only those that calls produced.
+-- Demand 1: a call that is refused leaves the state, every lent byte and every row as they were, and wrote nothing: any rows, not only those that calls produced.
 abbrev pub UntouchedRows : Replica → LentRows → CalledRows → Type 0
-UntouchedRows s x d = (d.answer.code ≢ 0) → d ≡ called_rows (refusal d.answer.code s) x
+UntouchedRows s x d = (k : Refusal) → d.answer.outcome ≡ Err k → d ≡ called_rows (refusal k s) x
 
 -- memory handed back as it was left; the two areas may be others
 pub record RowsHandedBack (x y : LentRows) : Type 0 where

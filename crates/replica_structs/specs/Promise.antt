@@ -18,6 +18,7 @@ use Rattle.replica.specs.Lent.{Lent, Called}
 use Rattle.replica.specs.Calls.{message_call, idle_call, create_call, recover_call}
 use Rattle.replica.specs.Meaning as Meaning
 use Rattle.replica_structs.specs.Calls.{LentRows, CalledRows, message_rows, idle_rows, create_rows, recover_rows}
+use Rattle.state.specs.Answers.{code_of}
 
 -- a row's mark and total in bytes
 unfoldable pub mark_of : KeptReply → ℕ
@@ -79,9 +80,9 @@ pub record IdleRowsPromise (s : Replica) (x : LentRows) (d : CalledRows) : Type 
 pub record CreateRowsPromise (u : Setup) (x : LentRows) (d : CalledRows) : Type 0 where
   pub exact : d ≡ create_rows u x
   pub same : called_bytes d ≡ create_call u (in_bytes x)
-  pub keeps : d.answer.code ≡ 0 → RowsOk d.lent.table
+  pub keeps : code_of d.answer ≡ 0 → RowsOk d.lent.table
 
 pub record RecoverRowsPromise (u : Setup) (v : View) (nonce : ℕ) (x : LentRows) (d : CalledRows) : Type 0 where
   pub exact : d ≡ recover_rows u v nonce x
   pub same : called_bytes d ≡ recover_call u v nonce (in_bytes x)
-  pub keeps : d.answer.code ≡ 0 → RowsOk d.lent.table
+  pub keeps : code_of d.answer ≡ 0 → RowsOk d.lent.table

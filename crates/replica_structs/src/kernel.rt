@@ -1,17 +1,17 @@
 // The outside calls but for the client table, of which they are told its length and a client's latest request.
 ghost use Rattle.std.specs.Prelude.{◌≡◌, []};
 ghost use Rattle.book.specs.Memory.{memory};
-ghost use Rattle.steps.specs.Recorded.{Does};
 ghost use Rattle.frames.specs.Numbered.{checked_offset};
+ghost use Rattle.state.specs.Answers.{offset_of_answer};
+ghost use Rattle.steps.specs.Recorded.{Does};
 ghost use Rattle.outside.specs.Calls.{checked_of};
 ghost use Rattle.replica_structs.specs.Core.{lengths_by, client_in, Passes, checked_core, idle_core, create_core, recover_core, change_after, row_bytes};
 
 use client_table::{Change, Latest};
 use config::Setup;
-use frames::Checked;
+use frames::{Message, Refusal};
 use numbers::{Op, View};
 use outside::Lengths;
-use outside::call::WithOffset;
 use state::{Replica, Returned};
 
 // How many bytes so many rows would have; of more than any table has, none.
@@ -34,7 +34,7 @@ pub fn checked(
     stored: usize,
     rows: usize,
     frame: &[u8],
-) -> Checked
+) -> Result<Message, Refusal>
     ensures { result ≡ checked_of s (lengths_by log results totals acks stored rows) frame.now }
 {
     let l = Lengths {
@@ -49,19 +49,19 @@ pub fn checked(
 }
 
 // The client whose row is asked for.
-pub fn client_in(c: Checked) -> u64
+pub fn client_in(c: Result<Message, Refusal>) -> Option<u64>
     ensures { result ≡ client_in c }
 {
     match c {
-        Checked::Refused { .. } => 0,
-        Checked::Passed { message } => outside::call::carried_by(message).client,
+        Ok(message) => outside::call::carried_by(message),
+        Err(_) => None,
     }
 }
 
 // on_message: what refusals 1 to 6 say; the handler.
 pub fn on_message(
     s: Replica,
-    c: Checked,
+    c: Result<Message, Refusal>,
     latest: Latest,
     frame: &[u8],
     log: &mut [u8],
@@ -71,33 +71,27 @@ pub fn on_message(
     stored: &mut [u8],
     out: &mut [u8],
     reps: &mut [u8],
-) -> WithOffset
+) -> Returned
     requires { Passes c s frame.now (memory log.old results.old totals.old acks.old stored.old out.old reps.old) }
-    ensures { Does (checked_core c s latest frame.now) result.returned
+    ensures { Does (checked_core c s latest frame.now) result
         (memory log.old results.old totals.old acks.old stored.old out.old reps.old)
-        (memory log.new results.new totals.new acks.new stored.new out.new reps.new) × (result.offset ≡ checked_offset c) }
+        (memory log.new results.new totals.new acks.new stored.new out.new reps.new) × (offset_of_answer result ≡ checked_offset c) }
 {
     match c {
-        Checked::Refused { number, offset } => WithOffset {
-            returned: state::refused(number, s),
-            offset,
-        },
-        Checked::Passed { message } => WithOffset {
-            returned: handlers::message::on_message(
-                s,
-                message,
-                outside::call::told(message, latest),
-                frame,
-                log,
-                results,
-                totals,
-                acks,
-                stored,
-                out,
-                reps,
-            ),
-            offset: 0,
-        },
+        Err(refusal) => state::refused(refusal, s),
+        Ok(message) => handlers::message::on_message(
+            s,
+            message,
+            outside::call::told(message, latest),
+            frame,
+            log,
+            results,
+            totals,
+            acks,
+            stored,
+            out,
+            reps,
+        ),
     }
 }
 
@@ -124,7 +118,7 @@ pub fn on_idle(
         table: in_bytes(rows),
     };
     if !outside::sound::is_sound(s, l) {
-        return state::refused(1, s);
+        return state::refused(Refusal::OutOfRange, s);
     }
     handlers::idle::on_idle(s, log, results, totals, acks, stored, out, reps)
 }
@@ -182,7 +176,7 @@ pub fn recover(
 pub fn change_after(s: Replica, a: Returned) -> Change
     ensures { result ≡ change_after s a }
 {
-    if a.code != 0 {
+    if a.outcome.is_err() {
         return Change {
             installed: false,
             op: Op(0),
@@ -192,11 +186,4 @@ pub fn change_after(s: Replica, a: Returned) -> Change
         };
     }
     outside::call::change_by(s, a)
-}
-
-// The same of the answer to a frame.
-pub fn change_answered(s: Replica, a: WithOffset) -> Change
-    ensures { result ≡ change_after s a.returned }
-{
-    change_after(s, a.returned)
 }

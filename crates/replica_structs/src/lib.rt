@@ -5,15 +5,16 @@
 ghost use Rattle.std.specs.Prelude.{◌≡◌, []};
 ghost use Rattle.offsets.specs.Offsets.{Points};
 ghost use Rattle.frames.specs.Kinds.{well_formed};
-ghost use Rattle.replica_structs.specs.Calls.{KeepsRows, lent_rows};
+ghost use Rattle.state.specs.Answers.{code_of, offset_of_answer};
+ghost use Rattle.replica_structs.specs.Calls.{KeepsRows, latest_in, lent_rows};
 ghost use Rattle.replica.specs.Promise.{TakingsPromise};
 ghost use Rattle.replica_structs.specs.Promise.{MessageRowsPromise, IdleRowsPromise, CreateRowsPromise, RecoverRowsPromise};
 
-use client_table_structs::Row;
+use client_table::{Form, Latest};
+use client_table_structs::{Row, StructRows};
 use config::Setup;
+use frames::Refusal;
 use numbers::View;
-use outside::call::WithOffset;
-use outside::takings::Taken;
 use state::{Replica, Returned};
 
 pub mod kernel; // the calls but for the table
@@ -30,11 +31,12 @@ pub fn create(
 ) -> Returned
     ensures { KeepsRows (CreateRowsPromise u) result (lent_rows log.now results.now totals.old acks.old stored.now table.old [] []) (lent_rows log.now results.now totals.new acks.new stored.now table.new [] []) }
 {
-    let a = kernel::create(u, table.len(), log, results, totals, acks, stored);
-    if a.code != 0 {
+    let n = table.len();
+    let a = kernel::create(u, n, log, results, totals, acks, stored);
+    if a.outcome.is_err() {
         return a;
     }
-    client_table_structs::clear(table);
+    StructRows::clear(table, n);
     a
 }
 
@@ -53,23 +55,27 @@ pub fn recover(
 ) -> Returned
     ensures { KeepsRows (RecoverRowsPromise u v nonce) result (lent_rows log.now results.now totals.old acks.old stored.now table.old out.old []) (lent_rows log.now results.now totals.new acks.new stored.now table.new out.new []) }
 {
-    let a = kernel::recover(
-        u,
-        v,
-        nonce,
-        table.len(),
-        log,
-        results,
-        totals,
-        acks,
-        stored,
-        out,
-    );
-    if a.code != 0 {
+    let n = table.len();
+    let a = kernel::recover(u, v, nonce, n, log, results, totals, acks, stored, out);
+    if a.outcome.is_err() {
         return a;
     }
-    client_table_structs::clear(table);
+    StructRows::clear(table, n);
     a
+}
+
+// What the table has of the client that is asked for.
+fn latest_in(table: &[Row], client: Option<u64>) -> Latest
+    ensures { result ≡ latest_in table.now client }
+{
+    match client {
+        Some(id) => client_table::told::<StructRows>(client_table::find::<StructRows>(
+            table,
+            table.len(),
+            id,
+        )),
+        None => Latest::Nothing,
+    }
 }
 
 // on_message
@@ -84,11 +90,12 @@ pub fn on_message(
     table: &mut [Row],
     out: &mut [u8],
     reps: &mut [u8],
-) -> WithOffset
-    ensures { KeepsRows (MessageRowsPromise s frame.now) result.returned
+) -> Returned
+    ensures { KeepsRows (MessageRowsPromise s frame.now) result
         (lent_rows log.old results.old totals.old acks.old stored.old table.old out.old reps.old)
-        (lent_rows log.new results.new totals.new acks.new stored.new table.new out.new reps.new) × Points well_formed frame.now result.returned.code result.offset }
+        (lent_rows log.new results.new totals.new acks.new stored.new table.new out.new reps.new) × Points well_formed frame.now (code_of result) (offset_of_answer result) }
 {
+    let n = table.len();
     let c = kernel::checked(
         s,
         log.len(),
@@ -96,14 +103,14 @@ pub fn on_message(
         totals.len(),
         acks.len(),
         stored.len(),
-        table.len(),
+        n,
         frame,
     );
-    let latest = client_table_structs::latest(table, kernel::client_in(c));
+    let latest = latest_in(table, kernel::client_in(c));
     let a = kernel::on_message(
         s, c, latest, frame, log, results, totals, acks, stored, out, reps,
     );
-    client_table_structs::follow(table, log, results, kernel::change_answered(s, a));
+    client_table::follow::<StructRows>(table, n, log, results, kernel::change_after(s, a));
     a
 }
 
@@ -121,23 +128,14 @@ pub fn on_idle(
 ) -> Returned
     ensures { KeepsRows (IdleRowsPromise s) result (lent_rows log.old results.old totals.old acks.old stored.old table.old out.old reps.old) (lent_rows log.new results.new totals.new acks.new stored.new table.new out.new reps.new) }
 {
-    let a = kernel::on_idle(
-        s,
-        table.len(),
-        log,
-        results,
-        totals,
-        acks,
-        stored,
-        out,
-        reps,
-    );
-    client_table_structs::follow(table, log, results, kernel::change_after(s, a));
+    let n = table.len();
+    let a = kernel::on_idle(s, n, log, results, totals, acks, stored, out, reps);
+    client_table::follow::<StructRows>(table, n, log, results, kernel::change_after(s, a));
     a
 }
 
 // takings: of the state alone, so that the table's form plays no part.
-pub fn takings(s: Replica) -> Taken
+pub fn takings(s: Replica) -> Result<u64, Refusal>
     ensures { TakingsPromise s result }
 {
     outside::takings::takings(s)

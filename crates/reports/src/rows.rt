@@ -14,8 +14,7 @@ pub fn report_at(t: Reports, i: u8) -> Report
     requires { i < 7 }
     ensures { (result ≡ get_or t.rows i no_report) × (length t.rows ≡ 7) }
 {
-    let k = i as usize;
-    t.rows[k]
+    t.rows[i as usize]
 }
 
 // The reports with that of replica i.
@@ -24,8 +23,7 @@ pub fn with_report(t: Reports, i: u8, d: Report) -> Reports
     ensures { (result ≡ with_report t i d) × (length t.rows ≡ 7) }
 {
     let mut u = t;
-    let k = i as usize;
-    u.rows[k] = d;
+    u.rows[i as usize] = d;
     u
 }
 
@@ -87,10 +85,8 @@ pub fn filled(t: Reports, n: u8) -> u8
     requires { n ≤ 7 }
     ensures { result ≡ filled_in (take n t.rows) }
 {
-    let mut i = n;
     let mut k = 0;
-    while 0 < i {
-        i -= 1;
+    for i in (0..n).rev() {
         k = count_one(report_at(t, i), k);
     }
     k
@@ -101,10 +97,8 @@ pub fn greatest_commit(t: Reports, n: u8) -> Op
     requires { n ≤ 7 }
     ensures { result.0 ≡ greatest_in (take n t.rows) }
 {
-    let mut i = n;
     let mut g = Op(0);
-    while 0 < i {
-        i -= 1;
+    for i in (0..n).rev() {
         g = greater_commit(report_at(t, i), g);
     }
     g
@@ -115,10 +109,8 @@ pub fn latest_view(t: Reports, n: u8) -> View
     requires { n ≤ 7 }
     ensures { result.0 ≡ latest_view_in (take n t.rows) }
 {
-    let mut i = n;
     let mut v = View(0);
-    while 0 < i {
-        i -= 1;
+    for i in (0..n).rev() {
         v = later_view(report_at(t, i), v);
     }
     v
@@ -129,7 +121,6 @@ pub fn choose(t: Reports, n: u8) -> Best
     requires { n ≤ 7 }
     ensures { result ≡ chosen_from 0 (take n t.rows) }
 {
-    let mut i = n;
     let none = Report {
         there: false,
         full: false,
@@ -141,8 +132,7 @@ pub fn choose(t: Reports, n: u8) -> Best
         id: 0,
         report: none,
     };
-    while 0 < i {
-        i -= 1;
+    for i in (0..n).rev() {
         b = better(report_at(t, i), i, b);
     }
     b

@@ -4,6 +4,7 @@
 --     safe-answers     a safe state answers so
 --     answers-again    and so does every state that calls lead to
 -- Assumes nothing.
+use Rattle.std.specs.Prelude.{Result, Ok, Err}
 use Prim.Native.Nat.{ℕ, zero, suc, ◌≤◌, ◌<◌}
 use native.Mathlib.Omega.{arith}
 use mathlib.Core.Path.{◌≡◌, refl, sym, ap, ◌∙◌}
@@ -26,8 +27,7 @@ use Rattle.frames.specs.Looks.{looks_at}
 use Rattle.frames.specs.declared.Status.{Status}
 use Rattle.frames.specs.declared.Status.TheVariants.{Normal, StateTransfer, ViewChange, Recovering}
 use Rattle.frames.specs.declared.Message.TheVariants.{Request}
-use Rattle.frames.specs.declared.Checked.{Checked}
-use Rattle.frames.specs.declared.Checked.TheVariants.{Passed}
+use Rattle.frames.specs.declared.Refusal.{Refusal}
 use Rattle.writers.specs.Writers.{header, reply}
 use Rattle.state.specs.Statuses.{is_normal}
 use Rattle.model.specs.State.{State, Reply}
@@ -41,6 +41,7 @@ use Rattle.safety.specs.Remembered.{gave_at}
 use Rattle.safety.specs.Demand.{Call, answer, run, Created, zeros, Safe}
 use Rattle.safety.specs.Again.{AskedAgain, reply_again, AnswersAgain}
 use Rattle.safety.proofs.Runs.{demand3}
+use Rattle.frames.specs.declared.Message.{Message}
 
 -- ---- what an entry gave
 
@@ -90,12 +91,12 @@ module _ (u : Setup) (m : State) (e : Entry) (o : Outcome) (p : is_primary u m �
       ∙ if-true _ _ _ (and-true _ _ there (eq-eqb e.request _ (sym number)))
       ∙ ap (λ (x : Seen). resend m e x.kept) f
 
-  frame-again : (s : List ℕ) (a b : ℕ) → numbers_ok u m ≡ true → check_frame u s ≡ Passed (Request e) → 36 ≤ b
+  frame-again : (s : List ℕ) (a b : ℕ) → numbers_ok u m ≡ true → check_frame u s ≡ Ok (Request e) → 36 ≤ b
       → on_frame u m s a b ≡ done m [] (again ∷ [])
   unfolding on_frame on_checked on_message
   frame-again s a b k c h =
       if-false _ _ _ (ap not k)
-      ∙ ap (λ (x : Checked). fitted a b (on_checked u m s x)) c
+      ∙ ap (λ (x : Result Message Refusal). fitted a b (on_checked u m s x)) c
       ∙ ap (fitted a b) (if-false _ _ _ (ap not (looks m.place.status e n)) ∙ asks-again)
       ∙ reply-fits m again a b h
 

@@ -31,6 +31,8 @@ use Rattle.model.specs.Recovery.{noted, no_responses, forgotten, on_recovery, re
 use Rattle.model.specs.Steps.{primary_tick, next_view, follow_tick, change_tick, on_idle}
 use Rattle.safety.specs.Demand.{At, Every, StoredSound, SoundReport, SoundResponse}
 use Rattle.safety.proofs.Books.{BookInv, Grown, Ok, same_ok, append-ok, commit-ok, agreed-ok, gap-ok, join-ok, then_ok}
+use Rattle.frames.specs.declared.Refusal.TheVariants.{PastRoom, PastLog, NotRising, Uncommits, LastView}
+use Rattle.frames.specs.declared.Refusal.{Refusal}
 
 -- places, each that is filled
 module _ {A : Type 0} (P : A → Type 0) where
@@ -78,7 +80,7 @@ pub record Next (u : Setup) (m m' : State) : Type 0 where
 
 -- what a call answers
 pub data Good (u : Setup) (m : State) : Answer → Type 0 where
-  refusal : (k : ℕ) → Good u m (refused k)
+  refusal : (k : Refusal) → Good u m (refused k)
   moved : {m' : State} (out : List Sent) (rs : List Reply) → Next u m m' → Good u m (done m' out rs)
 
 module _ (u : Setup) where
@@ -152,8 +154,8 @@ module _ (u : Setup) where
       cases _ _ _ (λ _. ignored-good) λ _.
       cases _ _ _ (λ _. ignored-good) λ _.
       cases _ _ _ (λ _. resend-good m e _) λ _.
-      cases _ _ _ (λ _. refusal 4) λ room.
-      cases _ _ _ (λ _. refusal 6) λ rises.
+      cases _ _ _ (λ _. refusal PastRoom) λ room.
+      cases _ _ _ (λ _. refusal NotRising) λ rises.
       moved _ _ (next-next (book-next m _ (append-ok u m.book e (leb-false _ _ room) (not-false _ rises))) (acks-next _ _))
 
   -- Prepare and Commit
@@ -189,8 +191,8 @@ module _ (u : Setup) where
   take-prepare m o c e =
       cases _ _ _ (λ _. since (heard-next m) (transfer-good _)) λ _.
       cases _ _ _ (λ _. since (heard-next m) (prepared-good _ c)) λ _.
-      cases _ _ _ (λ _. refusal 4) λ room.
-      cases _ _ _ (λ _. refusal 6) λ rises.
+      cases _ _ _ (λ _. refusal PastRoom) λ room.
+      cases _ _ _ (λ _. refusal NotRising) λ rises.
       since (next-next (heard-next m) (book-next _ _ (append-ok u m.book e (leb-false _ _ room) (not-false _ rises))))
       (prepared-good _ c)
 
@@ -216,7 +218,7 @@ module _ (u : Setup) where
       cases _ _ _ (λ _. ignored-good) λ _.
       cases _ _ _ (λ _. ignored-good) λ _.
       cases _ _ _ (λ _. moved _ _ (acks-next m _)) λ _.
-      cases _ _ _ (λ _. refusal 5) λ h.
+      cases _ _ _ (λ _. refusal PastLog) λ h.
       moved _ _ (next-next (committed-next m o (ltb-false _ _ h)) (acks-next _ _))
 
   -- GetState and NewState
@@ -244,7 +246,7 @@ module _ (u : Setup) where
     unfolding fill_gap
     gap-good =
         cases _ _ _ (λ _. heard-good) λ fit.
-        cases _ _ _ (λ _. refusal 6) λ rises.
+        cases _ _ _ (λ _. refusal NotRising) λ rises.
         moved _ _ (gap-next fit rises)
 
     join-next : not (eqb a m.book.commit) ≡ false → not (rising (committed_then m es)) ≡ false → Next u m (caught_up u m c es)
@@ -257,7 +259,7 @@ module _ (u : Setup) where
     unfolding catch_up
     join-good =
         cases _ _ _ (λ _. heard-good) λ at.
-        cases _ _ _ (λ _. refusal 6) λ rises.
+        cases _ _ _ (λ _. refusal NotRising) λ rises.
         moved _ _ (join-next at rises)
 
     pub new_state-good : (v : ℕ) → Good u m (on_new_state u m v a z c es)
@@ -287,8 +289,8 @@ module _ (u : Setup) where
   start_view-good : (m : State) (best : Held) (c : ℕ) (out : List Sent) → (Inv u m → StoredSound u best) → Good u m (start_view u m best.log c out)
   unfolding start_view started_with
   start_view-good m best c out p =
-      cases _ _ _ (λ _. refusal 7) λ ok.
-      cases _ _ _ (λ _. refusal 7) λ fit.
+      cases _ _ _ (λ _. refusal Uncommits) λ ok.
+      cases _ _ _ (λ _. refusal Uncommits) λ fit.
       moved _ _
       (entered-next m _ _ _ (le_refl _)
       (λ i. installed m _ c (p i).fits (p i).rises (not-false _ ok) (ltb-false _ _ fit) i.book))
@@ -354,7 +356,7 @@ module _ (u : Setup) where
   on_start_view-good m v h p =
       cases _ _ _ (λ _. ignored-good) λ view.
       cases _ _ _ (λ _. ignored-good) λ _.
-      cases _ _ _ (λ _. refusal 7) λ agrees.
+      cases _ _ _ (λ _. refusal Uncommits) λ agrees.
       moved _ _
       (entered-next m v _ _ (ltb-false _ _ view)
       (λ i. installed m _ _ p.fits p.rises (not-false _ agrees) p.commit-le i.book))
@@ -391,8 +393,8 @@ module _ (u : Setup) where
   recover_with-good m v w none p = ignored-good
   recover_with-good m v w (some h) p =
       cases _ _ _ (λ _. ignored-good) λ _.
-      cases _ _ _ (λ _. refusal 7) λ agrees.
-      cases _ _ _ (λ _. refusal 7) λ up.
+      cases _ _ _ (λ _. refusal Uncommits) λ agrees.
+      cases _ _ _ (λ _. refusal Uncommits) λ up.
       moved _ _ (recovered-next m v h (ltb-false _ _ up) p (not-false _ agrees))
 
   recover_from-good : (m : State) (v : ℕ) (d : Option Response) → (Inv u m → At (SoundResponse u) d) → Good u m (recover_from u m v d)
@@ -415,7 +417,7 @@ module _ (u : Setup) where
   -- the tick
   next_view-good : (m : State) (out : List Sent) → Good u m (next_view u m out)
   unfolding next_view
-  next_view-good m out = cases _ _ _ (λ _. refusal 8) (λ _. change-good m (m.place.view + 1) out (omega arith))
+  next_view-good m out = cases _ _ _ (λ _. refusal LastView) (λ _. change-good m (m.place.view + 1) out (omega arith))
 
   primary_tick-good : (m : State) → Good u m (primary_tick u m)
   unfolding primary_tick

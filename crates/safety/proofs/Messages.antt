@@ -1,4 +1,5 @@
 -- Any frame and any tick keep the invariant: what passed the refusals on the frame alone is what the handlers' lemmas want. Assumes nothing.
+use Rattle.std.specs.Prelude.{Some, None, Result, Ok, Err}
 use Prim.Native.Nat.{ℕ, ◌-◌, ◌≤◌}
 use native.Mathlib.Omega.{arith}
 use mathlib.Core.Path.{◌≡◌, refl, sym}
@@ -17,11 +18,9 @@ use Rattle.config.specs.declared.Setup.{Setup}
 use Rattle.frames.specs.Kinds.{fields_ok}
 use Rattle.frames.specs.Messages.{message_of, state_row, carried_of, carried_bytes}
 use Rattle.frames.specs.Refusals.{whole_log, check_frame}
-use Rattle.frames.specs.declared.RecoveryState.TheVariants.{Absent, Present}
 use Rattle.frames.specs.declared.Message.{Message}
 use Rattle.frames.specs.declared.Message.TheVariants.{Request, Prepare, PrepareOk, Commit, GetState, NewState, StartViewChange, DoViewChange, StartView, Recovery, RecoveryResponse}
-use Rattle.frames.specs.declared.Checked.{Checked}
-use Rattle.frames.specs.declared.Checked.TheVariants.{Passed, Refused}
+use Rattle.frames.specs.declared.Refusal.{Refusal}
 use Rattle.frames.proofs.MessageLaws.{Said}
 use Rattle.frames.proofs.RefusalLaws.{Fit, passed}
 use Rattle.writers.specs.Writers.{state_size, size_of}
@@ -33,6 +32,7 @@ use Rattle.safety.specs.Demand.Call.{frame, tick}
 use Rattle.safety.proofs.Handlers.{Good, cases, ignored-good, request-good, prepare-good, prepare_ok-good, commit-good, get_state-good, new_state-good}
 use Rattle.safety.proofs.Handlers.{start_view_change-good, do_view_change-good, on_start_view-good, recovery-good, response-good, idle-good}
 use Rattle.safety.proofs.Handlers.Good.{refusal}
+use Rattle.frames.specs.declared.Refusal.TheVariants.{OutOfRange, NoRoomForMessages, NoRoomForReplies}
 
 -- a NewState that is well formed starts at or before its end
 starts_first : (s : List ℕ) (to : ℕ) (v : View) (a z c : Op) → Said s to (NewState v a z c) → a.0 ≤ z.0
@@ -67,24 +67,24 @@ module _ (u : Setup) (m : State) (s : List ℕ) where
       on_start_view-good u m v.0 _
       (record { fits = omega (arith, many o.0 19, f.op); rises = f.rises; commit-le = omega (arith, many o.0 19, f.commit) })
   message-good (Recovery r x v) f = recovery-good u m r x v.0
-  message-good (RecoveryResponse v x r Absent) f = response-good u m v.0 x r none tt
-  message-good (RecoveryResponse v x r (Present o c)) f =
+  message-good (RecoveryResponse v x r None) f = response-good u m v.0 x r none tt
+  message-good (RecoveryResponse v x r (Some p)) f =
       response-good u m v.0 x r (some _)
-      (record { fits = omega (arith, many o.0 29, f.op); rises = f.rises; commit-le = omega (arith, many o.0 29, f.commit) })
+      (record { fits = omega (arith, many p.op.0 29, f.op); rises = f.rises; commit-le = omega (arith, many p.op.0 29, f.commit) })
 
-  checked-good : (x : Checked) → check_frame u s ≡ x → Good u m (on_checked u m s x)
+  checked-good : (x : Result Message Refusal) → check_frame u s ≡ x → Good u m (on_checked u m s x)
   unfolding on_checked
-  checked-good (Refused k p) e = refusal k
-  checked-good (Passed x) e = cases u _ _ _ (λ _. ignored-good u) (λ _. message-good x (passed u s x e))
+  checked-good (Err k) e = refusal k
+  checked-good (Ok x) e = cases u _ _ _ (λ _. ignored-good u) (λ _. message-good x (passed u s x e))
 
 -- refusals 9 and 10
 fitted-good : (u : Setup) (m : State) (a b : ℕ) (x : Answer) → Good u m x → Good u m (fitted a b x)
 unfolding fitted
 fitted-good u m a b (refused k) g = g
-fitted-good u m a b (done m' out rs) g = cases u _ _ _ (λ _. refusal 9) λ _. cases u _ _ _ (λ _. refusal 10) (λ _. g)
+fitted-good u m a b (done m' out rs) g = cases u _ _ _ (λ _. refusal NoRoomForMessages) λ _. cases u _ _ _ (λ _. refusal NoRoomForReplies) (λ _. g)
 
 pub call-good : (u : Setup) (m : State) (c : Call) → Good u m (answer u m c)
 unfolding answer on_frame on_tick
 call-good u m (frame s a b) =
-    cases u _ _ _ (λ _. refusal 1) (λ _. fitted-good u m a b _ (checked-good u m s (check_frame u s) refl))
-call-good u m (tick a b) = cases u _ _ _ (λ _. refusal 1) (λ _. fitted-good u m a b _ (idle-good u m))
+    cases u _ _ _ (λ _. refusal OutOfRange) (λ _. fitted-good u m a b _ (checked-good u m s (check_frame u s) refl))
+call-good u m (tick a b) = cases u _ _ _ (λ _. refusal OutOfRange) (λ _. fitted-good u m a b _ (idle-good u m))

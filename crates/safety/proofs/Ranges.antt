@@ -1,4 +1,5 @@
 -- The numbers of every state that calls lead to stay in their ranges: each handler, any call, any calls. Assumes nothing.
+use Rattle.std.specs.Prelude.{Option as RustOption, Some, None, Result, Ok, Err}
 use Prim.Native.Nat.{ℕ, zero, suc, ◌+◌, ◌-◌, ◌≤◌, ◌<◌}
 use native.Mathlib.Nat.{le_of_lt}
 use native.Mathlib.Omega.{arith}
@@ -24,12 +25,10 @@ use Rattle.clock.specs.declared.Ticked.{Ticked}
 use Rattle.clock.specs.declared.Duty.TheVariants.{Lead, Follow, Change}
 use Rattle.frames.specs.Messages.{message_of, carried_of}
 use Rattle.frames.specs.Refusals.{check_frame}
-use Rattle.frames.specs.declared.RecoveryState.{RecoveryState}
-use Rattle.frames.specs.declared.RecoveryState.TheVariants.{Absent, Present}
+use Rattle.frames.specs.declared.Progress.{Progress}
 use Rattle.frames.specs.declared.Message.{Message}
 use Rattle.frames.specs.declared.Message.TheVariants.{Request, Prepare, PrepareOk, Commit, GetState, NewState, StartViewChange, DoViewChange, StartView, Recovery, RecoveryResponse}
-use Rattle.frames.specs.declared.Checked.{Checked}
-use Rattle.frames.specs.declared.Checked.TheVariants.{Passed, Refused}
+use Rattle.frames.specs.declared.Refusal.{Refusal}
 use Rattle.frames.proofs.RefusalLaws.{Fit, passed}
 use Rattle.model.specs.State.{Book, Held, Reported, Response, State, Sent, Reply, Answer}
 use Rattle.model.specs.State.Answer.{refused, done}
@@ -53,10 +52,11 @@ use Rattle.safety.proofs.Changes.{append-in, append_all-in, commit-in, install-i
 use Rattle.safety.proofs.Changes.{clock-in, book-in, status-in, acks-in, heard-in, committed-in, accepted-in, acked-in, sent-in, vote-in}
 use Rattle.safety.proofs.Changes.{recorded-in, noted_in, forgotten-in, own-fits, entered-in, catching-in, changing-in, new_in}
 use Rattle.frames.proofs.MessageLaws.{carried-in-bytes}
+use Rattle.frames.specs.declared.Refusal.TheVariants.{OutOfRange, PastRoom, PastLog, NotRising, Uncommits, LastView, NoRoomForMessages, NoRoomForReplies}
 
 -- what a call answers: in the ranges again, where the new state is safe, which demand 3 shows
 data Fine (u : Setup) (m : State) : Answer → Type 0 where
-  refusal : (k : ℕ) → Fine u m (refused k)
+  refusal : (k : Refusal) → Fine u m (refused k)
   moved : {m' : State} (out : List Sent) (rs : List Reply) → (Safe u m' → In u m → In u m') → Fine u m (done m' out rs)
 
 module _ (u : Setup) (own : u.id < u.n) where
@@ -94,8 +94,8 @@ module _ (u : Setup) (own : u.id < u.n) where
       cases _ _ _ (λ _. ignored-fine) λ _.
       cases _ _ _ (λ _. ignored-fine) λ _.
       cases _ _ _ (λ _. resend-fine m e _) λ _.
-      cases _ _ _ (λ _. refusal 4) λ _.
-      cases _ _ _ (λ _. refusal 6) λ _.
+      cases _ _ _ (λ _. refusal PastRoom) λ _.
+      cases _ _ _ (λ _. refusal NotRising) λ _.
       went _ _ (accepted-in u m e own f)
 
   -- Prepare and Commit
@@ -125,8 +125,8 @@ module _ (u : Setup) (own : u.id < u.n) where
   take-prepare m o c e f =
       cases _ _ _ (λ _. since (heard-in u m) (transfer-fine _)) λ _.
       cases _ _ _ (λ _. since (heard-in u m) (prepared-fine _ c)) λ _.
-      cases _ _ _ (λ _. refusal 4) λ _.
-      cases _ _ _ (λ _. refusal 6) λ _.
+      cases _ _ _ (λ _. refusal PastRoom) λ _.
+      cases _ _ _ (λ _. refusal NotRising) λ _.
       since (λ i. book-in u (heard_from_primary m) _ (append-in m.book e f) (heard-in u m i)) (prepared-fine _ c)
 
   prepare-fine : (m : State) (v o c : ℕ) (e : Entry) → v < 4294967296 → EntryFits e → Fine u m (on_prepare u m v o c e)
@@ -158,7 +158,7 @@ module _ (u : Setup) (own : u.id < u.n) where
       cases _ _ _ (λ _. ignored-fine) λ _.
       cases _ _ _ (λ _. ignored-fine) λ _.
       cases _ _ _ (λ _. went _ _ (acked-in u m o r h)) λ _.
-      cases _ _ _ (λ _. refusal 5) λ g.
+      cases _ _ _ (λ _. refusal PastLog) λ g.
       moved _ _ (blanked-in m o (ltb-false _ _ g))
 
   -- GetState and NewState
@@ -176,7 +176,7 @@ module _ (u : Setup) (own : u.id < u.n) where
   unfolding fill_gap
   gap-fine m a z c es f =
       cases _ _ _ (λ _. heard-fine) λ _.
-      cases _ _ _ (λ _. refusal 6) λ _.
+      cases _ _ _ (λ _. refusal NotRising) λ _.
       went _ _ (filled_in m c _ (all_drop EntryFits (op_of m - a) es f))
 
   -- another log, and a commit
@@ -195,7 +195,7 @@ module _ (u : Setup) (own : u.id < u.n) where
   unfolding catch_up
   join-fine m a c es f =
       cases _ _ _ (λ _. heard-fine) λ _.
-      cases _ _ _ (λ _. refusal 6) λ _.
+      cases _ _ _ (λ _. refusal NotRising) λ _.
       went _ _ (caught-in m c es f)
 
   new_state-fine : (m : State) (v a z c : ℕ) (es : List Entry) → All EntryFits es → Fine u m (on_new_state u m v a z c es)
@@ -214,8 +214,8 @@ module _ (u : Setup) (own : u.id < u.n) where
   start_view-fine : (m : State) (log : List Entry) (c : ℕ) (out : List Sent) → (In u m → All EntryFits log) → Fine u m (start_view u m log c out)
   unfolding start_view
   start_view-fine m log c out f =
-      cases _ _ _ (λ _. refusal 7) λ _.
-      cases _ _ _ (λ _. refusal 7) λ _.
+      cases _ _ _ (λ _. refusal Uncommits) λ _.
+      cases _ _ _ (λ _. refusal Uncommits) λ _.
       moved _ _ (started-in m _ (λ i. installed-in m log c (f i) i))
 
   chosen-fine : (m : State) (o : Option Reported) (out : List Sent) → (In u m → At ReportedFits o) → Fine u m (start_chosen u m o out)
@@ -269,7 +269,7 @@ module _ (u : Setup) (own : u.id < u.n) where
   on_start_view-fine m v h fits f =
       cases _ _ _ (λ _. ignored-fine) λ _.
       cases _ _ _ (λ _. ignored-fine) λ _.
-      cases _ _ _ (λ _. refusal 7) λ _.
+      cases _ _ _ (λ _. refusal Uncommits) λ _.
       went _ _ (joined_in m v h fits f)
 
   -- Recovery and RecoveryResponse
@@ -295,8 +295,8 @@ module _ (u : Setup) (own : u.id < u.n) where
   recover_with-fine m v w none f = ignored-fine
   recover_with-fine m v w (some h) f =
       cases _ _ _ (λ _. ignored-fine) λ _.
-      cases _ _ _ (λ _. refusal 7) λ _.
-      cases _ _ _ (λ _. refusal 7) λ _.
+      cases _ _ _ (λ _. refusal Uncommits) λ _.
+      cases _ _ _ (λ _. refusal Uncommits) λ _.
       went _ _ (λ i. recovered-in m v h (f i).0 (f i).1 i)
 
   recover_from-fine : (m : State) (v : ℕ) (d : Option Response) → (In u m → (v < 4294967296) × At ResponseFits d) → Fine u m (recover_from u m v d)
@@ -322,7 +322,7 @@ module _ (u : Setup) (own : u.id < u.n) where
   next_view-fine : (m : State) (out : List Sent) → Fine u m (next_view u m out)
   unfolding next_view
   next_view-fine m out =
-      cases _ _ _ (λ _. refusal 8) λ h.
+      cases _ _ _ (λ _. refusal LastView) λ h.
       change-fine m (m.place.view + 1) out (omega (arith, leb-false 4294967295 m.place.view h)) (omega arith)
 
   primary_tick-fine : (m : State) → Fine u m (primary_tick u m)
@@ -389,10 +389,10 @@ wire k s b =
     split Wire _ _ _ (λ _. num-fits 4 7 s b) λ _.
     split Wire _ _ _ (λ _. num-fits 4 16 s b) (λ _. num-fits 4 7 s b)
 
-held_fits : (t : RecoveryState) (log : List Entry) → All EntryFits log → At HeldFits (held_in t log)
+held_fits : (t : RustOption Progress) (log : List Entry) → All EntryFits log → At HeldFits (held_in t log)
 unfolding held_in
-held_fits Absent log f = tt
-held_fits (Present o c) log f = f
+held_fits None log f = tt
+held_fits (Some p) log f = f
 
 -- ---- any call
 
@@ -411,10 +411,10 @@ module _ (u : Setup) (own : u.id < u.n) (m : State) where
   message-fine (Recovery s x v) log r w f = recovery-fine u own m s x v.0 w
   message-fine (RecoveryResponse v x s t) log r w f = response-fine u own m v.0 x s (held_in t log) w (held_fits t log f)
 
-  checked-fine : (s : List ℕ) → Bytes s → (x : Checked) → check_frame u s ≡ x → Fine u m (on_checked u m s x)
+  checked-fine : (s : List ℕ) → Bytes s → (x : Result Message Refusal) → check_frame u s ≡ x → Fine u m (on_checked u m s x)
   unfolding on_checked carried_log
-  checked-fine s b (Refused k p) e = refusal k
-  checked-fine s b (Passed x) e =
+  checked-fine s b (Err k) e = refusal k
+  checked-fine s b (Ok x) e =
       let f : Fit u s x = passed u s x e in
       cases u own _ _ _ (λ _. ignored-fine u own)
       (λ _. message-fine x _ f.sender (rw f.said.message (wire (num 1 5 s) s b)) (entries_fit _ _ (carried-in-bytes x s b)))
@@ -423,12 +423,12 @@ module _ (u : Setup) (own : u.id < u.n) (m : State) where
   fitted-fine : (a b : ℕ) (x : Answer) → Fine u m x → Fine u m (fitted a b x)
   unfolding fitted
   fitted-fine a b (refused k) g = g
-  fitted-fine a b (done m' out rs) g = cases u own _ _ _ (λ _. refusal 9) λ _. cases u own _ _ _ (λ _. refusal 10) (λ _. g)
+  fitted-fine a b (done m' out rs) g = cases u own _ _ _ (λ _. refusal NoRoomForMessages) λ _. cases u own _ _ _ (λ _. refusal NoRoomForReplies) (λ _. g)
 
   call-fine : (c : Call) → BytesOf c → Fine u m (answer u m c)
   unfolding answer on_frame on_tick
-  call-fine (frame s a b) f = cases u own _ _ _ (λ _. refusal 1) (λ _. fitted-fine a b _ (checked-fine s f (check_frame u s) refl))
-  call-fine (tick a b) f = cases u own _ _ _ (λ _. refusal 1) (λ _. fitted-fine a b _ (idle-fine u own m))
+  call-fine (frame s a b) f = cases u own _ _ _ (λ _. refusal OutOfRange) (λ _. fitted-fine a b _ (checked-fine s f (check_frame u s) refl))
+  call-fine (tick a b) f = cases u own _ _ _ (λ _. refusal OutOfRange) (λ _. fitted-fine a b _ (idle-fine u own m))
 
 after-in : {u : Setup} {m : State} {x : Answer} → Fine u m x → Safe u (after m x) → In u m → In u (after m x)
 unfolding after

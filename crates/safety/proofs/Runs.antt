@@ -37,6 +37,8 @@ use Rattle.safety.proofs.Tables.{remembered}
 use Rattle.safety.proofs.Books.{BookInv, Grown, results-counted}
 use Rattle.safety.proofs.Handlers.{Inv, Next, still, next-next, every-none, after_next}
 use Rattle.safety.proofs.Messages.{call-good}
+use Rattle.frames.specs.declared.Refusal.{Refusal}
+use Rattle.frames.specs.declared.Refusal.TheVariants.{OutOfRange, NoRoomForMessages, NoRoomForReplies}
 
 -- ---- a rising log has each client's requests once, in rising order
 
@@ -133,7 +135,7 @@ module _ (u : Setup) where
 
   -- what holds of every new replica holds of what a creation that was not refused gives
   module _ (P : State → Type 0) (new-has : setup_ok u ≡ true → (t : Status) (v x : ℕ) → P (new_at u t v x)) where
-    not_done : (k : ℕ) (m : State) (out : List Sent) (rs : List Reply) → refused k ≡ done m out rs → P m
+    not_done : (k : Refusal) (m : State) (out : List Sent) (rs : List Reply) → refused k ≡ done m out rs → P m
     not_done k m out rs e = let z : ◌≡◌ {A = ℕ} 0 1 = cc in absurd (omega arith)
 
     began : (t : Status) (v x : ℕ) (sent out : List Sent) (rs : List Reply) (m : State) → setup_ok u ≡ true
@@ -144,15 +146,15 @@ module _ (u : Setup) where
         → fitted a 0 (done (new_at u t v x) sent []) ≡ done m out rs → P m
     unfolding fitted
     fitted-began t v x a sent out rs m s =
-        split (λ (y : Answer). y ≡ done m out rs → P m) _ _ _ (λ _. not_done 9 m out rs) λ _.
-        split (λ (y : Answer). y ≡ done m out rs → P m) _ _ _ (λ _. not_done 10 m out rs) (λ _. began t v x sent out rs m s)
+        split (λ (y : Answer). y ≡ done m out rs → P m) _ _ _ (λ _. not_done NoRoomForMessages m out rs) λ _.
+        split (λ (y : Answer). y ≡ done m out rs → P m) _ _ _ (λ _. not_done NoRoomForReplies m out rs) (λ _. began t v x sent out rs m s)
 
     pub created : (m : State) → Created u m → P m
     unfolding create recover
     created m (new out rs e) =
-        split (λ (y : Answer). y ≡ done m out rs → P m) _ _ _ (λ s. began _ _ _ _ out rs m s) (λ _. not_done 1 m out rs) e
+        split (λ (y : Answer). y ≡ done m out rs → P m) _ _ _ (λ s. began _ _ _ _ out rs m s) (λ _. not_done OutOfRange m out rs) e
     created m (back v x a out rs e) =
-        split (λ (y : Answer). y ≡ done m out rs → P m) _ _ _ (λ s. fitted-began _ v x a _ out rs m s) (λ _. not_done 1 m out rs) e
+        split (λ (y : Answer). y ≡ done m out rs → P m) _ _ _ (λ s. fitted-began _ v x a _ out rs m s) (λ _. not_done OutOfRange m out rs) e
 
   -- ---- any calls
 

@@ -1,11 +1,10 @@
 -- What order 6 of document 02 gives the desk, over the calls that demand 3 speaks of: a request whose entry is applied and is its client's latest in
 -- the log is answered when it is asked again of a Normal primary. Assumes nothing.
-use Rattle.std.specs.Prelude.{ℕ, ◌≤◌, ◌<◌, ◌≡◌, true, List, [], ◌∷◌, take, get_or}
+use Rattle.std.specs.Prelude.{Ok, ℕ, ◌≤◌, ◌<◌, ◌≡◌, true, List, [], ◌∷◌, take, get_or}
 use Rattle.entries.specs.declared.Entry.{Entry}
 use Rattle.config.specs.declared.Setup.{Setup}
 use Rattle.frames.specs.Refusals.{check_frame}
 use Rattle.frames.specs.declared.Message.TheVariants.{Request}
-use Rattle.frames.specs.declared.Checked.TheVariants.{Passed}
 use Rattle.state.specs.Statuses.{is_normal}
 use Rattle.model.specs.State.{State, Reply}
 use Rattle.model.specs.State.Answer.{done}
@@ -22,7 +21,7 @@ pub record AskedAgain (u : Setup) (m : State) (s : List ℕ) (d : Entry) (i : �
   pub applied : i < m.book.commit
   pub latest : LastAt m.book.log i
   pub asked : Entry
-  pub passed : check_frame u s ≡ Passed (Request asked)
+  pub passed : check_frame u s ≡ Ok (Request asked)
   pub client : asked.client ≡ (get_or m.book.log i d).client
   pub request : asked.request ≡ (get_or m.book.log i d).request
 

@@ -1,10 +1,9 @@
 -- A DoViewChange of ours goes out only after StartViewChanges of its view from n/2 other replicas, over the calls that demand 3 speaks of: any
 -- list of outside calls, refused ones included, from a creation that was not refused. Assumes nothing.
-use Rattle.std.specs.Prelude.{ℕ, ◌≡◌, ◌⊎◌, List, [], ◌∷◌, ◌++◌}
+use Rattle.std.specs.Prelude.{Ok, ℕ, ◌≡◌, ◌⊎◌, List, [], ◌∷◌, ◌++◌}
 use Rattle.config.specs.declared.Setup.{Setup}
 use Rattle.frames.specs.Refusals.{check_frame}
 use Rattle.frames.specs.declared.Message.TheVariants.{StartViewChange}
-use Rattle.frames.specs.declared.Checked.TheVariants.{Passed}
 use Rattle.model.specs.State.{view_of, State, Sent, Answer}
 use Rattle.model.specs.State.Answer.{refused, done}
 use Rattle.model.specs.Asked.{Voted, AllBacked}
@@ -13,7 +12,7 @@ use Rattle.safety.specs.Demand.Call.{frame, tick}
 
 -- replica r asks for view v by a call: a frame that refusals 2 to 6 let pass, a StartViewChange of that view from r
 abbrev pub Asks : Setup → (view r : ℕ) → Call → Type 0
-Asks u v r (frame s a b) = check_frame u s ≡ Passed (StartViewChange (view_of v) r)
+Asks u v r (frame s a b) = check_frame u s ≡ Ok (StartViewChange (view_of v) r)
 Asks u v r (tick a b) = ⊥
 
 -- by one of these calls

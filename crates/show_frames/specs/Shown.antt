@@ -1,9 +1,10 @@
 -- What is shown: the fee that each frame with an entry carries, and the number that a frame earns at replica 1 of 3. Assumes nothing.
-use Rattle.std.specs.Prelude.{ℕ}
+use Rattle.std.specs.Prelude.{ℕ, Result, Ok, Err}
 use Rattle.entries.specs.declared.Entry.{Entry}
 use Rattle.config.specs.declared.Setup.{Setup}
-use Rattle.frames.specs.declared.Checked.{Checked}
-use Rattle.frames.specs.declared.Checked.TheVariants.{Passed, Refused}
+use Rattle.frames.specs.declared.Refusal.{Refusal}
+use Rattle.frames.specs.Refusals.{number_of}
+use Rattle.frames.specs.declared.Message.{Message}
 
 -- a fee of 4500 cents, of member 3
 abbrev pub fee_shown : Entry
@@ -14,6 +15,6 @@ abbrev pub setup_shown : Setup
 setup_shown = record { n = 3; id = 1; timeout = 3; room = 8; members = 8 }
 
 -- the refusal's number, 0: none
-unfoldable pub number_shown : Checked → ℕ
-number_shown (Passed m) = 0
-number_shown (Refused k p) = k
+unfoldable pub number_shown : Result Message Refusal → ℕ
+number_shown (Ok m) = 0
+number_shown (Err k) = number_of k

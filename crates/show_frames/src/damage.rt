@@ -1,10 +1,10 @@
 // A frame with a fault, handed in to replica 1 of 3.
+// Kept: numbers of refusals, since they are what is printed.
 ghost use Rattle.std.specs.Prelude.{◌≡◌};
 ghost use Rattle.frames.specs.Refusals.{check_frame};
 ghost use Rattle.show_frames.specs.Shown.{setup_shown, number_shown};
 
 use config::Setup;
-use frames::Checked;
 use std::io;
 
 fn setup() -> Setup
@@ -24,55 +24,38 @@ pub fn number(frame: &[u8]) -> u8
     ensures { result ≡ number_shown (check_frame setup_shown frame.now) }
 {
     match frames::check(setup(), frame) {
-        Checked::Passed { .. } => 0,
-        Checked::Refused { number, offset: _ } => number,
+        Ok(_) => 0,
+        Err(refusal) => u8::from(refusal),
     }
 }
 
-fn number_of_first(s: &[u8], n: usize) -> u8 {
-    if s.len() < n {
-        return 99;
-    }
-    number(&s[0..n])
+// The number of a copy with one byte changed, where there is room for the copy.
+fn changed(s: &[u8], at: usize, b: u8) -> Option<u8> {
+    let mut room = [0; 96];
+    let copy = room.get_mut(..s.len())?;
+    copy.copy_from_slice(s);
+    *copy.get_mut(at)? = b;
+    Some(number(copy))
 }
 
-fn number_of(s: &[u8; 96], n: usize) -> u8 {
-    number_of_first(s, n)
+// The number of the frame without its last byte.
+fn short(s: &[u8]) -> Option<u8> {
+    let (_, front) = s.split_last()?;
+    Some(number(front))
 }
 
-fn put(s: &mut [u8; 96], at: usize, b: u8) {
-    if 96 <= at {
-        return;
-    }
-    s[at] = b;
-}
-
-fn changed(s: &[u8], at: usize, b: u8) -> u8 {
-    let mut copy = [0; 96];
-    let n = s.len();
-    if 96 < n {
-        return 99;
-    }
-    numbers::copy(&mut copy, s, n);
-    put(&mut copy, at, b);
-    number_of(&copy, n)
-}
-
-fn short(s: &[u8]) -> u8 {
-    if s.len() == 0 {
-        return 99;
-    }
-    number_of_first(s, s.len() - 1)
+// A number, 99: there is no such frame.
+fn shown(number: Option<u8>) -> u8 {
+    number.unwrap_or(99)
 }
 
 pub fn copies<W: io::Write>(writer: &mut W, s: &[u8]) -> io::Result<()> {
-    text::labelled(
+    writeln!(
         writer,
-        b"; without its last byte: refusal ",
-        short(s) as u64,
-    )?;
-    text::labelled(writer, b"; of version 2: ", changed(s, 4, 2) as u64)?;
-    text::labelled(writer, b"; of kind 12: ", changed(s, 5, 12) as u64)?;
-    text::labelled(writer, b"; to replica 2: ", changed(s, 6, 2) as u64)?;
-    text::say(writer, b"\n")
+        "; without its last byte: refusal {}; of version 2: {}; of kind 12: {}; to replica 2: {}",
+        shown(short(s)),
+        shown(changed(s, 4, 2)),
+        shown(changed(s, 5, 12)),
+        shown(changed(s, 6, 2))
+    )
 }

@@ -2,48 +2,29 @@
 ghost use Rattle.std.specs.Prelude.{◌≡◌};
 ghost use Rattle.show_frames.specs.Shown.{fee_shown};
 
-use crate::{damage, words};
+use crate::damage;
+use crate::words::{EntryWords, MessageWords};
 use entries::Entry;
-use frames::{Message, Parsed};
+use frames::{Message, Refusal};
 use std::io;
 
 fn line<W: io::Write>(writer: &mut W, s: &[u8]) -> io::Result<()> {
-    text::say(writer, b" ")?;
+    write!(writer, " ")?;
     text::hex(writer, s)?;
-    text::say(writer, b"\n")
+    writeln!(writer)
 }
 
 // Two frames of 15 bytes.
 pub fn pair<W: io::Write>(writer: &mut W, s: &[u8; 30]) -> io::Result<()> {
-    halves(writer, s)
-}
-
-fn halves<W: io::Write>(writer: &mut W, s: &[u8]) -> io::Result<()> {
-    if s.len() < 30 {
-        return Ok(());
+    for frame in s.chunks_exact(15) {
+        line(writer, frame)?;
     }
-    line(writer, &s[0..15])?;
-    line(writer, &s[15..30])
+    Ok(())
 }
 
-pub fn reply<W: io::Write>(writer: &mut W, s: &[u8; 36]) -> io::Result<()> {
-    handed_in(writer, s)
-}
-
-fn handed_in<W: io::Write>(writer: &mut W, s: &[u8]) -> io::Result<()> {
+pub fn reply<W: io::Write>(writer: &mut W, s: &[u8]) -> io::Result<()> {
     line(writer, s)?;
-    text::labelled(writer, b"  handed in: refusal ", damage::number(s) as u64)?;
-    text::say(writer, b"\n")
-}
-
-fn put_entry(s: &mut [u8], at: usize, e: Entry) {
-    if s.len() < at {
-        return;
-    }
-    if s.len() - at < 32 {
-        return;
-    }
-    entries::write_entry(&mut s[at..], e);
+    writeln!(writer, "  handed in: refusal {}", damage::number(s))
 }
 
 pub fn fee() -> Entry
@@ -71,91 +52,65 @@ fn refund() -> Entry {
 // Two entries, and room.
 fn run() -> [u8; 96] {
     let mut s = [0; 96];
-    put_entry(&mut s, 0, fee());
-    put_entry(&mut s, 32, refund());
+    entries::write_entry(&mut s, fee());
+    entries::write_entry(&mut s[32..], refund());
     s
 }
 
 pub fn carried<W: io::Write>(writer: &mut W) -> io::Result<()> {
-    text::say(writer, b"  1: ")?;
-    words::entry(writer, fee())?;
-    text::say(writer, b"\n  2: ")?;
-    words::entry(writer, refund())?;
-    text::say(writer, b"\n")
+    writeln!(writer, "  1: {}", EntryWords(fee()))?;
+    writeln!(writer, "  2: {}", EntryWords(refund()))
 }
 
-// The frame's length, or 0 where it does not fit. A log as long as the whole frame has the entries that it carries.
-fn written(area: &mut [u8], to: u8, m: Message, log: &[u8]) -> usize {
+// The frame, where the area holds it. A log as long as the whole frame has the entries that it carries.
+fn written<'a>(area: &'a mut [u8], to: u8, m: Message, log: &[u8]) -> Option<&'a [u8]> {
     let n = writers::frame_len(m);
-    if 4096 < n {
-        return 0;
+    if n > area.len().min(log.len()).min(4096) {
+        return None;
     }
-    if area.len() < n {
-        return 0;
-    }
-    if log.len() < n {
-        return 0;
-    }
-    writers::write_frame(area, to, m, log)
-}
-
-fn same_first<'a>(area: &'a [u8], n: usize, s: &'a [u8]) -> bool {
-    if area.len() < n {
-        return false;
-    }
-    &area[0..n] == s
+    writers::write_frame(area, to, m, log);
+    area.get(..n)
 }
 
 fn same_again(s: &[u8], to: u8, m: Message) -> bool {
     let mut area = [0; 96];
-    let log = run();
-    let n = written(&mut area, to, m, &log);
-    same_first(&area, n, s)
+    match written(&mut area, to, m, &run()) {
+        Some(again) => again == s,
+        None => false,
+    }
 }
 
 fn read<W: io::Write>(writer: &mut W, s: &[u8], to: u8, m: Message) -> io::Result<()> {
-    text::labelled(writer, b"  to ", to as u64)?;
-    text::say(writer, b": ")?;
-    words::message(writer, m)?;
-    if same_again(s, to, m) {
-        return text::say(writer, b"\n  read back: the same");
-    }
-    text::say(writer, b"\n  read back: another frame")
+    let what = if same_again(s, to, m) {
+        "the same"
+    } else {
+        "another frame"
+    };
+    write!(
+        writer,
+        "  to {to}: {}\n  read back: {what}",
+        MessageWords(m)
+    )
 }
 
 fn frame<W: io::Write>(writer: &mut W, s: &[u8]) -> io::Result<()> {
     line(writer, s)?;
     match frames::parse(s) {
-        Parsed::Malformed { offset } => text::labelled(
-            writer,
-            b"  malformed at byte ",
-            offset as u64,
-        )?,
-        Parsed::Frame { to, message } => read(writer, s, to, message)?,
+        Ok(frame) => read(writer, s, frame.to, frame.message)?,
+        Err(Refusal::Malformed { offset }) => write!(writer, "  malformed at byte {offset}")?,
+        Err(refusal) => write!(writer, "  refused by {}", u8::from(refusal))?,
     }
     damage::copies(writer, s)
-}
-
-fn kind<W: io::Write>(writer: &mut W, s: &[u8]) -> io::Result<()> {
-    if s.len() < 6 {
-        return Ok(());
-    }
-    text::kind(writer, numbers::read_u8(s, 5))?;
-    text::say(writer, b"\n")
-}
-
-fn first<W: io::Write>(writer: &mut W, area: &[u8], n: usize) -> io::Result<()> {
-    if area.len() < n {
-        return Ok(());
-    }
-    kind(writer, &area[0..n])?;
-    frame(writer, &area[0..n])
 }
 
 // The message's frame to replica 1.
 pub fn message<W: io::Write>(writer: &mut W, m: Message) -> io::Result<()> {
     let mut area = [0; 96];
-    let log = run();
-    let n = written(&mut area, 1, m, &log);
-    first(writer, &area, n)
+    let Some(s) = written(&mut area, 1, m, &run()) else {
+        return Ok(());
+    };
+    if let Some(kind) = s.get(5) {
+        writeln!(writer, "{}", text::KindByte(*kind))?;
+    }
+    frame(writer, s)
 }

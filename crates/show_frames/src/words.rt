@@ -1,151 +1,113 @@
-// A message in words.
+// An entry, and a message, in words.
 use entries::{Entry, Operation};
-use frames::{Message, RecoveryState};
-use numbers::{Op, View};
-use std::io;
+use frames::{Message, Progress};
+use std::fmt;
 
-fn operation<W: io::Write>(writer: &mut W, op: Operation) -> io::Result<()> {
-    match op {
-        Operation::Fee => text::say(writer, b", Fee"),
-        Operation::Refund => text::say(writer, b", Refund"),
-        Operation::Ask => text::say(writer, b", Ask"),
+#[derive(Clone, Copy)]
+pub struct EntryWords(pub Entry);
+
+impl fmt::Display for EntryWords {
+    fn fmt<W: fmt::Write>(&self, f: &mut fmt::Formatter<W>) -> fmt::Result {
+        let e = self.0;
+        let operation = match entries::operation_of(e.operation) {
+            Operation::Fee => "Fee",
+            Operation::Refund => "Refund",
+            Operation::Ask => "Ask",
+        };
+        write!(
+            f,
+            "client {}, request {}, {operation}, member {}, cents {}",
+            e.client, e.request, e.member, e.cents
+        )
     }
 }
 
-pub fn entry<W: io::Write>(writer: &mut W, e: Entry) -> io::Result<()> {
-    text::labelled(writer, b"client ", e.client)?;
-    text::labelled(writer, b", request ", e.request)?;
-    operation(writer, entries::operation_of(e.operation))?;
-    text::labelled(writer, b", member ", e.member as u64)?;
-    text::labelled(writer, b", cents ", e.cents)
-}
+#[derive(Clone, Copy)]
+struct StateWords(Option<Progress>);
 
-fn view<W: io::Write>(writer: &mut W, v: View) -> io::Result<()> {
-    text::labelled(writer, b"view ", v.0 as u64)
-}
-
-fn op<W: io::Write>(writer: &mut W, o: Op) -> io::Result<()> {
-    text::labelled(writer, b", op ", o.0 as u64)
-}
-
-fn commit<W: io::Write>(writer: &mut W, c: Op) -> io::Result<()> {
-    text::labelled(writer, b", commit ", c.0 as u64)
-}
-
-fn from<W: io::Write>(writer: &mut W, r: u8) -> io::Result<()> {
-    text::labelled(writer, b", from ", r as u64)
-}
-
-fn prepare<W: io::Write>(writer: &mut W, v: View, o: Op, c: Op, e: Entry) -> io::Result<()> {
-    view(writer, v)?;
-    op(writer, o)?;
-    commit(writer, c)?;
-    text::say(writer, b", ")?;
-    entry(writer, e)
-}
-
-fn acknowledged<W: io::Write>(writer: &mut W, v: View, o: Op, r: u8) -> io::Result<()> {
-    view(writer, v)?;
-    op(writer, o)?;
-    from(writer, r)
-}
-
-fn committed<W: io::Write>(writer: &mut W, v: View, c: Op) -> io::Result<()> {
-    view(writer, v)?;
-    commit(writer, c)
-}
-
-fn span<W: io::Write>(writer: &mut W, v: View, start: Op, end: Op, c: Op) -> io::Result<()> {
-    view(writer, v)?;
-    text::labelled(writer, b", start ", start.0 as u64)?;
-    text::labelled(writer, b", end ", end.0 as u64)?;
-    commit(writer, c)
-}
-
-fn changing<W: io::Write>(writer: &mut W, v: View, r: u8) -> io::Result<()> {
-    view(writer, v)?;
-    from(writer, r)
-}
-
-fn report<W: io::Write>(writer: &mut W, v: View, r: u8, l: View, o: Op, c: Op) -> io::Result<()> {
-    changing(writer, v, r)?;
-    text::labelled(writer, b", last normal view ", l.0 as u64)?;
-    op(writer, o)?;
-    commit(writer, c)
-}
-
-fn log<W: io::Write>(writer: &mut W, v: View, o: Op, c: Op) -> io::Result<()> {
-    view(writer, v)?;
-    op(writer, o)?;
-    commit(writer, c)
-}
-
-fn asked<W: io::Write>(writer: &mut W, r: u8, x: u64, v: View) -> io::Result<()> {
-    changing(writer, v, r)?;
-    text::labelled(writer, b", nonce ", x)
-}
-
-fn state<W: io::Write>(writer: &mut W, s: RecoveryState) -> io::Result<()> {
-    match s {
-        RecoveryState::Absent => text::say(writer, b", no log"),
-        RecoveryState::Present { op: o, commit: c } => {
-            op(writer, o)?;
-            commit(writer, c)
+impl fmt::Display for StateWords {
+    fn fmt<W: fmt::Write>(&self, f: &mut fmt::Formatter<W>) -> fmt::Result {
+        match self.0 {
+            None => write!(f, "no log"),
+            Some(Progress { op, commit }) => write!(f, "op {}, commit {}", op.0, commit.0),
         }
     }
 }
 
-fn answered<W: io::Write>(
-    writer: &mut W,
-    v: View,
-    x: u64,
-    r: u8,
-    s: RecoveryState,
-) -> io::Result<()> {
-    asked(writer, r, x, v)?;
-    state(writer, s)
-}
+#[derive(Clone, Copy)]
+pub struct MessageWords(pub Message);
 
-fn other<W: io::Write>(writer: &mut W, m: Message) -> io::Result<()> {
-    match m {
-        Message::StartViewChange { view, from } => changing(writer, view, from),
-        Message::DoViewChange {
-            view,
-            from,
-            last_normal,
-            op,
-            commit,
-        } => report(writer, view, from, last_normal, op, commit),
-        Message::StartView { view, op, commit } => log(writer, view, op, commit),
-        Message::Recovery { from, nonce, view } => asked(writer, from, nonce, view),
-        Message::RecoveryResponse {
-            view,
-            nonce,
-            from,
-            state,
-        } => answered(writer, view, nonce, from, state),
-        _ => Ok(()),
-    }
-}
-
-pub fn message<W: io::Write>(writer: &mut W, m: Message) -> io::Result<()> {
-    match m {
-        Message::Request { entry: e } => entry(writer, e),
-        Message::Prepare {
-            view,
-            op,
-            commit,
-            entry,
-        } => prepare(writer, view, op, commit, entry),
-        Message::PrepareOk { view, op, from } => acknowledged(writer, view, op, from),
-        Message::Commit { view, commit } => committed(writer, view, commit),
-        Message::GetState { from, view, op } => acknowledged(writer, view, op, from),
-        Message::NewState {
-            view,
-            start,
-            end,
-            commit,
-        } => span(writer, view, start, end, commit),
-        _ => other(writer, m),
+impl fmt::Display for MessageWords {
+    fn fmt<W: fmt::Write>(&self, f: &mut fmt::Formatter<W>) -> fmt::Result {
+        match self.0 {
+            Message::Request { entry } => write!(f, "{}", EntryWords(entry)),
+            Message::Prepare {
+                view,
+                op,
+                commit,
+                entry,
+            } => write!(
+                f,
+                "view {}, op {}, commit {}, {}",
+                view.0,
+                op.0,
+                commit.0,
+                EntryWords(entry)
+            ),
+            Message::PrepareOk { view, op, from } => write!(
+                f,
+                "view {}, op {}, from {from}",
+                view.0, op.0
+            ),
+            Message::Commit { view, commit } => write!(f, "view {}, commit {}", view.0, commit.0),
+            Message::GetState { from, view, op } => write!(
+                f,
+                "view {}, op {}, from {from}",
+                view.0, op.0
+            ),
+            Message::NewState {
+                view,
+                start,
+                end,
+                commit,
+            } => write!(
+                f,
+                "view {}, start {}, end {}, commit {}",
+                view.0, start.0, end.0, commit.0
+            ),
+            Message::StartViewChange { view, from } => write!(f, "view {}, from {from}", view.0),
+            Message::DoViewChange {
+                view,
+                from,
+                last_normal,
+                op,
+                commit,
+            } => write!(
+                f,
+                "view {}, from {from}, last normal view {}, op {}, commit {}",
+                view.0, last_normal.0, op.0, commit.0
+            ),
+            Message::StartView { view, op, commit } => write!(
+                f,
+                "view {}, op {}, commit {}",
+                view.0, op.0, commit.0
+            ),
+            Message::Recovery { from, nonce, view } => write!(
+                f,
+                "view {}, from {from}, nonce {nonce}",
+                view.0
+            ),
+            Message::RecoveryResponse {
+                view,
+                nonce,
+                from,
+                state,
+            } => write!(
+                f,
+                "view {}, from {from}, nonce {nonce}, {}",
+                view.0,
+                StateWords(state)
+            ),
+        }
     }
 }

@@ -1,2 +1,3 @@
 pub mod LengthLaws
 pub mod SoundLaws
+pub mod OutcomeLaws

@@ -4,11 +4,11 @@
 ghost use Rattle.std.specs.Prelude.{◌≡◌, ◌<◌};
 ghost use Rattle.state.specs.State.{leads, heard_by, with_clock, with_status, with_log, with_commit, moved, normal_in, catching_up_in, changing_to, with_start, with_sent, with_reports, new_in};
 ghost use Rattle.state.specs.Statuses.{is_normal, is_transfer, is_changing, no_reports};
-ghost use Rattle.state.specs.Answers.{refusal, completed};
+ghost use Rattle.state.specs.Answers.{refusal, completed, code_of, messages_written, replies_written, installed_of, offset_of_answer};
 
 use clock::Clock;
 use config::Setup;
-use frames::Status;
+use frames::{Refusal, Status};
 use numbers::{Op, View};
 
 // What is held of a replica: its DoViewChange, or in Recovering its RecoveryResponse. `view` is the last normal view of the one, the view of
@@ -47,48 +47,80 @@ pub struct Replica {
     pub reports: Reports,
 }
 
-// What a call answers: a refusal's number or 0, the state after it, how many bytes of messages and of replies it wrote, and whether it
-// installed a log.
+// What a call did that wasn't refused: how many bytes of messages and of replies it wrote, and whether it installed a log.
 #[derive(Clone, Copy)]
-pub struct Returned {
-    pub code: u8,
-    pub state: Replica,
+pub struct Output {
     pub messages: usize,
     pub replies: usize,
     pub installed: bool,
 }
 
+// What a call answers: the state after it, which a refused call hands back as well, and what it did.
+#[derive(Clone, Copy)]
+pub struct Returned {
+    pub state: Replica,
+    pub outcome: Result<Output, Refusal>,
+}
+
+// What the boundary and the programs tell of an answer in numbers.
+impl Returned {
+    // Document 01's number: 0 where the call is done.
+    // Kept: the number that C is told.
+    pub fn number(self) -> u8
+        ensures { result ≡ code_of self }
+    {
+        match self.outcome {
+            Ok(_) => 0,
+            Err(refusal) => u8::from(refusal),
+        }
+    }
+
+    pub fn messages(self) -> usize
+        ensures { result ≡ messages_written self }
+    {
+        self.outcome.map_or(0, |output| output.messages)
+    }
+
+    pub fn replies(self) -> usize
+        ensures { result ≡ replies_written self }
+    {
+        self.outcome.map_or(0, |output| output.replies)
+    }
+
+    // Whether a log was installed.
+    pub fn installed(self) -> bool
+        ensures { result ≡ installed_of self }
+    {
+        self.outcome.map_or(false, |output| output.installed)
+    }
+
+    // Of a malformed frame the offset of its first wrong byte, else 0.
+    pub fn offset(self) -> usize
+        ensures { result ≡ offset_of_answer self }
+    {
+        match self.outcome {
+            Err(Refusal::Malformed { offset }) => offset,
+            _ => 0,
+        }
+    }
+}
+
 pub fn is_normal(status: Status) -> bool
     ensures { result ≡ is_normal status }
 {
-    match status {
-        Status::Normal => true,
-        Status::StateTransfer => false,
-        Status::ViewChange => false,
-        Status::Recovering => false,
-    }
+    matches!(status, Status::Normal)
 }
 
 pub fn is_transfer(status: Status) -> bool
     ensures { result ≡ is_transfer status }
 {
-    match status {
-        Status::Normal => false,
-        Status::StateTransfer => true,
-        Status::ViewChange => false,
-        Status::Recovering => false,
-    }
+    matches!(status, Status::StateTransfer)
 }
 
 pub fn is_changing(status: Status) -> bool
     ensures { result ≡ is_changing status }
 {
-    match status {
-        Status::Normal => false,
-        Status::StateTransfer => false,
-        Status::ViewChange => true,
-        Status::Recovering => false,
-    }
+    matches!(status, Status::ViewChange)
 }
 
 // is_primary
@@ -96,8 +128,7 @@ pub fn is_primary(s: Replica) -> bool
     requires { 0 < s.setup.n }
     ensures { result ≡ leads s }
 {
-    let v = s.view;
-    s.setup.id == config::primary_id(s.setup.n, v)
+    s.setup.id == config::primary_id(s.setup.n, s.view)
 }
 
 // No report of anyone.
@@ -117,64 +148,38 @@ pub fn no_reports() -> Reports
 pub fn with_clock(s: Replica, c: Clock) -> Replica
     ensures { result ≡ with_clock s c }
 {
-    let mut t = s;
-    t.clock = c;
-    t
+    Replica { clock: c, ..s }
 }
 
 // heard_from_primary
 pub fn heard(s: Replica) -> Replica
     ensures { result ≡ heard_by s }
 {
-    let c = s.clock;
-    with_clock(s, c.heard().clock)
+    with_clock(s, s.clock.heard().clock)
 }
 
 pub fn with_status(s: Replica, status: Status) -> Replica
     ensures { result ≡ with_status s status }
 {
-    let setup = s.setup;
-    let view = s.view;
-    let normal = s.normal;
-    let op = s.op;
-    let commit = s.commit;
-    let clock = s.clock;
-    let reports = s.reports;
-    Replica {
-        setup,
-        status,
-        view,
-        normal,
-        catching: s.catching,
-        op,
-        commit,
-        takings: s.takings,
-        clock,
-        starts: s.starts,
-        sent: s.sent,
-        nonce: s.nonce,
-        reports,
-    }
+    Replica { status, ..s }
 }
 
 // Op and commit number.
 pub fn with_log(s: Replica, op: Op, commit: Op) -> Replica
     ensures { result ≡ with_log s op commit }
 {
-    let mut t = s;
-    t.op = op;
-    t.commit = commit;
-    t
+    Replica { op, commit, ..s }
 }
 
 // Commit number and takings: what commits change.
 pub fn with_commit(s: Replica, commit: Op, takings: u64) -> Replica
     ensures { result ≡ with_commit s commit takings }
 {
-    let mut t = s;
-    t.commit = commit;
-    t.takings = takings;
-    t
+    Replica {
+        commit,
+        takings,
+        ..s
+    }
 }
 
 // Another place and clock, and all that a view change gathered cleared.
@@ -188,24 +193,16 @@ fn moved(
 ) -> Replica
     ensures { result ≡ moved s status view normal catching clock }
 {
-    let setup = s.setup;
-    let op = s.op;
-    let commit = s.commit;
-    let reports = no_reports();
     Replica {
-        setup,
         status,
         view,
         normal,
         catching,
-        op,
-        commit,
-        takings: s.takings,
         clock,
         starts: 0,
         sent: false,
-        nonce: s.nonce,
-        reports,
+        reports: no_reports(),
+        ..s
     }
 }
 
@@ -213,34 +210,23 @@ fn moved(
 pub fn enter_normal(s: Replica, v: View) -> Replica
     ensures { result ≡ normal_in s v }
 {
-    let c = s.clock;
-    moved(s, Status::Normal, v, v, false, c.reset().clock)
+    moved(s, Status::Normal, v, v, false, s.clock.reset().clock)
 }
 
 // catch_up_with_view
 pub fn catching_up_in(s: Replica, v: View) -> Replica
     ensures { result ≡ catching_up_in s v }
 {
-    let c = s.clock;
-    let last = s.normal;
-    moved(s, Status::ViewChange, v, last, true, c.restart().clock)
+    let clock = s.clock.restart().clock;
+    moved(s, Status::ViewChange, v, s.normal, true, clock)
 }
 
 // start_view_change: attempts rise only from ViewChange.
 pub fn changing_to(s: Replica, v: View) -> Replica
     ensures { result ≡ changing_to s v }
 {
-    let c = s.clock;
-    let last = s.normal;
-    let status = s.status;
-    moved(
-        s,
-        Status::ViewChange,
-        v,
-        last,
-        false,
-        c.start(is_changing(status)).clock,
-    )
+    let clock = s.clock.start(is_changing(s.status)).clock;
+    moved(s, Status::ViewChange, v, s.normal, false, clock)
 }
 
 // start_view_change_from.insert, but for our own id
@@ -248,62 +234,53 @@ pub fn with_start(s: Replica, from: u8) -> Replica
     requires { from < 8 }
     ensures { result ≡ with_start s from }
 {
-    let mut t = s;
-    t.starts = config::insert_another(s.starts, s.setup.id, from);
-    t
+    Replica {
+        starts: config::insert_another(s.starts, s.setup.id, from),
+        ..s
+    }
 }
 
 // do_view_change_sent
 pub fn with_sent(s: Replica) -> Replica
     ensures { result ≡ with_sent s }
 {
-    let mut t = s;
-    t.sent = true;
-    t
+    Replica { sent: true, ..s }
 }
 
 pub fn with_reports(s: Replica, reports: Reports) -> Replica
     ensures { result ≡ with_reports s reports }
 {
-    let mut t = s;
-    t.reports = reports;
-    t
+    Replica { reports, ..s }
 }
 
 // A replica just created: in Normal, or in Recovering with the view and the nonce given.
 pub fn new(setup: Setup, status: Status, view: View, nonce: u64) -> Replica
     ensures { result ≡ new_in setup status view nonce }
 {
-    let op = Op(0);
-    let clock = clock::fresh();
-    let reports = no_reports();
     Replica {
         setup,
         status,
         view,
         normal: view,
         catching: false,
-        op,
-        commit: op,
+        op: Op(0),
+        commit: Op(0),
         takings: 0,
-        clock,
+        clock: clock::fresh(),
         starts: 0,
         sent: false,
         nonce,
-        reports,
+        reports: no_reports(),
     }
 }
 
-// A refusal: its number, and the state as it was.
-pub fn refused(code: u8, s: Replica) -> Returned
-    ensures { result ≡ refusal code s }
+// A refusal, and the state as it was.
+pub fn refused(cause: Refusal, s: Replica) -> Returned
+    ensures { result ≡ refusal cause s }
 {
     Returned {
-        code,
         state: s,
-        messages: 0,
-        replies: 0,
-        installed: false,
+        outcome: Err(cause),
     }
 }
 
@@ -312,10 +289,11 @@ pub fn done(s: Replica, messages: usize, replies: usize, installed: bool) -> Ret
     ensures { result ≡ completed s messages replies installed }
 {
     Returned {
-        code: 0,
         state: s,
-        messages,
-        replies,
-        installed,
+        outcome: Ok(Output {
+            messages,
+            replies,
+            installed,
+        }),
     }
 }

@@ -1,6 +1,6 @@
 -- Laws of the state's bytes.
 --     flag-byte, report-codec                         a flag as a byte, a report as a cell of 14
---     put-report, kept-length, fits_more, all-put     the reports, written one behind the other
+--     put-report, fits_more, all-put     the reports, written one behind the other
 --     front, front-takings, front_length              the bytes before the takings
 --     bytes-held, state-held                          a state that was written passes and is read back
 -- Assumes nothing.
@@ -21,7 +21,7 @@ use Rattle.numbers.specs.Numbers.{big, num, over}
 use Rattle.numbers.specs.Cells.{cells, packed, Codec}
 use Rattle.numbers.proofs.WordLaws.{if-false, and-true}
 use Rattle.numbers.proofs.NumberLaws.{be-big, length-big, num-front, num-drop, eq-or-not}
-use Rattle.numbers.proofs.RunLaws.{over-lend, length_over}
+use Rattle.numbers.proofs.RunLaws.{over-lend}
 use Rattle.numbers.proofs.CellLaws.{cells-one, packed-append, packed-length}
 use Rattle.frames.specs.declared.Status.{Status}
 use Rattle.frames.specs.declared.Status.TheVariants.{Normal, StateTransfer, ViewChange, Recovering}
@@ -95,11 +95,6 @@ module _ (t : Reports) (a : List ℕ) (seven : length t.rows ≡ 7) where
       let more : packed encode_report (take (i + 1) t.rows) ≡ w ++ packed encode_report (d ∷ []) =
       rw (add-one, take-suc t.rows i no_report (omega arith), e) (packed-append encode_report (take i t.rows) (get_or t.rows i no_report ∷ [])) in
       rw (more, append-nil (encode_report d)) (over-lend w (encode_report d) a (14 * i) (first-length i (omega arith)) p q)
-
-  pub kept-length : {cur : List ℕ} (i : ℕ) → i ≤ 7 → 98 ≤ length a → cur ≡ over (packed encode_report (take i t.rows)) a
-      → length cur ≡ length a
-  kept-length {cur} i h l p =
-      rw p (length_over (packed encode_report (take i t.rows)) a (omega (arith, first-length i h)))
 
   pub fits_more : (i : ℕ) → ((j : ℕ) → j < i → ReportFits (get_or t.rows j no_report)) → ReportFits (get_or t.rows i no_report)
       → (j : ℕ) → j < i + 1 → ReportFits (get_or t.rows j no_report)

@@ -2,4 +2,4 @@ pub mod ReadLaws
 pub mod LayoutLaws
 pub mod WholeLaws
 mod OnwardLaws
-mod QuietLaws
+pub mod QuietLaws

@@ -6,7 +6,7 @@
 -- Assumes nothing.
 use mathlib.Core.Path.{◌≡◌, refl, sym, ap, ◌∙◌}
 use mathlib.Core.Logic.{⊎_elim}
-use mathlib.Core.Bool.{Bool, true, false, not}
+use mathlib.Core.Bool.{Bool, true, false, not, false≢true}
 use mathlib.Core.List.{List, [], ◌∷◌, ◌++◌}
 use Prim.Native.Nat.{ℕ, zero, suc, ◌+◌, ◌*◌, ◌≤◌}
 use native.Mathlib.Omega.{arith}
@@ -22,7 +22,10 @@ use Rattle.numbers.proofs.NumberLaws.{eq-or-not}
 use Rattle.numbers.proofs.CellLaws.{cells-front}
 use Rattle.state.specs.Statuses.{no_reports}
 use Rattle.state.proofs.SoundLaws.{both}
-use Rattle.state_bytes.specs.Layout.{flag_ok, flag_of, report_in, encode_report, ReportFits, reports_of, all_reports_ok, all_zero, is_quiet, front_ok, state_ok, look_of}
+use Rattle.std.specs.Prelude.{Option, Some, None}
+use Rattle.state_bytes.specs.declared.Look.{Look}
+use Rattle.state_bytes.specs.declared.Look.TheVariants.{Quiet, Reporting}
+use Rattle.state_bytes.specs.Layout.{flag_ok, flag_of, report_in, encode_report, ReportFits, reports_of, all_reports_ok, all_zero, is_quiet, front_ok, state_ok, look_of, looks_quiet}
 use Rattle.state_bytes.proofs.LayoutLaws.{report-codec}
 
 from-least : (acc : ℕ) (bs : List ℕ) → acc ≤ be_from acc bs
@@ -113,16 +116,53 @@ quiet-reports s l h =
 
 -- ---- a look over a run
 
+none_bad : (a b : Bool) → (when not a then None else when b then Some Quiet else Some Reporting) ≡ None → a ≡ false
+unfolding when◌then◌else◌
+none_bad true true n = absurd (cc n)
+none_bad true false n = absurd (cc n)
+none_bad false b n = refl
+
+some-ok : (a b : Bool) {x : Look} → (when not a then None else when b then Some Quiet else Some Reporting) ≡ Some x → a ≡ true
+unfolding when◌then◌else◌
+some-ok true b n = refl
+some-ok false b n = absurd (cc n)
+
+quiet_some : (a b : Bool) (x : Look) → looks_quiet x ≡ true → (when not a then None else when b then Some Quiet else Some Reporting) ≡ Some x → b ≡ true
+unfolding when◌then◌else◌
+quiet_some a true x q n = refl
+quiet_some true false Quiet q n = absurd (cc n)
+quiet_some true false Reporting q n = absurd (false≢true q)
+quiet_some false false x q n = absurd (cc n)
+
 module _ (s : List ℕ) {f : Bool} (p : f ≡ front_ok s) where
-  pub look_none : not f ≡ true → (record { ok = false; quiet = false }) ≡ look_of s
-  unfolding state_ok ◌and◌
+  pub look_none : not f ≡ true → None ≡ look_of s
+  unfolding look_of state_ok when◌then◌else◌ ◌and◌
   look_none h = rw (← p, not-true f h)
 
   module _ (h : not f ≡ false) {q : Bool} (r : q ≡ is_quiet s) where
-    pub look-quiet : q ≡ true → (record { ok = true; quiet = true }) ≡ look_of s
-    unfolding state_ok ◌and◌
+    pub look-quiet : q ≡ true → Some Quiet ≡ look_of s
+    unfolding look_of state_ok when◌then◌else◌ ◌and◌
     look-quiet e = rw (← p, not-false f h, ← r, e, quiet-passes s (sym r ∙ e))
 
-    pub look-reports : q ≡ false → {o : Bool} → o ≡ all_reports_ok 7 (drop 48 s) → (record { ok = o; quiet = false }) ≡ look_of s
-    unfolding state_ok ◌and◌
-    look-reports e t = rw (← p, not-false f h, ← r, e, t)
+    module _ (e : q ≡ false) {o : Bool} (t : o ≡ all_reports_ok 7 (drop 48 s)) where
+      pub look-bad : not o ≡ true → None ≡ look_of s
+      unfolding look_of state_ok when◌then◌else◌ ◌and◌
+      look-bad n = rw (← p, not-false f h, ← t, not-true o n)
+
+      pub look-reports : not o ≡ false → Some Reporting ≡ look_of s
+      unfolding look_of state_ok when◌then◌else◌ ◌and◌
+      look-reports n = rw (← p, not-false f h, ← t, not-false o n, ← r, e)
+
+-- what it tells
+module _ (s : List ℕ) {l : Option Look} (e : l ≡ look_of s) where
+  pub looks-none : l ≡ None → state_ok s ≡ false
+  unfolding look_of
+  looks-none n = none_bad (state_ok s) (is_quiet s) (sym e ∙ n)
+
+  pub looks-ok : {x : Look} → l ≡ Some x → state_ok s ≡ true
+  unfolding look_of
+  looks-ok n = some-ok (state_ok s) (is_quiet s) (sym e ∙ n)
+
+  pub looks-quiet : {x : Look} → l ≡ Some x → looks_quiet x ≡ true → is_quiet s ≡ true
+  unfolding look_of
+  looks-quiet {x} n q = quiet_some (state_ok s) (is_quiet s) x q (sym e ∙ n)

@@ -2,7 +2,7 @@
 -- number 4, commit number 4; clock 8 (heard 1, waiting 4, stable 2, attempts 1); who asked for this view 1, DoViewChange sent 1, nonce 8; then for each of
 -- seven replica ids a report, 14: there 1, with a log 1, view 4, op number 4, commit number 4; takings 8. A status is 0 Normal, 1 StateTransfer, 2 ViewChange,
 -- 3 Recovering; a flag is 0 or 1. Any other number there is a byte without meaning, and refusal 1. Assumes nothing.
-use Rattle.std.specs.Prelude.{◌≡◌, Bool, true, false, not, List, [], ◌∷◌, ◌++◌, ℕ, zero, suc, ◌^◌, ◌<◌, eqb, leb, length, get_or, take, drop}
+use Rattle.std.specs.Prelude.{◌≡◌, Option, Some, None, Bool, true, false, not, List, [], ◌∷◌, ◌++◌, ℕ, zero, suc, ◌^◌, ◌<◌, eqb, leb, length, get_or, take, drop}
 use Rattle.numbers.specs.Words.{when◌then◌else◌, ◌and◌}
 use Rattle.numbers.specs.Numbers.{big, num, view_at, op_at}
 use Rattle.numbers.specs.Cells.{cells, packed}
@@ -18,6 +18,7 @@ use Rattle.state.specs.declared.Replica.{Replica}
 use Rattle.state.specs.declared.Report.{Report}
 use Rattle.state.specs.declared.Reports.{Reports}
 use Rattle.state_bytes.specs.declared.Look.{Look}
+use Rattle.state_bytes.specs.declared.Look.TheVariants.{Quiet, Reporting}
 
 -- flags
 unfoldable pub flag_ok : ℕ → Bool
@@ -185,9 +186,16 @@ front_ok s =
 unfoldable pub state_ok : List ℕ → Bool
 state_ok s = front_ok s and all_reports_ok 7 (drop 48 s)
 
--- what a look over a run tells: whether it holds a state, and whether it is then one without reports
-abbrev pub look_of : List ℕ → Look
-look_of s = record { ok = state_ok s; quiet = front_ok s and is_quiet s }
+-- what a look over a run tells: whether it holds a state, and whether that is then one without reports
+unfoldable pub look_of : List ℕ → Option Look
+look_of s =
+    when not (state_ok s) then None else
+    when is_quiet s then Some Quiet else
+    Some Reporting
+
+abbrev pub looks_quiet : Look → Bool
+looks_quiet Quiet = true
+looks_quiet Reporting = false
 
 -- A writer's promise: the run is the state's bytes, it passes, and the state is read back from it.
 pub record HoldsState (s : Replica) (run : List ℕ) : Type 0 where

@@ -1,7 +1,6 @@
-// A flag, one byte, and the status.
+// A flag, one byte, and the status of a number.
 ghost use Rattle.std.specs.Prelude.{◌≡◌, ◌+◌, ◌≤◌, length};
 ghost use Rattle.numbers.specs.Numbers.{over, big, num};
-ghost use Rattle.frames.specs.Looks.{status_number};
 ghost use Rattle.state_bytes.specs.Layout.{flag_ok, flag_of, flag_number, status_of};
 
 use frames::Status;
@@ -29,6 +28,7 @@ pub fn write_flag(area: &mut [u8], b: bool)
 }
 
 // Any number but 0 to 2 is read as Recovering; only 3 passes.
+// Kept: no TryFrom, since a byte that stands for no status is read too, as the rules of the run have it.
 pub fn status_of(k: u8) -> Status
     ensures { result ≡ status_of k }
 {
@@ -37,16 +37,5 @@ pub fn status_of(k: u8) -> Status
         1 => Status::StateTransfer,
         2 => Status::ViewChange,
         _ => Status::Recovering,
-    }
-}
-
-pub fn status_number(s: Status) -> u8
-    ensures { result ≡ status_number s }
-{
-    match s {
-        Status::Normal => 0,
-        Status::StateTransfer => 1,
-        Status::ViewChange => 2,
-        Status::Recovering => 3,
     }
 }

@@ -3,7 +3,7 @@
 
 ghost use Rattle.std.specs.Prelude.{◌≡◌, true, ◌≤◌, length};
 ghost use Rattle.numbers.specs.Numbers.{over};
-ghost use Rattle.state_bytes.specs.Layout.{state_with, state_of, encode_place, encode_votes, Onward, Clocked, state_ok, is_quiet, front_ok, look_of, HoldsState};
+ghost use Rattle.state_bytes.specs.Layout.{state_with, state_of, encode_place, encode_votes, Onward, Clocked, state_ok, is_quiet, front_ok, look_of, looks_quiet, HoldsState};
 
 use state::{Replica, Reports};
 
@@ -61,8 +61,7 @@ fn write_place(area: &mut [u8], s: Replica)
     requires { 18 ≤ length area.old }
     ensures { area.new ≡ over (encode_place s) area.old }
 {
-    let status = s.status;
-    numbers::write_u8(area, flag::status_number(status));
+    numbers::write_u8(area, u8::from(s.status));
     numbers::write_u32(&mut area[1..], s.view.0);
     numbers::write_u32(&mut area[5..], s.normal.0);
     flag::write_flag(&mut area[9..], s.catching);
@@ -101,8 +100,7 @@ pub fn write_onward(run: &mut [u8], s: Replica)
     requires { (state_ok run.old ≡ true) × Onward (state_of run.old) s }
     ensures { HoldsState s run.new }
 {
-    let status = s.status;
-    numbers::write_u8(&mut run[12..], flag::status_number(status));
+    numbers::write_u8(&mut run[12..], u8::from(s.status));
     numbers::write_u32(&mut run[22..], s.op.0);
     numbers::write_u32(&mut run[26..], s.commit.0);
     let clock = s.clock;
@@ -138,31 +136,36 @@ fn front_ok(run: &[u8]) -> bool
     flag::flag_ok(run, 39)
 }
 
-// What a look over a run tells: whether it is one that holds a state (its length, and no byte without meaning), and whether no report is there.
+// What a run that holds a state is: one without reports, or one whose reports are to be read.
 #[derive(Clone, Copy)]
-pub struct Look {
-    pub ok: bool,
-    pub quiet: bool,
+pub enum Look {
+    Quiet,
+    Reporting,
 }
 
-// The reports' bytes are looked at once for both.
-pub fn look_over(run: &[u8]) -> Look
+impl Look {
+    pub fn is_quiet(self) -> bool
+        ensures { result ≡ looks_quiet self }
+    {
+        match self {
+            Look::Quiet => true,
+            Look::Reporting => false,
+        }
+    }
+}
+
+// None: it holds no state, for its length or a byte without meaning. The reports' bytes are looked at once for both.
+pub fn look_over(run: &[u8]) -> Option<Look>
     ensures { result ≡ look_of run.now }
 {
     if !front_ok(run) {
-        return Look {
-            ok: false,
-            quiet: false,
-        };
+        return None;
     }
     if is_quiet(run) {
-        return Look {
-            ok: true,
-            quiet: true,
-        };
+        return Some(Look::Quiet);
     }
-    Look {
-        ok: part::reports_ok(run, 48),
-        quiet: false,
+    if !part::reports_ok(run, 48) {
+        return None;
     }
+    Some(Look::Reporting)
 }

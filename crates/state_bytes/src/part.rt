@@ -87,17 +87,14 @@ pub fn reports_ok(run: &[u8], at: usize) -> bool
     requires { at + 98 ≤ length run.now }
     ensures { result ≡ all_reports_ok 7 (drop at run.now) }
 {
-    let mut i: usize = 0;
-    let mut p = at;
-    while i < 7 {
+    for i in 0..7 {
+        let p = at + 14 * i;
         if !flag::flag_ok(run, p) {
             return false;
         }
         if !flag::flag_ok(run, p + 1) {
             return false;
         }
-        p += 14;
-        i += 1;
     }
     true
 }
@@ -107,12 +104,10 @@ pub fn is_zero(run: &[u8], at: usize) -> bool
     requires { at + 98 ≤ length run.now }
     ensures { result ≡ all_zero (take 98 (drop at run.now)) }
 {
-    let mut i: usize = 0;
-    while i < 12 {
+    for i in 0..12 {
         if numbers::read_u64(run, at + 8 * i) != 0 {
             return false;
         }
-        i += 1;
     }
     numbers::read_u16(run, at + 96) == 0
 }
@@ -140,9 +135,7 @@ pub fn write_reports(area: &mut [u8], t: Reports)
     requires { 98 ≤ length area.old }
     ensures { (area.new ≡ over (encode_reports t) area.old) × ReportsFit t }
 {
-    let mut i = 0;
-    while i < 7 {
-        write_report(&mut area[14 * i..], t.rows[i]);
-        i += 1;
+    for (i, d) in t.rows.iter().enumerate() {
+        write_report(&mut area[14 * i..], *d);
     }
 }

@@ -40,6 +40,7 @@ use Rattle.layout.specs.Shown.{Given, Grew, Did, Shown}
 use Rattle.model.proofs.BookLaws.{commit_all-log}
 use Rattle.layout.proofs.BookLift.{settle-lift}
 use Rattle.steps.proofs.StepLift.{of_left, book_runs, one-message}
+use Rattle.frames.specs.declared.Refusal.TheVariants.{NoRoomForMessages, NoRoomForReplies}
 
 -- the lent runs with other log, results and totals
 abbrev pub with_runs : LentRuns → Memory.Runs → LentRuns
@@ -108,7 +109,7 @@ module _ (c : Given) (t : Replica) (x : Memory.Runs) (table : List ClientEntry) 
   -- The step, where nothing was stored before it but what refusal 9 leaves alone.
   abbrev pub acknowledged : Left
   acknowledged =
-      when ltb (length c.out) 16 then left (refusal 9 c.state) (book_runs c.runs) c.out else committed_and_acked c.state t k installed x c.out
+      when ltb (length c.out) 16 then left (refusal NoRoomForMessages c.state) (book_runs c.runs) c.out else committed_and_acked c.state t k installed x c.out
 
   pub ack-shown : Grew b installed (commit_up_to before.book k.0)
       → Shown c (of_left c acknowledged) b (fitted (length c.out) (length c.reps) (done next (send_prepare_ok c.state.setup next) []))
@@ -118,5 +119,5 @@ module _ (c : Given) (t : Replica) (x : Memory.Runs) (table : List ClientEntry) 
       (λ _. refl)
       (λ f.
       subst (λ (a : Answer). Shown c (of_left c (committed_and_acked c.state t k installed x c.out)) b a)
-      (sym (if-false _ (refused 10) (done next (send_prepare_ok c.state.setup next) []) (le-ltb (length c.reps) 0 (omega arith))))
+      (sym (if-false _ (refused NoRoomForReplies) (done next (send_prepare_ok c.state.setup next) []) (le-ltb (length c.reps) 0 (omega arith))))
       (acked-did grew f))

@@ -36,6 +36,7 @@ use Rattle.layout.specs.Layout.{LentRuns, book_of, model_of}
 use Rattle.model.specs.Steps.{fitted}
 use Rattle.layout.specs.Shown.{Given, Step, Grew, Did, Shown}
 use Rattle.steps.proofs.StepLift.{of_spoke, quiet-shown, no-growth}
+use Rattle.frames.specs.declared.Refusal.TheVariants.{NoRoomForMessages, NoRoomForReplies}
 
 module _ (u : Setup) (x : Message) where
   module _ (log : List Entry) where
@@ -79,20 +80,20 @@ told-did c t x installed b m' same reads grew ms rs w y k j p l q n =
     }
 
 pub sends-only : (a b : ℕ) (m : State) (ms : List Sent)
-    → fitted a b (done m ms []) ≡ (when ltb a (length (messages_out ms)) then refused 9 else done m ms [])
+    → fitted a b (done m ms []) ≡ (when ltb a (length (messages_out ms)) then refused NoRoomForMessages else done m ms [])
 unfolding fitted replies_out packed
 sends-only a b m ms =
-    ap (λ (z : Answer). when ltb a (length (messages_out ms)) then refused 9 else z)
-    (if-false _ (refused 10) (done m ms []) (le-ltb b 0 (omega arith)))
+    ap (λ (z : Answer). when ltb a (length (messages_out ms)) then refused NoRoomForMessages else z)
+    (if-false _ (refused NoRoomForReplies) (done m ms []) (le-ltb b 0 (omega arith)))
 
 pub replies-only : (a b : ℕ) (m : State) (rs : List Reply)
-    → fitted a b (done m [] rs) ≡ (when ltb b (length (replies_out rs)) then refused 10 else done m [] rs)
+    → fitted a b (done m [] rs) ≡ (when ltb b (length (replies_out rs)) then refused NoRoomForReplies else done m [] rs)
 unfolding fitted messages_out packed
-replies-only a b m rs = if-false _ (refused 9) _ (le-ltb a 0 (omega arith))
+replies-only a b m rs = if-false _ (refused NoRoomForMessages) _ (le-ltb a 0 (omega arith))
 
 pub silent : (a b : ℕ) (m : State) → fitted a b (done m [] []) ≡ done m [] []
 unfolding replies_out packed
-silent a b m = replies-only a b m [] ∙ if-false _ (refused 10) (done m [] []) (le-ltb b 0 (omega arith))
+silent a b m = replies-only a b m [] ∙ if-false _ (refused NoRoomForReplies) (done m [] []) (le-ltb b 0 (omega arith))
 
 module _ (c : Given) (table : List ClientEntry) (applied : List Entry) where
   abbrev now : State

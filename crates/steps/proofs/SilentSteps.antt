@@ -13,6 +13,7 @@ use Rattle.steps.specs.declared.Accept.{Accept}
 use Rattle.steps.specs.declared.Accept.TheVariants.{Ignore, Hear, Join, Rejoin, Take}
 use Rattle.steps.proofs.ReplyLaws.{silent}
 use Rattle.book.specs.Memory.{Runs}
+use Rattle.state.specs.Answers.{replies_written}
 
 -- the area for replies is left alone by a call that counts none
 pub still : {reps : List ℕ} (count : ℕ) → count ≡ 0 → Replying reps reps count
@@ -21,7 +22,7 @@ still count e = rw e silent
 -- ---- messages alone
 
 abbrev pub Mute : Spoke → Type 0
-Mute d = d.answer.replies ≡ 0
+Mute d = replies_written d.answer ≡ 0
 
 pub asked-mute : (s t : Replica) (at : Op) (out : List ℕ) → Mute (asked_for_state s t at out)
 unfolding asked_for_state
@@ -42,7 +43,7 @@ deferred-mute Take s v out = refl
 -- ---- PrepareOk
 
 abbrev pub MuteLeft : Left → Type 0
-MuteLeft d = d.answer.replies ≡ 0
+MuteLeft d = replies_written d.answer ≡ 0
 
 pub acked-mute : (s t : Replica) (k : Op) (installed : Bool) (x : Runs) (out : List ℕ) → MuteLeft (committed_and_acked s t k installed x out)
 unfolding committed_and_acked

@@ -26,6 +26,7 @@ use Rattle.state.specs.declared.Replica.{Replica}
 use Rattle.steps.specs.declared.Accept.{Accept}
 use Rattle.steps.specs.declared.Accept.TheVariants.{Ignore, Hear, Join, Take}
 use Rattle.steps.specs.Steps.{Sound, spoke, left, accept_changing, accept_of, committed_to, settled, asked_for_state, prepare_ok_of, committed_and_acked}
+use Rattle.frames.specs.declared.Refusal.TheVariants.{NoRoomForMessages}
 
 -- accept_from_primary
 module _ (s : Replica) (v : View) where
@@ -93,7 +94,7 @@ module _ (s : Replica) (k : Op) (log results totals : List ℕ) where
 
 -- send_get_state
 module _ (s t : Replica) (at : Op) (out : List ℕ) where
-  pub asks-short : (a : Returned) → length out < 16 → a ≡ refusal 9 s → spoke a out ≡ asked_for_state s t at out
+  pub asks-short : (a : Returned) → length out < 16 → a ≡ refusal NoRoomForMessages s → spoke a out ≡ asked_for_state s t at out
   unfolding asked_for_state when◌then◌else◌
   asks-short a h p = rw (lt-ltb (length out) 16 h, p)
 
@@ -115,7 +116,7 @@ module _ (s : Replica) (out : List ℕ) where
 
 -- acknowledge
 module _ (s t : Replica) (k : Op) (installed : Bool) (x : Runs) (out : List ℕ) where
-  pub acks-short : (a : Returned) → length out < 16 → a ≡ refusal 9 s → left a x out ≡ committed_and_acked s t k installed x out
+  pub acks-short : (a : Returned) → length out < 16 → a ≡ refusal NoRoomForMessages s → left a x out ≡ committed_and_acked s t k installed x out
   unfolding committed_and_acked when◌then◌else◌
   acks-short a h p = rw (lt-ltb (length out) 16 h, p)
 

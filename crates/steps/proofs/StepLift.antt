@@ -54,6 +54,7 @@ use Rattle.model.specs.Steps.{fitted}
 use Rattle.layout.specs.Shown.{Given, Step, Grew, Did, Shown}
 use Rattle.layout.specs.Shown.Grew.{more}
 use Rattle.layout.proofs.RowLift.{none-and}
+use Rattle.frames.specs.declared.Refusal.TheVariants.{NoRoomForMessages, NoRoomForReplies}
 
 -- what a step that only sends leaves
 abbrev pub of_spoke : Given → Spoke → Step
@@ -82,14 +83,14 @@ module _ (c : Given) (t : Replica) (b : Book) (m' : State) (same : t.setup ≡ c
       }
 
   -- the model's answer without replies, where its messages fit
-  fits : (ms : List Sent) → (P : Answer → Type 0) → P (done m' ms []) → P (when ltb (length c.reps) (length (replies_out [])) then refused 10 else done m' ms [])
+  fits : (ms : List Sent) → (P : Answer → Type 0) → P (done m' ms []) → P (when ltb (length c.reps) (length (replies_out [])) then refused NoRoomForReplies else done m' ms [])
   unfolding replies_out packed
-  fits ms P h = rw (if-false _ (refused 10) (done m' ms []) (le-ltb (length c.reps) 0 (omega arith))) h
+  fits ms P h = rw (if-false _ (refused NoRoomForReplies) (done m' ms []) (le-ltb (length c.reps) 0 (omega arith))) h
 
   -- messages of k bytes go out, or refusal 9
   pub spoke-shown : (ms : List Sent) (w : List ℕ) (k : ℕ) → messages_out ms ≡ w → length w ≡ k
       → Shown c
-      (of_spoke c (when ltb (length c.out) k then spoke (refusal 9 c.state) c.out else spoke (completed t k 0 false) (over w c.out)))
+      (of_spoke c (when ltb (length c.out) k then spoke (refusal NoRoomForMessages c.state) c.out else spoke (completed t k 0 false) (over w c.out)))
       b
       (fitted (length c.out) (length c.reps) (done m' ms []))
   unfolding fitted
@@ -101,7 +102,7 @@ module _ (c : Given) (t : Replica) (b : Book) (m' : State) (same : t.setup ≡ c
   pub quiet-shown : Shown c (of_spoke c (spoke (quiet t) c.out)) b (fitted (length c.out) (length c.reps) (done m' [] []))
   unfolding fitted messages_out packed over
   quiet-shown =
-      rw (if-false _ (refused 9) _ (le-ltb (length c.out) 0 (omega arith)))
+      rw (if-false _ (refused NoRoomForMessages) _ (le-ltb (length c.out) 0 (omega arith)))
       (fits [] (Shown c (of_spoke c (spoke (quiet t) c.out)) b) (did [] [] 0 refl refl))
 
 -- one message, without a log

@@ -16,13 +16,14 @@ use Rattle.steps.specs.declared.Accept.{Accept}
 use Rattle.steps.specs.declared.Accept.TheVariants.{Ignore, Hear, Join, Rejoin, Take}
 use Rattle.steps.proofs.AreaLaws.{Answers, one-fits, done, no_room}
 use Rattle.book.specs.Memory.{Runs}
+use Rattle.state.specs.Answers.{code_of}
 
 -- `room` is the length of the area for replies
 module _ (u : Setup) (ok : setup_ok u ≡ true) (out : List ℕ) (room : ℕ) where
   -- ---- messages alone
 
   abbrev pub Spoken : Spoke → Type 0
-  Spoken d = Answers u (length out) room d.answer.code
+  Spoken d = Answers u (length out) room (code_of d.answer)
 
   pub asked-suffices : (s t : Replica) (at : Op) → Spoken (asked_for_state s t at out)
   unfolding asked_for_state
@@ -43,7 +44,7 @@ module _ (u : Setup) (ok : setup_ok u ≡ true) (out : List ℕ) (room : ℕ) wh
   -- ---- PrepareOk
 
   abbrev pub LeftBy : Left → Type 0
-  LeftBy d = Answers u (length out) room d.answer.code
+  LeftBy d = Answers u (length out) room (code_of d.answer)
 
   pub acked-suffices : (s t : Replica) (k : Op) (installed : Bool) (x : Runs) → LeftBy (committed_and_acked s t k installed x out)
   unfolding committed_and_acked

@@ -19,6 +19,7 @@ use Rattle.state.specs.declared.Returned.{Returned}
 use Rattle.state.specs.declared.Replica.{Replica}
 use Rattle.steps.specs.declared.Accept.{Accept}
 use Rattle.steps.specs.declared.Accept.TheVariants.{Ignore, Hear, Join, Rejoin, Take}
+use Rattle.frames.specs.declared.Refusal.TheVariants.{NoRoomForMessages}
 
 -- what refusal 1 leaves: the setup is inside the sizes, commit ≤ op number ≤ L, and each run has its length
 pub record Sound (s : Replica) (x : Runs) : Type 0 where
@@ -89,7 +90,7 @@ settled s k x =
 -- send_get_state from op `at` on, to the primary of the view of t, the state after it; s is the state as it was
 unfoldable pub asked_for_state : (s t : Replica) (at : Op) → List ℕ → Spoke
 asked_for_state s t at out =
-    when ltb (length out) 16 then spoke (refusal 9 s) out else
+    when ltb (length out) 16 then spoke (refusal NoRoomForMessages s) out else
     spoke (completed t 16 0 false) (over (encode (primary_of t.setup.n t.view) (GetState t.setup.id t.view at) []) out)
 
 -- state_transfer, by one who has heard
@@ -111,5 +112,5 @@ prepare_ok_of s = encode (primary_of s.setup.n s.view) (PrepareOk s.view s.op s.
 -- the state t commits up to k and acknowledges its op number; s is the state as it was
 unfoldable pub committed_and_acked : (s t : Replica) (k : Op) (installed : Bool) → Runs → List ℕ → Left
 committed_and_acked s t k installed x out =
-    when ltb (length out) 16 then left (refusal 9 s) x out else
+    when ltb (length out) 16 then left (refusal NoRoomForMessages s) x out else
     left (completed (committed_to t k x) 16 0 installed) (settled t k x) (over (prepare_ok_of (committed_to t k x)) out)

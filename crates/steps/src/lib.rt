@@ -7,7 +7,7 @@ ghost use Rattle.steps.specs.Steps.{Sound, spoke, left, accept_changing, is_take
 ghost use Rattle.steps.specs.AcceptNumber.{Accepts};
 ghost use Rattle.book.specs.Memory.{runs};
 
-use frames::Status;
+use frames::{Refusal, Status};
 use numbers::{Op, View};
 use state::{Replica, Returned};
 
@@ -96,7 +96,7 @@ pub fn ask_state(s: Replica, t: Replica, at: Op, out: &mut [u8]) -> Returned
     ensures { spoke result out.new ≡ asked_for_state s t at out.old }
 {
     if out.len() < 16 {
-        return state::refused(9, s);
+        return state::refused(Refusal::NoRoomForMessages, s);
     }
     let v = t.view;
     let to = config::primary_id(t.setup.n, v);
@@ -159,7 +159,7 @@ pub fn acknowledge(
     ensures { left result (runs log.now results.new totals.new) out.new ≡ committed_and_acked s t k installed (runs log.now results.old totals.old) out.old }
 {
     if out.len() < 16 {
-        return state::refused(9, s);
+        return state::refused(Refusal::NoRoomForMessages, s);
     }
     let u = commit_up_to(t, k, log, results, totals);
     let w = send_prepare_ok(u, out);

@@ -1,12 +1,12 @@
 // Text to a writer: bytes as they are, numbers in decimal, bytes in hexadecimal, names of kinds. And input, a block at a time.
 #![tactic(auto)]
 
-ghost use Rattle.std.specs.Prelude.{◌≡◌, ◌<◌, ◌≤◌, ◌++◌, true, length, OnOk, IfOk, take};
-ghost use Rattle.std.specs.Fmt.{decimal, digit_glyph};
+ghost use Rattle.std.specs.Prelude.{◌≡◌, ◌<◌, ◌≤◌, ◌++◌, length, OnOk, IfOk, Some, take};
+ghost use Rattle.std.specs.Fmt.{decimal};
 ghost use Rattle.std.specs.Io.KnownBytes.{Appends, Consumes, IsAtEnd};
 ghost use Rattle.text.specs.Text.{hex_pair, spaced_pairs, name_of_kind, kind_text};
 
-use std::io;
+use std::{fmt, io};
 
 pub fn say<W: io::Write>(writer: &mut W, s: &[u8]) -> io::Result<()>
     ensures { OnOk result (Appends (W.contents writer.old) (W.contents writer.new) s.now) }
@@ -28,21 +28,11 @@ pub fn labelled<W: io::Write>(writer: &mut W, s: &[u8], x: u64) -> io::Result<()
     decimal(writer, x)
 }
 
-fn digit(d: u8) -> u8
-    requires { d < 16 }
-    ensures { result ≡ digit_glyph true d }
-{
-    if d < 10 {
-        return 48 + d;
-    }
-    55 + d
-}
-
 // Two digits, the letters large, as document 01 writes bytes.
 pub fn hex_byte<W: io::Write>(writer: &mut W, b: u8) -> io::Result<()>
     ensures { OnOk result (Appends (W.contents writer.old) (W.contents writer.new) (hex_pair b)) }
 {
-    say(writer, &[digit(b / 16), digit(b % 16)])
+    write!(writer, "{b:02X}")
 }
 
 // The bytes of `s`, each after a space.
@@ -50,39 +40,44 @@ pub fn hex<W: io::Write>(writer: &mut W, s: &[u8]) -> io::Result<()>
     ensures { OnOk result (Appends (W.contents writer.old) (W.contents writer.new) (spaced_pairs s.now)) }
 {
     for b in s {
-        say(writer, b" ")?;
+        write!(writer, " ")?;
         hex_byte(writer, *b)?;
     }
     Ok(())
 }
 
 // Document 01's name of a kind.
-pub fn kind_name<W: io::Write>(writer: &mut W, kind: u8) -> io::Result<()>
-    ensures { OnOk result (Appends (W.contents writer.old) (W.contents writer.new) (name_of_kind kind)) }
+// Kept: a byte and not a `frames::Kind`, since `kind_name` has a name for every byte: 12 is a Reply, which is none of the eleven, and the others are no kind.
+pub fn kind_name(kind: u8) -> &'static str
+    ensures { result.now ≡ name_of_kind kind }
 {
     match kind {
-        1 => say(writer, b"Request"),
-        2 => say(writer, b"Prepare"),
-        3 => say(writer, b"PrepareOk"),
-        4 => say(writer, b"Commit"),
-        5 => say(writer, b"GetState"),
-        6 => say(writer, b"NewState"),
-        7 => say(writer, b"StartViewChange"),
-        8 => say(writer, b"DoViewChange"),
-        9 => say(writer, b"StartView"),
-        10 => say(writer, b"Recovery"),
-        11 => say(writer, b"RecoveryResponse"),
-        12 => say(writer, b"Reply"),
-        _ => say(writer, b"no kind"),
+        1 => "Request",
+        2 => "Prepare",
+        3 => "PrepareOk",
+        4 => "Commit",
+        5 => "GetState",
+        6 => "NewState",
+        7 => "StartViewChange",
+        8 => "DoViewChange",
+        9 => "StartView",
+        10 => "Recovery",
+        11 => "RecoveryResponse",
+        12 => "Reply",
+        _ => "no kind",
     }
 }
 
-pub fn kind<W: io::Write>(writer: &mut W, kind: u8) -> io::Result<()>
-    ensures { OnOk result (Appends (W.contents writer.old) (W.contents writer.new) (kind_text kind)) }
-{
-    labelled(writer, b"kind ", kind as u64)?;
-    say(writer, b" ")?;
-    kind_name(writer, kind)
+// A frame's byte that says its kind, shown by the number and the name.
+#[derive(Clone, Copy)]
+pub struct KindByte(pub u8);
+
+impl fmt::Display for KindByte {
+    ghost output = { λ k. Some (kind_text k.0) };
+
+    fn fmt<W: fmt::Write>(&self, f: &mut fmt::Formatter<W>) -> fmt::Result {
+        write!(f, "kind {} {}", self.0, kind_name(self.0))
+    }
 }
 
 // Reads until the area is full or the input ends, and says how many bytes came.
@@ -92,6 +87,7 @@ pub fn read_full<R: io::Read>(reader: &mut R, area: &mut [u8]) -> io::Result<usi
     ensures whole { IfOk result (λ n. n < length area.new → IsAtEnd (R.remaining reader.new)) }
 {
     let mut n = 0;
+    // Kept: how many bytes come a turn is the reader's to say.
     while n < area.len() {
         let more = reader.read(&mut area[n..])?;
         if more == 0 {

@@ -26,6 +26,7 @@ use Rattle.state.specs.declared.Returned.{Returned}
 use Rattle.state.specs.declared.Replica.{Replica}
 use Rattle.steps.specs.Steps.{spoke}
 use Rattle.transfer.specs.GetState.{Reading, answers, new_state_length, get_state_step}
+use Rattle.frames.specs.declared.Refusal.TheVariants.{NoRoomForMessages}
 
 -- whether it is answered
 module _ (s : Replica) (v : View) (o : Op) where
@@ -98,7 +99,7 @@ module _ (s : Replica) (from : ℕ) (v : View) (o : Op) (log out : List ℕ) whe
   unfolding get_state_step when◌then◌else◌
   unanswered a h p = rw (h, p)
 
-  pub short : (a : Returned) → not (answers s v o) ≡ false → length out < new_state_length s o → a ≡ refusal 9 s
+  pub short : (a : Returned) → not (answers s v o) ≡ false → length out < new_state_length s o → a ≡ refusal NoRoomForMessages s
       → spoke a out ≡ get_state_step s from v o log out
   unfolding get_state_step when◌then◌else◌
   short a h g p = rw (h, lt-ltb (length out) (new_state_length s o) g, p)

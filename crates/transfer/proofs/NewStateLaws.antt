@@ -30,6 +30,7 @@ use Rattle.transfer.specs.declared.Part.{Part}
 use Rattle.transfer.specs.declared.Use.{Use}
 use Rattle.transfer.specs.declared.Use.TheVariants.{Ignore, Hear, Fill, Install}
 use Rattle.transfer.specs.NewState.{PartPassed, transfer_use, change_use, use_of, extended, gap_filled, installed, by_use, new_state_step}
+use Rattle.frames.specs.declared.Refusal.TheVariants.{NotRising, NoRoomForMessages}
 
 -- ---- what it is used for
 
@@ -144,12 +145,12 @@ module _ (s : Replica) (x : Runs) (n k : ℕ) (part : List ℕ) (h : Sound s x) 
       })
 
 module _ (s t : Replica) (n k : ℕ) (p : Part) (whole : Bool) (part : List ℕ) (x : Runs) (out : List ℕ) where
-  pub breaks : (a : Returned) → not (rises_after (entries n x.log) (entries k part)) ≡ true → a ≡ refusal 6 s
+  pub breaks : (a : Returned) → not (rises_after (entries n x.log) (entries k part)) ≡ true → a ≡ refusal NotRising s
       → left a x out ≡ extended s t n k p whole part x out
   unfolding extended when◌then◌else◌
   breaks a h q = rw (h, q)
 
-  pub short : (a : Returned) → not (rises_after (entries n x.log) (entries k part)) ≡ false → length out < 16 → a ≡ refusal 9 s
+  pub short : (a : Returned) → not (rises_after (entries n x.log) (entries k part)) ≡ false → length out < 16 → a ≡ refusal NoRoomForMessages s
       → left a x out ≡ extended s t n k p whole part x out
   unfolding extended when◌then◌else◌
   short a h g q = rw (h, lt-ltb (length out) 16 g, q)

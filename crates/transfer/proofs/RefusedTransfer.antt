@@ -14,6 +14,7 @@ use Rattle.transfer.specs.declared.Use.{Use}
 use Rattle.transfer.specs.declared.Use.TheVariants.{Ignore, Hear, Fill, Install}
 use Rattle.book.specs.Memory.{Memory}
 use Rattle.steps.proofs.RefusedSteps.{Speaks, Leaves, done, refused, acked-done}
+use Rattle.frames.specs.declared.Refusal.TheVariants.{NoRoomForMessages, NotRising}
 
 module _ (s : Replica) (m : Memory) where
   -- ---- GetState
@@ -22,15 +23,15 @@ module _ (s : Replica) (m : Memory) where
   unfolding get_state_step
   get-state-untouched r v o =
       split (Speaks s m) _ _ _ (λ _. done s m refl) λ _.
-      split (Speaks s m) _ _ _ (λ _. refused s m 9) (λ _. done s m refl)
+      split (Speaks s m) _ _ _ (λ _. refused s m NoRoomForMessages) (λ _. done s m refl)
 
   -- ---- NewState
 
   extended-untouched : (t : Replica) (n k : ℕ) (p : Part) (i : Bool) (part : List ℕ) → Leaves s m (extended s t n k p i part m.runs m.out)
   unfolding extended
   extended-untouched t n k p i part =
-      split (Leaves s m) _ _ _ (λ _. refused s m 6) λ _.
-      split (Leaves s m) _ _ _ (λ _. refused s m 9) (λ e. done s m (acked-done s t p.commit i _ m.out e))
+      split (Leaves s m) _ _ _ (λ _. refused s m NotRising) λ _.
+      split (Leaves s m) _ _ _ (λ _. refused s m NoRoomForMessages) (λ e. done s m (acked-done s t p.commit i _ m.out e))
 
   use-untouched : (p : Part) (part : List ℕ) (u : Use) → Leaves s m (by_use u s p part m.runs m.out)
   unfolding by_use gap_filled installed

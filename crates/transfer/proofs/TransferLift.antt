@@ -62,6 +62,7 @@ use Rattle.steps.proofs.StepLift.{of_spoke, of_left, book_runs, spoke-shown, qui
 use Rattle.steps.proofs.StepLift.{ignore-shown, hear-shown}
 use Rattle.steps.proofs.AckLift.{with_runs, ack-shown}
 use Rattle.steps.proofs.SendLift.{message-log}
+use Rattle.frames.specs.declared.Refusal.TheVariants.{NotRising, NoRoomForMessages}
 
 -- tests one after the other, and joined
 three-tests : (a b d : Bool) → (when not a then false else when not b then false else d) ≡ (a and b and d)
@@ -203,7 +204,7 @@ module _ (c : Given) (table : List ClientEntry) (applied : List Entry) where
     -- a state t commits over the runs y and acknowledges; refusal 9 leaves all as it was
     abbrev extending : Replica → Memory.Runs → Bool → Left
     extending t y b =
-        when ltb (length c.out) 16 then left (refusal 9 c.state) x c.out else committed_and_acked c.state t p.commit b y c.out
+        when ltb (length c.out) 16 then left (refusal NoRoomForMessages c.state) x c.out else committed_and_acked c.state t p.commit b y c.out
 
     few : c.state.setup.n ≤ 7
     few = (sized c.state.setup h.sound.sized).seven
@@ -225,7 +226,7 @@ module _ (c : Given) (table : List ClientEntry) (applied : List Entry) where
     -- the model's answer where it appends fs
     abbrev filling : List Entry → Answer
     filling fs =
-        when not (rising (now.book.log ++ fs)) then refused 6 else
+        when not (rising (now.book.log ++ fs)) then refused NotRising else
         done (filled_gap now p.commit.0 fs) (send_prepare_ok c.state.setup (filled_gap now p.commit.0 fs)) []
 
     module _ (g : p.start.0 ≤ c.state.op.0) (l : c.state.op.0 < p.end.0) where
@@ -361,7 +362,7 @@ module _ (c : Given) (table : List ClientEntry) (applied : List Entry) where
       install-rises = sym (rises-lift c.state.op.0 c.state.commit.0 j c.runs.log part h.rises h.sound.commit-le)
 
       goal-install : Goal Install
-          (when not (rising (committed_then now es)) then refused 6 else
+          (when not (rising (committed_then now es)) then refused NotRising else
           done (caught_up c.state.setup now p.commit.0 es)
           (send_prepare_ok c.state.setup (caught_up c.state.setup now p.commit.0 es)) [])
       unfolding by_use installed extended fitted

@@ -13,6 +13,7 @@ use Rattle.state.specs.Answers.{refusal, completed, quiet}
 use Rattle.state.specs.Lengths.{log_length}
 use Rattle.state.specs.declared.Replica.{Replica}
 use Rattle.steps.specs.Steps.{Spoke, spoke}
+use Rattle.frames.specs.declared.Refusal.TheVariants.{NoRoomForMessages}
 
 -- what refusal 1 leaves, of the log
 pub record Reading (s : Replica) (log : ℕ) : Type 0 where
@@ -35,7 +36,7 @@ new_state_length s o = 23 + 32 * (s.op.0 - o.0)
 unfoldable pub get_state_step : Replica → (from : ℕ) → View → Op → (log out : List ℕ) → Spoke
 get_state_step s from v o log out =
     when not (answers s v o) then spoke (quiet s) out else
-    when ltb (length out) (new_state_length s o) then spoke (refusal 9 s) out else
+    when ltb (length out) (new_state_length s o) then spoke (refusal NoRoomForMessages s) out else
     spoke
     (completed s (new_state_length s o) 0 false)
     (over (encode from (NewState v o s.op s.commit) (take (32 * (s.op.0 - o.0)) (drop (entry_place o.0) log))) out)

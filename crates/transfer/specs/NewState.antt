@@ -17,6 +17,7 @@ use Rattle.transfer.specs.declared.Part.{Part}
 use Rattle.transfer.specs.declared.Use.{Use}
 use Rattle.transfer.specs.declared.Use.TheVariants.{Ignore, Hear, Fill, Install}
 use Rattle.numbers.specs.declared.Op.{Op}
+use Rattle.frames.specs.declared.Refusal.TheVariants.{NotRising, NoRoomForMessages}
 
 -- what refusals 2 to 5 on the frame alone leave
 pub record PartPassed (s : Replica) (p : Part) : Type 0 where
@@ -55,8 +56,8 @@ with_part n k part x = record { log = with_entries n (take (32 * k) part) x.log;
 -- The log's first n entries and then the k of `part`: refusal 6, then 9; then the state t commits and acknowledges.
 unfoldable pub extended : (s t : Replica) (n k : ℕ) → Part → (installed : Bool) (part : List ℕ) → Runs → List ℕ → Left
 extended s t n k p installed part x out =
-    when not (rises_after (entries n x.log) (entries k part)) then left (refusal 6 s) x out else
-    when ltb (length out) 16 then left (refusal 9 s) x out else
+    when not (rises_after (entries n x.log) (entries k part)) then left (refusal NotRising s) x out else
+    when ltb (length out) 16 then left (refusal NoRoomForMessages s) x out else
     committed_and_acked s t p.commit installed (with_part n k part x) out
 
 -- in StateTransfer: `rest` begins with the excess

@@ -3,6 +3,7 @@ ghost use Rattle.std.specs.Prelude.{◌≡◌, length};
 ghost use Rattle.steps.specs.Steps.{spoke};
 ghost use Rattle.transfer.specs.GetState.{Reading, answers, get_state_step};
 
+use frames::Refusal;
 use numbers::{Op, View};
 use state::{Replica, Returned};
 
@@ -30,7 +31,7 @@ pub fn on_get_state(s: Replica, from: u8, v: View, o: Op, log: &[u8], out: &mut 
     }
     let k = (s.op.0 - o.0) as usize;
     if out.len() < 23 + 32 * k {
-        return state::refused(9, s);
+        return state::refused(Refusal::NoRoomForMessages, s);
     }
     let op = s.op;
     let commit = s.commit;

@@ -6,7 +6,7 @@ ghost use Rattle.transfer.specs.NewState.{PartPassed, transfer_use, change_use, 
 ghost use Rattle.transfer.specs.UseNumber.{Uses};
 
 use crate::{Part, Use};
-use frames::Status;
+use frames::{Refusal, Status};
 use numbers::View;
 use state::{Replica, Returned};
 
@@ -68,10 +68,10 @@ fn fill(
     let n = s.op.0 as usize;
     let k = (p.end.0 - s.op.0) as usize;
     if !book::rises_after(log, n, rest, k) {
-        return state::refused(6, s); // our log with the excess is not rising
+        return state::refused(Refusal::NotRising, s); // our log with the excess is not rising
     }
     if out.len() < 16 {
-        return state::refused(9, s);
+        return state::refused(Refusal::NoRoomForMessages, s);
     }
     let commit = s.commit;
     let end = p.end;
@@ -101,10 +101,10 @@ fn install(
     let n = s.commit.0 as usize;
     let k = (p.end.0 - p.start.0) as usize;
     if !book::rises_after(log, n, part, k) {
-        return state::refused(6, s); // what is committed, with the part, is not rising
+        return state::refused(Refusal::NotRising, s); // what is committed, with the part, is not rising
     }
     if out.len() < 16 {
-        return state::refused(9, s);
+        return state::refused(Refusal::NoRoomForMessages, s);
     }
     let commit = s.commit;
     let end = p.end;

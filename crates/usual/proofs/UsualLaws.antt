@@ -2,6 +2,7 @@
 --     usual-onward       a usual frame: all but status, op and commit number, takings and whether the primary was heard
 --     leading-clocked    the tick of a Normal primary: all but the clock
 -- Assumes nothing.
+use Rattle.std.specs.Prelude.{Result, Ok, Err}
 use mathlib.Core.Path.{◌≡◌, refl, sym, subst}
 use mathlib.Core.Bool.{Bool, true, false≢true}
 use mathlib.Core.List.{List}
@@ -15,8 +16,7 @@ use Rattle.frames.specs.Kinds.{kind_of}
 use Rattle.numbers.proofs.WordLaws.{split}
 use Rattle.frames.specs.Messages.{message_of}
 use Rattle.frames.specs.declared.Message.{Message}
-use Rattle.frames.specs.declared.Checked.{Checked}
-use Rattle.frames.specs.declared.Checked.TheVariants.{Passed, Refused}
+use Rattle.frames.specs.declared.Refusal.{Refusal}
 use Rattle.frames.proofs.RefusalLaws.{passed}
 use Rattle.client_table.specs.declared.Latest.{Latest}
 use Rattle.state.specs.State.{leads}
@@ -78,10 +78,10 @@ module _ (s : Replica) (n : is_normal s.status ≡ true) (frame : List ℕ) (u :
   abbrev Leaves : Called → Type 0
   Leaves d = Onward s d.answer.state
 
-  checked-onward : (j : Checked) → checked_of s (lengths_of x) frame ≡ j → Leaves (checked_call j s frame x)
+  checked-onward : (j : Result Message Refusal) → checked_of s (lengths_of x) frame ≡ j → Leaves (checked_call j s frame x)
   unfolding checked_call
-  checked-onward (Refused k p) e = refl
-  checked-onward (Passed m) e =
+  checked-onward (Err k) e = refl
+  checked-onward (Ok m) e =
       let latest = latest_for m s.setup.room x.table in
       let q : m ≡ message_of (kind_of frame) frame = (passed s.setup frame m (passed_is s (lengths_of x) frame m e).1).said.message in
       subst (λ (a : Returned). Onward s a.state) (sym (followed-answer s x.table _))

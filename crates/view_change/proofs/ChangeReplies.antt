@@ -13,6 +13,7 @@ use Rattle.view_change.specs.StartView as StartView
 use Rattle.view_change.specs.StartView.{sent_start_view, Joined, joined_by, start_view_step}
 use Rattle.view_change.specs.declared.StartViewVerdict.{StartViewVerdict}
 use Rattle.view_change.specs.declared.StartViewVerdict.TheVariants as Verdicts
+use Rattle.state.specs.Answers.{replies_written}
 
 -- ---- messages alone
 
@@ -27,7 +28,7 @@ sent-start-view-mute s to log out = split Mute _ _ _ (λ _. refl) (λ _. refl)
 -- ---- StartView
 
 abbrev MuteJoined : Joined → Type 0
-MuteJoined d = d.answer.replies ≡ 0
+MuteJoined d = replies_written d.answer ≡ 0
 
 module _ (s : Replica) (v : View) (o c : Op) (part : List ℕ) (x : Runs) (acks out : List ℕ) where
   verdict-mute : (d : StartViewVerdict) → MuteJoined (StartView.by_start_view_verdict d s v o c part x acks out)
@@ -36,6 +37,6 @@ module _ (s : Replica) (v : View) (o c : Op) (part : List ℕ) (x : Runs) (acks 
   verdict-mute Verdicts.Refuse = refl
   verdict-mute Verdicts.Join = split MuteJoined _ _ _ (λ _. refl) (λ _. acked-mute s _ c _ _ out)
 
-  pub start-view-mute : (start_view_step s v o c part x acks out).answer.replies ≡ 0
+  pub start-view-mute : (replies_written (start_view_step s v o c part x acks out).answer) ≡ 0
   unfolding start_view_step
   start-view-mute = verdict-mute (StartView.start_view_verdict s v o part x.log)

@@ -19,6 +19,7 @@ use Rattle.view_change.specs.StartView as StartView
 use Rattle.view_change.specs.StartView.{start_view_length, sent_start_view, Joined, joined_by, start_view_step}
 use Rattle.view_change.specs.declared.StartViewVerdict.{StartViewVerdict}
 use Rattle.view_change.specs.declared.StartViewVerdict.TheVariants as Verdicts
+use Rattle.state.specs.Answers.{code_of}
 
 pub calls-fit : (t : Replica) → setup_ok t.setup ≡ true → calls_length t ≤ out_length t.setup
 calls-fit t ok = omega (arith, each_fits t.setup ok 12 (omega arith))
@@ -41,7 +42,7 @@ module _ (out : List ℕ) (room : ℕ) where
     -- ---- StartView
 
     abbrev Joins : Joined → Type 0
-    Joins d = Answers s.setup (length out) room d.answer.code
+    Joins d = Answers s.setup (length out) room (code_of d.answer)
 
     module _ (v : View) (o c : Op) (part : List ℕ) (x : Runs) (acks : List ℕ) where
       verdict-suffices : (d : StartViewVerdict) → Joins (StartView.by_start_view_verdict d s v o c part x acks out)

@@ -14,17 +14,18 @@ use Rattle.view_change.specs.StartView as StartView
 use Rattle.view_change.specs.declared.StartViewVerdict.{StartViewVerdict}
 use Rattle.view_change.specs.declared.StartViewVerdict.TheVariants as Verdicts
 use Rattle.steps.proofs.RefusedSteps.{Untouched, Speaks, done, refused, acked-done}
+use Rattle.frames.specs.declared.Refusal.TheVariants.{NoRoomForMessages, Uncommits}
 
 module _ (s : Replica) (m : Memory) where
   -- ---- messages alone
 
   pub started-untouched : (t : Replica) (v : View) → Speaks s m (started_change s t v m.out)
   unfolding started_change
-  started-untouched t v = split (Speaks s m) _ _ _ (λ _. refused s m 9) (λ _. done s m refl)
+  started-untouched t v = split (Speaks s m) _ _ _ (λ _. refused s m NoRoomForMessages) (λ _. done s m refl)
 
   pub sent-start-view-untouched : (to : ℕ) (log : List ℕ) → Speaks s m (sent_start_view s to log m.out)
   unfolding sent_start_view
-  sent-start-view-untouched to log = split (Speaks s m) _ _ _ (λ _. refused s m 9) (λ _. done s m refl)
+  sent-start-view-untouched to log = split (Speaks s m) _ _ _ (λ _. refused s m NoRoomForMessages) (λ _. done s m refl)
 
   -- ---- StartView
 
@@ -35,9 +36,9 @@ module _ (s : Replica) (m : Memory) where
       → Joins (StartView.by_start_view_verdict d s v o c part m.runs m.acks m.out)
   unfolding StartView.by_start_view_verdict joined_by
   verdict-untouched v o c part Verdicts.Ignore = done s m refl
-  verdict-untouched v o c part Verdicts.Refuse = refused s m 7
+  verdict-untouched v o c part Verdicts.Refuse = refused s m Uncommits
   verdict-untouched v o c part Verdicts.Join =
-      split Joins _ _ _ (λ _. refused s m 9) (λ e. done s m (acked-done s _ c true _ m.out e))
+      split Joins _ _ _ (λ _. refused s m NoRoomForMessages) (λ e. done s m (acked-done s _ c true _ m.out e))
 
   pub start-view-untouched : (v : View) (o c : Op) (part : List ℕ) → Joins (start_view_step s v o c part m.runs m.acks m.out)
   unfolding start_view_step

@@ -18,6 +18,7 @@ use Rattle.state.specs.declared.Returned.{Returned}
 use Rattle.state.specs.declared.Replica.{Replica}
 use Rattle.steps.specs.Steps.{spoke}
 use Rattle.view_change.specs.StartViewChange.{calls_length, calls_of, started_change}
+use Rattle.frames.specs.declared.Refusal.TheVariants.{NoRoomForMessages}
 
 module _ (s : Replica) (v : View) (ok : setup_ok s.setup ≡ true) where
   pub calls-fit : (n area : ℕ) → calls_length s ≤ area
@@ -33,7 +34,7 @@ module _ (s : Replica) (v : View) (ok : setup_ok s.setup ≡ true) where
   calls-long = bare-long s.setup ok (StartViewChange v s.setup.id) refl
 
 module _ (s t : Replica) (v : View) (out : List ℕ) where
-  pub changes-short : (a : Returned) → length out < calls_length t → a ≡ refusal 9 s → spoke a out ≡ started_change s t v out
+  pub changes-short : (a : Returned) → length out < calls_length t → a ≡ refusal NoRoomForMessages s → spoke a out ≡ started_change s t v out
   unfolding started_change when◌then◌else◌
   changes-short a h p = rw (lt-ltb (length out) (calls_length t) h, p)
 

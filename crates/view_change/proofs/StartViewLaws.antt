@@ -31,11 +31,12 @@ use Rattle.book.specs.Memory.{Runs, runs}
 use Rattle.view_change.specs.declared.StartViewVerdict.{StartViewVerdict}
 use Rattle.view_change.specs.declared.StartViewVerdict.TheVariants.{Ignore, Refuse, Join}
 use Rattle.view_change.specs.StartView.{LogHeld, LogPassed, start_view_length, sent_start_view, keep_verdict, start_view_verdict, Joined, joined, joined_by, by_start_view_verdict, start_view_step}
+use Rattle.frames.specs.declared.Refusal.TheVariants.{Uncommits, NoRoomForMessages}
 
 -- ---- send_start_view
 
 module _ (s : Replica) (to : ℕ) (log out : List ℕ) where
-  pub sends-short : (a : Returned) → length out < start_view_length s → a ≡ refusal 9 s → spoke a out ≡ sent_start_view s to log out
+  pub sends-short : (a : Returned) → length out < start_view_length s → a ≡ refusal NoRoomForMessages s → spoke a out ≡ sent_start_view s to log out
   unfolding sent_start_view when◌then◌else◌
   sends-short a h p = rw (lt-ltb (length out) (start_view_length s) h, p)
 
@@ -124,7 +125,7 @@ module _ (s : Replica) (v : View) (o c : Op) (part log results totals acks out :
   abbrev x : Runs
   x = runs log results totals
 
-  pub joins-short : (a : Returned) → length out < 16 → a ≡ refusal 9 s → joined a (runs log results totals) acks out ≡ joined_by s v o c part (runs log results totals) acks out
+  pub joins-short : (a : Returned) → length out < 16 → a ≡ refusal NoRoomForMessages s → joined a (runs log results totals) acks out ≡ joined_by s v o c part (runs log results totals) acks out
   unfolding joined_by when◌then◌else◌
   joins-short a h p = rw (lt-ltb (length out) 16 h, p)
 
@@ -167,7 +168,7 @@ module _ (s : Replica) (v : View) (o c : Op) (part log results totals acks out :
     unfolding start_view_step by_start_view_verdict
     does-nothing a e q = rw (← p, e, q)
 
-    pub refuses : (a : Returned) → j ≡ Refuse → a ≡ refusal 7 s → joined a (runs log results totals) acks out ≡ start_view_step s v o c part (runs log results totals) acks out
+    pub refuses : (a : Returned) → j ≡ Refuse → a ≡ refusal Uncommits s → joined a (runs log results totals) acks out ≡ start_view_step s v o c part (runs log results totals) acks out
     unfolding start_view_step by_start_view_verdict
     refuses a e q = rw (← p, e, q)
 

@@ -62,6 +62,7 @@ use Rattle.steps.proofs.StepLift.{of_spoke, book_runs, spoke-shown, no-growth, r
 use Rattle.steps.proofs.AckLift.{with_runs, ok-long, acked-did}
 use Rattle.steps.proofs.SendLift.{bare-bytes, sends-only, still-reads, idle-shown, message-log}
 use Rattle.numbers.proofs.RunLaws.{over-all}
+use Rattle.frames.specs.declared.Refusal.TheVariants.{Uncommits}
 
 -- ---- start_view_change
 
@@ -231,7 +232,7 @@ module _ (c : Given) (table : List ClientEntry) (applied : List Entry) (v : View
   unfolding by_start_view_verdict
   goal-ignore = idle-shown c table applied
 
-  goal-refuse : Goal Refuse (refused 7)
+  goal-refuse : Goal Refuse (refused Uncommits)
   unfolding by_start_view_verdict fitted
   goal-refuse = refl
 
@@ -318,7 +319,7 @@ module _ (c : Given) (table : List ClientEntry) (applied : List Entry) (v : View
   -- the model's answer to one that is new
   abbrev taken : Answer
   taken =
-      when not (agree was.book.commit es was.book.log) then refused 7 else
+      when not (agree was.book.commit es was.book.log) then refused Uncommits else
       done after (send_prepare_ok c.state.setup after) []
 
   goal-keep : Goal (keep_verdict c.state o part c.runs.log) taken

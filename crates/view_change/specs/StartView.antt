@@ -20,6 +20,7 @@ use Rattle.book.specs.Memory.{Runs, Memory}
 use Rattle.view_change.specs.declared.StartViewVerdict.{StartViewVerdict}
 use Rattle.view_change.specs.declared.StartViewVerdict.TheVariants.{Ignore, Refuse, Join}
 use Rattle.steps.specs.Recorded.{Recorded, recorded}
+use Rattle.frames.specs.declared.Refusal.TheVariants.{Uncommits, NoRoomForMessages}
 
 -- what refusal 1 leaves, of the log
 pub record LogHeld (s : Replica) (log : ℕ) : Type 0 where
@@ -39,7 +40,7 @@ start_view_length s = 19 + 32 * s.op.0
 -- send_start_view, to one replica
 unfoldable pub sent_start_view : Replica → (to : ℕ) (log out : List ℕ) → Spoke
 sent_start_view s to log out =
-    when ltb (length out) (start_view_length s) then spoke (refusal 9 s) out else
+    when ltb (length out) (start_view_length s) then spoke (refusal NoRoomForMessages s) out else
     spoke
     (completed s (start_view_length s) 0 false)
     (over (encode to (StartView s.view s.op s.commit) (take (32 * s.op.0) log)) out)
@@ -80,12 +81,12 @@ clearing s acks d = joined d.answer d.runs (over (replicate s.setup.room 0) acks
 -- install_log, acks cleared, commit, PrepareOk
 unfoldable pub joined_by : Replica → View → (o c : Op) (part : List ℕ) → Runs → (acks out : List ℕ) → Joined
 joined_by s v o c part x acks out =
-    when ltb (length out) 16 then joined (refusal 9 s) x acks out else
+    when ltb (length out) 16 then joined (refusal NoRoomForMessages s) x acks out else
     clearing s acks (committed_and_acked s (with_log (normal_in s v) o s.commit) c true (with_log_of o part x) out)
 
 unfoldable pub by_start_view_verdict : StartViewVerdict → Replica → View → (o c : Op) (part : List ℕ) → Runs → (acks out : List ℕ) → Joined
 by_start_view_verdict Ignore s v o c part x acks out = joined (quiet s) x acks out
-by_start_view_verdict Refuse s v o c part x acks out = joined (refusal 7 s) x acks out
+by_start_view_verdict Refuse s v o c part x acks out = joined (refusal Uncommits s) x acks out
 by_start_view_verdict Join s v o c part x acks out = joined_by s v o c part x acks out
 
 -- on_start_view; `part` begins with the o entries that it carries

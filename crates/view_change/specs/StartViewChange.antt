@@ -10,6 +10,7 @@ use Rattle.state.specs.State.{changing_to}
 use Rattle.state.specs.Answers.{refusal, completed}
 use Rattle.state.specs.declared.Replica.{Replica}
 use Rattle.steps.specs.Steps.{Spoke, spoke}
+use Rattle.frames.specs.declared.Refusal.TheVariants.{NoRoomForMessages}
 
 -- StartViewChange to all others
 abbrev pub calls_length : Replica → ℕ
@@ -21,5 +22,5 @@ calls_of s v = to_others s.setup.n s.setup.id (StartViewChange v s.setup.id) []
 -- start_view_change from state t; s is the state as it was
 unfoldable pub started_change : (s t : Replica) → View → List ℕ → Spoke
 started_change s t v out =
-    when ltb (length out) (calls_length t) then spoke (refusal 9 s) out else
+    when ltb (length out) (calls_length t) then spoke (refusal NoRoomForMessages s) out else
     spoke (completed (changing_to t v) (calls_length t) 0 false) (over (calls_of t v) out)

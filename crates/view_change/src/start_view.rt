@@ -7,6 +7,7 @@ ghost use Rattle.view_change.specs.StartView.{LogHeld, LogPassed, start_view_len
 ghost use Rattle.view_change.specs.StartViewNumber.{WeighsStartView};
 
 use crate::StartViewVerdict;
+use frames::Refusal;
 use numbers::{Op, View};
 use state::{Replica, Returned};
 
@@ -16,7 +17,7 @@ pub fn send_start_view(s: Replica, to: u8, log: &[u8], out: &mut [u8]) -> Return
     ensures { spoke result out.new ≡ sent_start_view s to log.now out.old }
 {
     if out.len() < 19 + 32 * (s.op.0 as usize) {
-        return state::refused(9, s);
+        return state::refused(Refusal::NoRoomForMessages, s);
     }
     let v = s.view;
     let op = s.op;
@@ -71,7 +72,7 @@ fn join(
     ensures { joined result (runs log.new results.new totals.new) acks.new out.new ≡ joined_by s v o c part.now (runs log.old results.old totals.old) acks.old out.old }
 {
     if out.len() < 16 {
-        return state::refused(9, s);
+        return state::refused(Refusal::NoRoomForMessages, s);
     }
     let commit = s.commit;
     let t = state::with_log(state::enter_normal(s, v), o, commit);
@@ -98,7 +99,7 @@ pub fn on_start_view(
 {
     match weigh(s, v, o, part, log) {
         StartViewVerdict::Ignore => state::done(s, 0, 0, false),
-        StartViewVerdict::Refuse => state::refused(7, s),
+        StartViewVerdict::Refuse => state::refused(Refusal::Uncommits, s),
         StartViewVerdict::Join => join(s, v, o, c, part, log, results, totals, acks, out),
     }
 }

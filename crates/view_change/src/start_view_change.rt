@@ -5,7 +5,7 @@ ghost use Rattle.config.specs.Setup.{setup_ok};
 ghost use Rattle.steps.specs.Steps.{spoke};
 ghost use Rattle.view_change.specs.StartViewChange.{calls_length, calls_of, started_change};
 
-use frames::Message;
+use frames::{Message, Refusal};
 use numbers::View;
 use state::{Replica, Returned};
 
@@ -27,7 +27,7 @@ pub fn start_view_change(s: Replica, t: Replica, v: View, out: &mut [u8]) -> Ret
     ensures { spoke result out.new ≡ started_change s t v out.old }
 {
     if out.len() < 12 * (t.setup.n as usize - 1) {
-        return state::refused(9, s);
+        return state::refused(Refusal::NoRoomForMessages, s);
     }
     let w = call_others(t, v, out);
     state::done(state::changing_to(t, v), w, 0, false)

@@ -13,13 +13,14 @@ use Rattle.voting.specs.Tick.{next_view, next_view_asking, repeated, change_tick
 use Rattle.steps.proofs.RefusedSteps.{Untouched, Speaks, done, refused, asked-untouched}
 use Rattle.view_change.proofs.RefusedChange.{started-untouched, sent-start-view-untouched}
 use Rattle.do_view_change.proofs.RefusedRecord.{send-untouched}
+use Rattle.frames.specs.declared.Refusal.TheVariants.{LastView, NoRoomForMessages}
 
 module _ (s : Replica) (m : Memory) where
   -- ---- StartViewChange
 
   called-untouched : (t : Replica) (first : Bool) → Speaks s m (sent_first s t first m.out)
   unfolding sent_first
-  called-untouched t first = split (Speaks s m) _ _ _ (λ _. refused s m 9) (λ _. done s m refl)
+  called-untouched t first = split (Speaks s m) _ _ _ (λ _. refused s m NoRoomForMessages) (λ _. done s m refl)
 
   maybe-untouched : (t : Replica) (first : Bool) → Untouched s m (maybe_step s t first m)
   unfolding maybe_step
@@ -43,13 +44,13 @@ module _ (s : Replica) (m : Memory) where
   module _ (c : Clock) where
     pub next-view-untouched : Speaks s m (next_view s c m.out)
     unfolding next_view
-    next-view-untouched = split (Speaks s m) _ _ _ (λ _. refused s m 8) (λ _. started-untouched s m _ _)
+    next-view-untouched = split (Speaks s m) _ _ _ (λ _. refused s m LastView) (λ _. started-untouched s m _ _)
 
     pub next-view-asking-untouched : Speaks s m (next_view_asking s c m.out)
     unfolding next_view_asking
     next-view-asking-untouched =
-        split (Speaks s m) _ _ _ (λ _. refused s m 8) λ _.
-        split (Speaks s m) _ _ _ (λ _. refused s m 9) (λ _. done s m refl)
+        split (Speaks s m) _ _ _ (λ _. refused s m LastView) λ _.
+        split (Speaks s m) _ _ _ (λ _. refused s m NoRoomForMessages) (λ _. done s m refl)
 
     repeated-untouched : Untouched s m (repeated s c m)
     unfolding repeated

@@ -32,6 +32,7 @@ use Rattle.do_view_change.specs.Record.{send_step}
 use Rattle.book.specs.Memory.{Memory}
 use Rattle.voting.specs.Votes.{sent_first}
 use Rattle.voting.specs.Tick.{view_after, in_last_view, next_view, asked_and_called, next_view_asking, repeated, change_tick}
+use Rattle.frames.specs.declared.Refusal.TheVariants.{LastView, NoRoomForMessages}
 
 -- another clock: the setup is as it was
 pub clocked-sized : (s : Replica) (c : Clock) (t : Replica) → t ≡ with_clock s c → setup_ok s.setup ≡ true → setup_ok t.setup ≡ true
@@ -40,11 +41,11 @@ clocked-sized s c t e ok = subst (λ (x : Replica). setup_ok x.setup ≡ true) (
 -- ---- the wait is over
 
 module _ (s : Replica) (c : Clock) (out : List ℕ) (b : Bool) (eb : b ≡ in_last_view s) where
-  pub last_view : b ≡ true → (a : Returned) → a ≡ refusal 8 s → spoke a out ≡ next_view s c out
+  pub last_view : b ≡ true → (a : Returned) → a ≡ refusal LastView s → spoke a out ≡ next_view s c out
   unfolding next_view
   last_view h a p = ap (λ (x : Returned). spoke x out) p ∙ sym (if-true _ _ _ (sym eb ∙ h))
 
-  pub none_after : b ≡ true → (a : Returned) → a ≡ refusal 8 s → spoke a out ≡ next_view_asking s c out
+  pub none_after : b ≡ true → (a : Returned) → a ≡ refusal LastView s → spoke a out ≡ next_view_asking s c out
   unfolding next_view_asking
   none_after h a p = ap (λ (x : Returned). spoke x out) p ∙ sym (if-true _ _ _ (sym eb ∙ h))
 
@@ -57,7 +58,7 @@ module _ (s : Replica) (c : Clock) (out : List ℕ) (b : Bool) (eb : b ≡ in_la
     unfolding next_view
     next-view t d e p = p ∙ (λ i. started_change s (e i) (view_after s) out) ∙ sym (if-false _ _ _ (sym eb ∙ h))
 
-    pub asking-short : (a : Returned) → length out < 16 + calls_length s → a ≡ refusal 9 s → spoke a out ≡ next_view_asking s c out
+    pub asking-short : (a : Returned) → length out < 16 + calls_length s → a ≡ refusal NoRoomForMessages s → spoke a out ≡ next_view_asking s c out
     unfolding next_view_asking
     asking-short a l p =
         ap (λ (x : Returned). spoke x out) p

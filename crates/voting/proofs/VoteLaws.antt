@@ -38,11 +38,12 @@ use Rattle.book.specs.Memory.{Memory}
 use Rattle.do_view_change.proofs.BeginLaws.{first-long}
 use Rattle.do_view_change.proofs.TellLaws.{moved-gathers}
 use Rattle.voting.specs.Votes.{sent_first, report_due, maybe_step, same_view, start_view_change_step}
+use Rattle.frames.specs.declared.Refusal.TheVariants.{NoRoomForMessages}
 
 -- ---- only what goes out first
 
 module _ (s t : Replica) (first : Bool) (out : List ℕ) (k : ℕ) (ek : k ≡ first_length first t) where
-  pub calls-short : (a : Returned) → length out < k → a ≡ refusal 9 s → spoke a out ≡ sent_first s t first out
+  pub calls-short : (a : Returned) → length out < k → a ≡ refusal NoRoomForMessages s → spoke a out ≡ sent_first s t first out
   unfolding sent_first when◌then◌else◌
   calls-short a h p = rw (← ek, lt-ltb (length out) k h, p)
 

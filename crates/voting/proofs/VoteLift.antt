@@ -55,6 +55,7 @@ use Rattle.do_view_change.proofs.BeginLift.{memory_of, of_recorded, Changing, Fi
 use Rattle.do_view_change.proofs.DoViewChangeLift.{first-none, first-calls, changing-on, changing-stored, said-shown, send-shown}
 use Rattle.do_view_change.proofs.DoViewChangeLift.{holding, change-reads}
 use Rattle.reports.proofs.StoredLift.{StoredOk}
+use Rattle.frames.specs.declared.Refusal.TheVariants.{NoRoomForMessages}
 
 -- ---- a state with another clock and other votes goes on as well
 
@@ -253,7 +254,7 @@ module _ (c : Given) (table : List ClientEntry) (applied : List Entry) (h : Chan
         subst
         (λ (q : State).
         Said
-        (when ltb (length c.out) (16 + calls_length c.state) then spoke (refusal 9 c.state) c.out else
+        (when ltb (length c.out) (16 + calls_length c.state) then spoke (refusal NoRoomForMessages c.state) c.out else
         spoke (completed t' (16 + calls_length c.state) 0 false) (over (asked_and_called c.state) c.out))
         (done q ms []))
         (changing-reads t c.runs table applied next (sized c.state.setup h.gathering.sound.sized).seven h.looks)

@@ -25,6 +25,7 @@ use Rattle.do_view_change.specs.Begin.{first_length}
 use Rattle.do_view_change.proofs.RecordSuffices.{Enough, first_fits, send-suffices}
 use Rattle.voting.specs.Votes.{sent_first, maybe_step, same_view, start_view_change_step}
 use Rattle.voting.specs.Tick.{view_after, next_view, next_view_asking, repeated, change_tick}
+use Rattle.state.specs.Answers.{code_of}
 
 -- from state t; s is the state as it was
 module _ (s t : Replica) (m : Memory) (ht : Held t.setup t m.runs) (stored-long : length m.stored ≡ stored_length t.setup) where
@@ -47,7 +48,7 @@ module _ (s : Replica) (m : Memory) (h : Gathering s m) where
   here = as_it_was h
 
   abbrev EnoughHere : Recorded → Type 0
-  EnoughHere d = Answers s.setup (length m.out) (length m.reps) d.answer.code
+  EnoughHere d = Answers s.setup (length m.out) (length m.reps) (code_of d.answer)
 
   -- ---- StartViewChange
 

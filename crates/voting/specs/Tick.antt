@@ -17,6 +17,7 @@ use Rattle.steps.specs.Recorded.{Recorded, only_sent}
 use Rattle.do_view_change.specs.Record.{send_step}
 use Rattle.book.specs.Memory.{Memory}
 use Rattle.voting.specs.Votes.{sent_first}
+use Rattle.frames.specs.declared.Refusal.TheVariants.{LastView, NoRoomForMessages}
 
 -- the view after ours
 abbrev pub view_after : Replica → View
@@ -29,7 +30,7 @@ in_last_view s = leb 4294967295 s.view.0
 -- in Normal and in ViewChange
 unfoldable pub next_view : Replica → Clock → List ℕ → Spoke
 next_view s c out =
-    when in_last_view s then spoke (refusal 8 s) out else
+    when in_last_view s then spoke (refusal LastView s) out else
     started_change s (with_clock s c) (view_after s) out
 
 -- in StateTransfer: GetState first, in the view that is left
@@ -38,8 +39,8 @@ asked_and_called s = encode (primary_of s.setup.n s.view) (GetState s.setup.id s
 
 unfoldable pub next_view_asking : Replica → Clock → List ℕ → Spoke
 next_view_asking s c out =
-    when in_last_view s then spoke (refusal 8 s) out else
-    when ltb (length out) (16 + calls_length s) then spoke (refusal 9 s) out else
+    when in_last_view s then spoke (refusal LastView s) out else
+    when ltb (length out) (16 + calls_length s) then spoke (refusal NoRoomForMessages s) out else
     spoke
     (completed (changing_to (with_clock s c) (view_after s)) (16 + calls_length s) 0 false)
     (over (asked_and_called s) out)

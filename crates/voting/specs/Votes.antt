@@ -15,11 +15,12 @@ use Rattle.do_view_change.specs.Begin.{calls_first, first_length}
 use Rattle.steps.specs.Recorded.{Recorded, recorded, only_sent}
 use Rattle.do_view_change.specs.Record.{send_step}
 use Rattle.book.specs.Memory.{Memory}
+use Rattle.frames.specs.declared.Refusal.TheVariants.{NoRoomForMessages}
 
 -- only what goes out first, from state t; s is the state as it was
 unfoldable pub sent_first : (s t : Replica) (first : Bool) → List ℕ → Spoke
 sent_first s t first out =
-    when ltb (length out) (first_length first t) then spoke (refusal 9 s) out else
+    when ltb (length out) (first_length first t) then spoke (refusal NoRoomForMessages s) out else
     spoke (completed t (first_length first t) 0 false) (over (calls_first first t) out)
 
 -- whether our DoViewChange is report_due

@@ -7,6 +7,7 @@ ghost use Rattle.book.specs.Memory.{memory};
 ghost use Rattle.voting.specs.Tick.{in_last_view, next_view, next_view_asking, repeated, change_tick};
 
 use clock::Clock;
+use frames::Refusal;
 use numbers::View;
 use state::{Replica, Returned};
 
@@ -23,7 +24,7 @@ pub fn next_view(s: Replica, c: Clock, out: &mut [u8]) -> Returned
     ensures { spoke result out.new ≡ next_view s c out.old }
 {
     if in_last_view(s) {
-        return state::refused(8, s);
+        return state::refused(Refusal::LastView, s);
     }
     let v = View(s.view.0 + 1);
     view_change::start_view_change::start_view_change(s, state::with_clock(s, c), v, out)
@@ -35,10 +36,10 @@ pub fn next_view_asking(s: Replica, c: Clock, out: &mut [u8]) -> Returned
     ensures { spoke result out.new ≡ next_view_asking s c out.old }
 {
     if in_last_view(s) {
-        return state::refused(8, s);
+        return state::refused(Refusal::LastView, s);
     }
     if out.len() < 16 + 12 * (s.setup.n as usize - 1) {
-        return state::refused(9, s);
+        return state::refused(Refusal::NoRoomForMessages, s);
     }
     let was = s.view;
     let at = s.op;

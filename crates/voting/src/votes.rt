@@ -6,6 +6,7 @@ ghost use Rattle.steps.specs.Recorded.{Gathering, Does};
 ghost use Rattle.book.specs.Memory.{memory};
 ghost use Rattle.voting.specs.Votes.{sent_first, report_due, maybe_step, same_view, start_view_change_step};
 
+use frames::Refusal;
 use numbers::View;
 use state::{Replica, Returned};
 
@@ -15,7 +16,7 @@ pub fn call(s: Replica, t: Replica, first: bool, out: &mut [u8]) -> Returned
     ensures { spoke result out.new ≡ sent_first s t first out.old }
 {
     if out.len() < do_view_change::begin::first_len(first, t) {
-        return state::refused(9, s);
+        return state::refused(Refusal::NoRoomForMessages, s);
     }
     let w = do_view_change::begin::call_first(first, t, out);
     state::done(t, w, 0, false)

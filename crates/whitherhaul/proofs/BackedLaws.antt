@@ -22,6 +22,7 @@ use Rattle.whitherhaul.specs.Replicas.{Ran, create_run, recover_run, CreateRan, 
 use Rattle.whitherhaul.specs.Demands.{RunLink, RunChain, RunGoesOn}
 use Rattle.whitherhaul.specs.Backed.{run_call_by, run_calls_in, RunWroteBacked}
 use Rattle.whitherhaul.proofs.DemandLaws.{linked, chained, begun, done-leaves}
+use Rattle.state.specs.Answers.{replies_written}
 
 pub run-own-out : (state : List ℕ) (x : Lent) (applied : List Entry) (state' : List ℕ) (x' : Lent) → RunGoesOn state x applied state' x'
     → OwnOut (state_of state')
@@ -47,8 +48,8 @@ module _ (state : List ℕ) (x : Lent) (ok : state_ok state ≡ true) (kept : Ke
       record {
         applied = g.applied;
         kept = g.kept;
-        replies = k.call.answer.replies;
-        counts = k.counts ∙ ap (λ (n : ℕ). n ∷ k.call.answer.replies ∷ []) g.messages;
+        replies = replies_written k.call.answer;
+        counts = k.counts ∙ ap (λ (n : ℕ). n ∷ replies_written k.call.answer ∷ []) g.messages;
         out = ap (λ (z : Lent). z.core.out) k.lent ∙ g.out;
         backed = g.backed;
       }

@@ -19,7 +19,8 @@ use Rattle.state_bytes.specs.Layout.{state_of, state_ok}
 use Rattle.safety.specs.Demand.{Call}
 use Rattle.outside.specs.Sound.{no_replica}
 use Rattle.outside.specs.Takings.{takings_call}
-use Rattle.outside.specs.declared.takings.Taken.{Taken}
+use Rattle.std.specs.Prelude.{Result, Ok, Err}
+use Rattle.frames.specs.declared.Refusal.{Refusal}
 use Rattle.replica.specs.Calls.{message_call, idle_call, create_call, recover_call}
 use Rattle.replica.specs.Lent.{Lent, Called}
 use Rattle.replica.specs.Meaning.{Kept, meaning_of}
@@ -31,13 +32,17 @@ use Rattle.replica.specs.Demands.Chain.{none, more}
 use Rattle.replica.specs.Backed.{call_by, calls_in}
 use Rattle.replica.proofs.DemandLaws.{message-untouched, tick-untouched, handed-kept, chain-goes}
 use Rattle.replica.proofs.CreateDemands.{create-untouched, recover-untouched}
-use Rattle.whitherhaul.specs.Replicas.{Ran, kept_state, leaves, no_state, message_run, idle_run, create_run, recover_run, takings_run, StateHeld}
+use Rattle.whitherhaul.specs.Replicas.{Ran, ran, kept_state, leaves, no_state, message_run, idle_run, create_run, recover_run, takings_run, SumTold, told_as, sum_told, StateHeld}
 use Rattle.whitherhaul.specs.Replicas.{MessageRan, IdleRan, CreateRan, RecoverRan, TakingsRan}
 use Rattle.whitherhaul.specs.Again.{RunAnswersIn}
 use Rattle.whitherhaul.specs.Demands.{UntouchedRun, RunLink, RunChain, RunGoesOn}
 use Rattle.whitherhaul.specs.Demands.RunLink.{message as sent, tick as idled}
 use Rattle.whitherhaul.specs.Demands.RunChain.{none as no_run, more as more-runs}
 use Rattle.whitherhaul.specs.Backed.{run_call_by, run_calls_in}
+use Rattle.state.specs.Answers.{outcome_code, code_of, messages_written, replies_written}
+use Rattle.frames.proofs.RefusalLaws.{number-some}
+use Rattle.frames.specs.Refusals.{number_of}
+use Rattle.whitherhaul.proofs.ReplicaLaws.{refusal-there}
 
 -- ---- demand 1
 
@@ -46,8 +51,10 @@ module _ (state : List ℕ) (x : Lent) where
   leaves-untouched : (s : Replica) (d : Called) → Untouched s x d → UntouchedRun state x (leaves state d)
   unfolding kept_state
   leaves-untouched s d u n =
-      let k = d.answer.code in
-      ap (leaves state) (u n) ∙ ap (λ (l : List ℕ). record { code = k; counts = 0 ∷ 0 ∷ []; state = l; lent = x }) (if-false _ _ _ (ne_eqb k 0 n))
+      let z = refusal-there d.answer.outcome n in
+      ap (leaves state) (u z.0 z.1)
+      ∙ ap (λ (l : List ℕ). ran (number_of z.0) (0 ∷ 0 ∷ []) l x) (if-false _ _ _ (ne_eqb (number_of z.0) 0 (number-some z.0)))
+      ∙ ap (λ (j : ℕ). ran j (0 ∷ 0 ∷ []) state x) (sym (ap outcome_code z.1))
 
   pub message-run-untouched : (frame : List ℕ) (d : Ran) → MessageRan state frame x d → UntouchedRun state x d
   unfolding message_run
@@ -83,7 +90,7 @@ pub record Linked (state : List ℕ) (x : Lent) (d : Ran) (l : RunLink state x d
   pub link : Link (state_of state) x call
   pub held : StateHeld d.state call.answer.state
   pub lent : d.lent ≡ call.lent
-  pub counts : d.counts ≡ call.answer.messages ∷ call.answer.replies ∷ []
+  pub counts : d.counts ≡ messages_written call.answer ∷ replies_written call.answer ∷ []
   pub is : call_by (state_of state) x call link ≡ run_call_by state x d l
 
 pub linked : (state : List ℕ) (x : Lent) (d : Ran) → state_ok state ≡ true → (l : RunLink state x d) → Linked state x d l
@@ -150,11 +157,15 @@ run-again state x applied ok f frame d e i b o p q h =
     }
 
 -- who asks for the takings is answered what the replica's own call answers
-run-takings : (state : List ℕ) (x : Lent) (applied : List Entry) → state_ok state ≡ true → (r : Taken) → TakingsRan state r
-    → ((t : Taken) → TakingsPromise (state_of state) t → FullAddition (state_of state) x applied t) → FullAddition (state_of state) x applied r
+run-takings : (state : List ℕ) (x : Lent) (applied : List Entry) → state_ok state ≡ true → (r : SumTold) → TakingsRan state r
+    → ((t : Result ℕ Refusal) → TakingsPromise (state_of state) t → FullAddition (state_of state) x applied t)
+    → (r.code ≡ 0) × FullAddition (state_of state) x applied (Ok r.cents)
 unfolding takings_run
 run-takings state x applied ok r p f =
-    subst (FullAddition (state_of state) x applied) (sym (p.exact ∙ if-true _ _ _ ok)) (f (takings_call (state_of state)) p.call)
+    let full = f (takings_call (state_of state)) p.call in
+    let is : r ≡ told_as 0 full.cents = p.exact ∙ if-true _ _ _ ok ∙ ap sum_told full.answered in
+    let same : takings_call (state_of state) ≡ Ok r.cents = full.answered ∙ ap Ok (sym (ap (λ (t : SumTold). t.cents) is)) in
+    (ap (λ (t : SumTold). t.code) is, subst (FullAddition (state_of state) x applied) same full)
 
 pub run-chain-goes : (state : List ℕ) (x : Lent) (applied : List Entry) (state' : List ℕ) (x' : Lent) → state_ok state ≡ true
     → Kept (state_of state) x applied → RunChain state' x' state x → RunGoesOn state x applied state' x'
@@ -165,7 +176,7 @@ run-chain-goes state x applied state' x' ok k c =
 
 -- what a creation that wasn't refused left, handed back
 pub begun : (state : List ℕ) (y : Lent) (c : Called) (d : Ran) → d ≡ leaves state c → StateHeld d.state c.answer.state
-    → (c.answer.code ≡ 0 → Kept c.answer.state c.lent []) → d.code ≡ 0 → HandedBack d.lent y → Kept (state_of d.state) y []
+    → (code_of c.answer ≡ 0 → Kept c.answer.state c.lent []) → d.code ≡ 0 → HandedBack d.lent y → Kept (state_of d.state) y []
 begun state y c d e held keeps z h =
     let k = keeps (sym (ap (λ (r : Ran). r.code) e) ∙ z) in
     let l = subst (λ (m : Lent). Kept c.answer.state m []) (sym (ap (λ (r : Ran). r.lent) e)) k in

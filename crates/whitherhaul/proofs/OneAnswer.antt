@@ -5,9 +5,8 @@ use mathlib.Core.List.{List}
 use Prim.Native.Nat.{ℕ}
 use Rattle.numbers.specs.declared.View.{View}
 use Rattle.config.specs.declared.Setup.{Setup}
-use Rattle.outside.specs.declared.takings.Taken.{Taken}
 use Rattle.replica.specs.Lent.{Lent}
-use Rattle.whitherhaul.specs.Replicas.{Ran, MessageRan, IdleRan, CreateRan, RecoverRan, TakingsRan}
+use Rattle.whitherhaul.specs.Replicas.{SumTold, Ran, MessageRan, IdleRan, CreateRan, RecoverRan, TakingsRan}
 use Rattle.whitherhaul.specs.Clients.{ClientCreated, Requested, Replied, Idled, Read', ClientCreateRan, RequestRan, ReplyRan, client_idle_run, read_run}
 
 -- whitherhaul_create
@@ -28,7 +27,7 @@ pub on-idle-one : (state : List ℕ) (x : Lent) (d e : Ran) → IdleRan state x 
 on-idle-one state x d e p q = p.exact ∙ sym q.exact
 
 -- whitherhaul_takings
-pub takings-one : (state : List ℕ) (d e : Taken) → TakingsRan state d → TakingsRan state e → d ≡ e
+pub takings-one : (state : List ℕ) (d e : SumTold) → TakingsRan state d → TakingsRan state e → d ≡ e
 takings-one state d e p q = p.exact ∙ sym q.exact
 
 -- whitherhaul_client_create

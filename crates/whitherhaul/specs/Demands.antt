@@ -1,13 +1,12 @@
 -- Demands 1 and 3 at the C boundary, where the state lies in a byte run: over any chain of calls that are linked by their promises alone. Assumes nothing.
-use Rattle.std.specs.Prelude.{◌≡◌, true, List, [], ◌∷◌, ℕ}
+use Rattle.std.specs.Prelude.{◌≡◌, true, List, [], ◌∷◌, ℕ, Ok}
 use Rattle.numbers.specs.Numbers.{Bytes}
 use Rattle.entries.specs.declared.Entry.{Entry}
 use Rattle.replica.specs.Lent.{Lent}
 use Rattle.replica.specs.Meaning.{Owned}
-use Rattle.outside.specs.declared.takings.Taken.{Taken}
 use Rattle.replica.specs.Demands.{HandedBack, FullAddition, GoesOn}
 use Rattle.state_bytes.specs.Layout.{state_of, state_ok}
-use Rattle.whitherhaul.specs.Replicas.{Ran, ran, MessageRan, IdleRan, TakingsRan}
+use Rattle.whitherhaul.specs.Replicas.{Ran, ran, SumTold, MessageRan, IdleRan, TakingsRan}
 use Rattle.whitherhaul.specs.Again.{RunAnswersIn}
 
 -- Demand 1: a call that is refused leaves the state run and every lent byte as they were, with counts of 0.
@@ -31,5 +30,5 @@ pub data RunChain (state' : List ℕ) (x' : Lent) : List ℕ → Lent → Type 0
 pub record RunGoesOn (state : List ℕ) (x : Lent) (applied : List Entry) (state' : List ℕ) (x' : Lent) : Type 0 where
   pub ok : state_ok state' ≡ true
   pub goes : GoesOn (state_of state) x applied (state_of state') x'
-  pub takings : (r : Taken) → TakingsRan state' r → FullAddition (state_of state') x' goes.applied' r
+  pub takings : (r : SumTold) → TakingsRan state' r → (r.code ≡ 0) × FullAddition (state_of state') x' goes.applied' (Ok r.cents)
   pub again : RunAnswersIn state' x' goes.applied'

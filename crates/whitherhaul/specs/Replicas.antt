@@ -1,6 +1,6 @@
 -- The replica's calls at the C boundary: the state lies in a lent run, and a call that isn't refused leaves its next state there. A run that holds no state is
 -- refused by 1, and a refused call leaves that run and all else as it was, with counts of 0. Assumes nothing.
-use Rattle.std.specs.Prelude.{◌≡◌, Bool, true, false, not, List, [], ◌∷◌, ℕ, eqb, ltb, length}
+use Rattle.std.specs.Prelude.{◌≡◌, Bool, true, false, not, List, [], ◌∷◌, ℕ, eqb, ltb, length, Result, Ok, Err}
 use Rattle.numbers.specs.Words.{when◌then◌else◌}
 use Rattle.numbers.specs.declared.View.{View}
 use Rattle.config.specs.declared.Setup.{Setup}
@@ -8,10 +8,12 @@ use Rattle.state.specs.declared.Returned.{Returned}
 use Rattle.state.specs.declared.Replica.{Replica}
 use Rattle.replica.specs.Calls.{message_call, idle_call, create_call, recover_call}
 use Rattle.replica.specs.Lent.{Lent, Called}
-use Rattle.outside.specs.Takings.{taken, takings_call}
-use Rattle.outside.specs.declared.takings.Taken.{Taken}
+use Rattle.outside.specs.Takings.{takings_call}
+use Rattle.frames.specs.declared.Refusal.{Refusal}
 use Rattle.replica.specs.Promise.{MessagePromise, IdlePromise, CreatePromise, RecoverPromise, TakingsPromise}
 use Rattle.state_bytes.specs.Layout.{state_of, encode_state, state_ok, HoldsState}
+use Rattle.state.specs.Answers.{code_of, messages_written, replies_written}
+use Rattle.frames.specs.Refusals.{number_of}
 
 -- what a call returns and leaves: its number, the counts of message and reply bytes, the state run, everything else that was lent
 pub record Ran : Type 0 where
@@ -29,12 +31,12 @@ Ends promise code counts state before after = promise before (ran code counts st
 
 -- the state run after a call
 unfoldable pub kept_state : Returned → (state : List ℕ) → List ℕ
-kept_state a state = when eqb a.code 0 then encode_state a.state else state
+kept_state a state = when eqb (code_of a) 0 then encode_state a.state else state
 
 -- what a call of the replica leaves here
 abbrev pub leaves : (state : List ℕ) → Called → Ran
 leaves state d =
-    ran d.answer.code (d.answer.messages ∷ d.answer.replies ∷ []) (kept_state d.answer state) d.lent
+    ran (code_of d.answer) (messages_written d.answer ∷ replies_written d.answer ∷ []) (kept_state d.answer state) d.lent
 
 -- refused by 1 before any call of the replica
 abbrev pub no_state : (state : List ℕ) → Lent → Ran
@@ -62,9 +64,21 @@ recover_run u v k state x =
     when not (eqb (length state) 154) then no_state state x else
     leaves state (recover_call u v k x)
 
+-- what is told of the takings: a refusal's number or 0, and the sum, 0 where it is refused
+pub record SumTold : Type 0 where
+  pub code : ℕ
+  pub cents : ℕ
+
+abbrev pub told_as : (code cents : ℕ) → SumTold
+told_as k c = record { code = k; cents = c }
+
+abbrev pub sum_told : Result ℕ Refusal → SumTold
+sum_told (Ok sum) = told_as 0 sum
+sum_told (Err k) = told_as (number_of k) 0
+
 -- takings: of the state that the run holds; it is only read
-unfoldable pub takings_run : (state : List ℕ) → Taken
-takings_run state = when state_ok state then takings_call (state_of state) else taken 1 0
+unfoldable pub takings_run : (state : List ℕ) → SumTold
+takings_run state = when state_ok state then sum_told (takings_call (state_of state)) else told_as 1 0
 
 -- The run holds the state that the call answered: so the next call at the boundary is the next call of the replica.
 pub record StateHeld (state : List ℕ) (s : Replica) : Type 0 where
@@ -92,7 +106,7 @@ pub record RecoverRan (u : Setup) (v : View) (nonce : ℕ) (state : List ℕ) (x
   pub next : d.code ≡ 0 → StateHeld d.state (recover_call u v nonce x).answer.state
   pub call : RecoverPromise u v nonce x (recover_call u v nonce x)
 
-pub record TakingsRan (state : List ℕ) (r : Taken) : Type 0 where
+pub record TakingsRan (state : List ℕ) (r : SumTold) : Type 0 where
   pub exact : r ≡ takings_run state
   pub call : TakingsPromise (state_of state) (takings_call (state_of state))
 
@@ -102,6 +116,6 @@ may_be_usual quiet frame = when ltb (length frame) 7 then false else quiet
 
 -- what the state run holds after an answer
 pub record KeptIn (a : Returned) (before after : List ℕ) (code : ℕ) : Type 0 where
-  pub number : code ≡ a.code
+  pub number : code ≡ code_of a
   pub bytes : after ≡ kept_state a before
-  pub holds : a.code ≡ 0 → HoldsState a.state after
+  pub holds : code_of a ≡ 0 → HoldsState a.state after

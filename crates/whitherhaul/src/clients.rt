@@ -1,10 +1,11 @@
 // A client, whose record lies in a lent run of 54 bytes. A refused call leaves that run, like the area, as it was.
+// Kept: numbers for refusals, answers in lent places, and runs one by one, since C has no Result and no slice in a struct: include/whitherhaul.h.
 ghost use Rattle.std.specs.Prelude.{◌≡◌};
-ghost use Rattle.client.specs.Replies.{outcome_number, reply_ok};
+ghost use Rattle.client.specs.Replies.{reply_ok};
 ghost use Rattle.offsets.specs.Offsets.{Points};
 ghost use Rattle.whitherhaul.specs.Clients.{ClientCreateRan, RequestRan, ReplyRan, client_idle_run, read_run};
 
-use client::{Read, ReplyOutcome};
+use client::ClientRefusal;
 use numbers::View;
 
 // create
@@ -12,15 +13,16 @@ pub fn whitherhaul_client_create(n: u32, id: u64, held: &mut [u8]) -> u8
     ensures { ClientCreateRan n id held.old (record { code = result; run = held.new }) }
 {
     if held.len() != 54 {
-        return 1;
+        return u8::from(ClientRefusal::OutOfRange);
     }
-    let a = client::create(n, id);
-    if a.refusal != 0 {
-        return a.refusal;
+    let after = client::create(n, id);
+    match after.answer {
+        Err(cause) => u8::from(cause),
+        Ok(()) => {
+            client_bytes::write_client(held, after.client);
+            0
+        }
     }
-    let c = a.client;
-    client_bytes::write_client(held, c);
-    0
 }
 
 // on_request
@@ -36,22 +38,23 @@ pub fn whitherhaul_client_request(
 {
     *answers = [0, 0];
     if !client_bytes::client_ok(held) {
-        return 1;
+        return u8::from(ClientRefusal::OutOfRange);
     }
-    let a = client::requested(
+    let after = client::requested(
         client_bytes::read_client(held),
         operation,
         member,
         cents,
         area,
     );
-    if a.answer.refusal != 0 {
-        return a.answer.refusal;
+    match after.answer {
+        Err(cause) => u8::from(cause),
+        Ok(sent) => {
+            *answers = [sent.number, sent.written as u64];
+            client_bytes::write_client(held, after.client);
+            0
+        }
     }
-    *answers = [a.answer.number, a.answer.written as u64];
-    let c = a.client;
-    client_bytes::write_client(held, c);
-    0
 }
 
 // on_reply
@@ -65,16 +68,17 @@ pub fn whitherhaul_client_reply(
 {
     *answers = [0];
     if !client_bytes::client_ok(held) {
-        return 1;
+        return u8::from(ClientRefusal::OutOfRange);
     }
-    let a = client::replied(client_bytes::read_client(held), number, View(view));
-    if a.answer.refusal != 0 {
-        return a.answer.refusal;
+    let after = client::replied(client_bytes::read_client(held), number, View(view));
+    match after.answer {
+        Err(cause) => u8::from(cause),
+        Ok(done) => {
+            *answers = [done as u64];
+            client_bytes::write_client(held, after.client);
+            0
+        }
     }
-    *answers = [a.answer.done as u64];
-    let c = a.client;
-    client_bytes::write_client(held, c);
-    0
 }
 
 // on_idle
@@ -83,51 +87,36 @@ pub fn whitherhaul_client_idle(held: &[u8], area: &mut [u8], answers: &mut [u64;
 {
     *answers = [0];
     if !client_bytes::client_ok(held) {
-        return 1;
+        return u8::from(ClientRefusal::OutOfRange);
     }
-    let a = client::idled(client_bytes::read_client(held), area);
-    *answers = [a.written as u64];
-    a.refusal
-}
-
-// The document's number of an outcome.
-fn outcome_number(o: ReplyOutcome) -> u8
-    ensures { result ≡ outcome_number o }
-{
-    match o {
-        ReplyOutcome::Fee => 1,
-        ReplyOutcome::Refund => 2,
-        ReplyOutcome::Ask => 3,
-        ReplyOutcome::NoMember => 4,
-        ReplyOutcome::PastLimit => 5,
-        ReplyOutcome::PastTotal => 6,
+    match client::idled(client_bytes::read_client(held), area) {
+        Err(cause) => u8::from(cause),
+        Ok(written) => {
+            *answers = [written as u64];
+            0
+        }
     }
 }
 
 // A Reply, read: view, client, request, outcome and total, or all are 0 where it is malformed; then the offset is that of its first wrong byte, else 0.
+// Kept: the number 2 of a malformed frame, written out. It is the one cause here, and an enum of one variant would say no more than `Malformed`.
 pub fn whitherhaul_read_reply(frame: &[u8], answers: &mut [u64; 5], offset: &mut u64) -> u8
     ensures { ((record { code = result; answers = answers.new }) ≡ read_run frame.now) × Points reply_ok frame.now result offset.new }
 {
     *answers = [0, 0, 0, 0, 0];
     *offset = 0;
     match client::read_reply(frame) {
-        Read::Malformed { offset: place } => {
-            *offset = place as u64;
+        Err(malformed) => {
+            *offset = malformed.offset as u64;
             2
         }
-        Read::Reply {
-            view,
-            client,
-            request,
-            outcome,
-            total,
-        } => {
+        Ok(reply) => {
             *answers = [
-                view.0 as u64,
-                client,
-                request,
-                outcome_number(outcome) as u64,
-                total,
+                reply.view.0 as u64,
+                reply.client,
+                reply.request,
+                u8::from(reply.outcome) as u64,
+                reply.total,
             ];
             0
         }

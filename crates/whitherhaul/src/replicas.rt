@@ -1,10 +1,10 @@
 // A replica, whose state lies in a lent run of 154 bytes. A refused call leaves that run, like all else, as it was.
+// Kept: numbers for refusals, answers in lent places, and runs one by one, since C has no Result and no slice in a struct: include/whitherhaul.h.
 ghost use Rattle.std.specs.Prelude.{◌≡◌, true, [], ◌∷◌, length};
 ghost use Rattle.offsets.specs.Offsets.{Points};
 ghost use Rattle.frames.specs.Kinds.{well_formed};
 ghost use Rattle.state_bytes.specs.Layout.{state_of, Onward, Clocked, state_ok, is_quiet};
-ghost use Rattle.whitherhaul.specs.Replicas.{KeptIn, may_be_usual, CreateRan, RecoverRan, MessageRan, IdleRan, TakingsRan, Ends};
-ghost use Rattle.outside.specs.Takings.{taken};
+ghost use Rattle.whitherhaul.specs.Replicas.{KeptIn, may_be_usual, CreateRan, RecoverRan, MessageRan, IdleRan, TakingsRan, told_as, Ends};
 ghost use Rattle.replica.specs.Lent.{lent};
 
 use numbers::View;
@@ -15,12 +15,13 @@ fn keep(a: Returned, state: &mut [u8]) -> u8
     requires { length state.old ≡ 154 }
     ensures { KeptIn a state.old state.new result }
 {
-    if a.code != 0 {
-        return a.code;
+    match a.outcome {
+        Err(refusal) => u8::from(refusal),
+        Ok(_) => {
+            state_bytes::write_state(state, a.state);
+            0
+        }
     }
-    let s = a.state;
-    state_bytes::write_state(state, s);
-    0
 }
 
 // The same of an answer that is further on in the view of the state that the run holds.
@@ -28,12 +29,13 @@ fn keep_onward(a: Returned, state: &mut [u8]) -> u8
     requires { (state_ok state.old ≡ true) × Onward (state_of state.old) a.state }
     ensures { KeptIn a state.old state.new result }
 {
-    if a.code != 0 {
-        return a.code;
+    match a.outcome {
+        Err(refusal) => u8::from(refusal),
+        Ok(_) => {
+            state_bytes::write_onward(state, a.state);
+            0
+        }
     }
-    let s = a.state;
-    state_bytes::write_onward(state, s);
-    0
 }
 
 // And of one that has another clock only.
@@ -41,12 +43,13 @@ fn keep_clocked(a: Returned, state: &mut [u8]) -> u8
     requires { (state_ok state.old ≡ true) × Clocked (state_of state.old) a.state }
     ensures { KeptIn a state.old state.new result }
 {
-    if a.code != 0 {
-        return a.code;
+    match a.outcome {
+        Err(refusal) => u8::from(refusal),
+        Ok(_) => {
+            state_bytes::write_clocked(state, a.state);
+            0
+        }
     }
-    let s = a.state;
-    state_bytes::write_clocked(state, s);
-    0
 }
 
 // new. The setup's numbers may be any: those outside the sizes are refused before they are put into the setup's fields.
@@ -124,7 +127,7 @@ pub fn whitherhaul_recover(
         table,
         out,
     );
-    *counts = [a.messages as u64, a.replies as u64];
+    *counts = [a.messages() as u64, a.replies() as u64];
     keep(a, state)
 }
 
@@ -148,7 +151,7 @@ fn message_whole(
         (lent log.old results.old totals.old acks.old stored.old table.old out.old reps.old)
         (lent log.new results.new totals.new acks.new stored.new table.new out.new reps.new) × Points well_formed frame.now result offset.new }
 {
-    let r = replica::call::on_message(
+    let a = replica::call::on_message(
         state_bytes::read_state(state),
         frame,
         log,
@@ -160,9 +163,8 @@ fn message_whole(
         out,
         reps,
     );
-    *offset = r.offset as u64;
-    let a = r.returned;
-    *counts = [a.messages as u64, a.replies as u64];
+    *offset = a.offset() as u64;
+    *counts = [a.messages() as u64, a.replies() as u64];
     keep(a, state)
 }
 
@@ -192,12 +194,11 @@ fn message_usual(
             state, frame, log, results, totals, acks, stored, table, out, reps, counts, offset,
         );
     }
-    let r = replica::call::on_message(
+    let a = replica::call::on_message(
         s, frame, log, results, totals, acks, stored, table, out, reps,
     );
-    *offset = r.offset as u64;
-    let a = r.returned;
-    *counts = [a.messages as u64, a.replies as u64];
+    *offset = a.offset() as u64;
+    *counts = [a.messages() as u64, a.replies() as u64];
     keep_onward(a, state)
 }
 
@@ -232,11 +233,10 @@ pub fn whitherhaul_on_message(
 {
     *counts = [0, 0];
     *offset = 0;
-    let l = state_bytes::look_over(state);
-    if !l.ok {
+    let Some(look) = state_bytes::look_over(state) else {
         return 1;
-    }
-    if !may_be_usual(l.quiet, frame) {
+    };
+    if !may_be_usual(look.is_quiet(), frame) {
         return message_whole(
             state, frame, log, results, totals, acks, stored, table, out, reps, counts, offset,
         );
@@ -290,7 +290,7 @@ fn tick_whole(
         out,
         reps,
     );
-    *counts = [a.messages as u64, a.replies as u64];
+    *counts = [a.messages() as u64, a.replies() as u64];
     keep(a, state)
 }
 
@@ -317,7 +317,7 @@ fn tick_usual(
         );
     }
     let a = replica::call::on_idle(s, log, results, totals, acks, stored, table, out, reps);
-    *counts = [a.messages as u64, a.replies as u64];
+    *counts = [a.messages() as u64, a.replies() as u64];
     keep_clocked(a, state)
 }
 
@@ -337,29 +337,32 @@ pub fn whitherhaul_on_idle(
     ensures { Ends (IdleRan state.old) result counts.new state.new (lent log.old results.old totals.old acks.old stored.old table.old out.old reps.old) (lent log.new results.new totals.new acks.new stored.new table.new out.new reps.new) }
 {
     *counts = [0, 0];
-    let l = state_bytes::look_over(state);
-    if !l.ok {
+    let Some(look) = state_bytes::look_over(state) else {
         return 1;
-    }
-    if !l.quiet {
-        return tick_whole(
+    };
+    if look.is_quiet() {
+        return tick_usual(
             state, log, results, totals, acks, stored, table, out, reps, counts,
         );
     }
-    tick_usual(
+    tick_whole(
         state, log, results, totals, acks, stored, table, out, reps, counts,
     )
 }
 
 // takings: the sum over all members, 0 where it is refused. Nothing is written but the answer.
 pub fn whitherhaul_takings(state: &[u8], cents: &mut u64) -> u8
-    ensures { TakingsRan state.now (taken result cents.new) }
+    ensures { TakingsRan state.now (told_as result cents.new) }
 {
     *cents = 0;
-    if !state_bytes::look_over(state).ok {
+    let Some(_) = state_bytes::look_over(state) else {
         return 1;
+    };
+    match replica::call::takings(state_bytes::read_state(state)) {
+        Ok(sum) => {
+            *cents = sum;
+            0
+        }
+        Err(refusal) => u8::from(refusal),
     }
-    let a = replica::call::takings(state_bytes::read_state(state));
-    *cents = a.cents;
-    a.code
 }

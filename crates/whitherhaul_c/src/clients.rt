@@ -1,4 +1,5 @@
 // A client's calls for C.
+// Kept: numbers for refusals, answers in lent places, and runs one by one, since C has no Result and no slice in a struct: include/whitherhaul.h.
 ghost use Rattle.std.specs.Prelude.{◌≡◌};
 ghost use Rattle.client.specs.Replies.{reply_ok};
 ghost use Rattle.offsets.specs.Offsets.{Points};

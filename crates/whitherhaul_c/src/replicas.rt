@@ -1,9 +1,9 @@
 // A replica's calls for C.
+// Kept: numbers for refusals, answers in lent places, and runs one by one, since C has no Result and no slice in a struct: include/whitherhaul.h.
 ghost use Rattle.std.specs.Prelude.{◌≡◌, [], ◌∷◌};
 ghost use Rattle.offsets.specs.Offsets.{Points};
 ghost use Rattle.frames.specs.Kinds.{well_formed};
-ghost use Rattle.whitherhaul.specs.Replicas.{CreateRan, RecoverRan, MessageRan, IdleRan, TakingsRan, Ends};
-ghost use Rattle.outside.specs.Takings.{taken};
+ghost use Rattle.whitherhaul.specs.Replicas.{CreateRan, RecoverRan, MessageRan, IdleRan, TakingsRan, told_as, Ends};
 ghost use Rattle.replica.specs.Lent.{lent};
 
 // new; the setup's numbers may be any
@@ -110,7 +110,7 @@ pub extern "C" fn whitherhaul_on_idle(
 // takings: the sum over all members, 0 where it is refused
 #[unsafe(no_mangle)]
 pub extern "C" fn whitherhaul_takings(state: &[u8], cents: &mut u64) -> u8
-    ensures { TakingsRan state.now (taken result cents.new) }
+    ensures { TakingsRan state.now (told_as result cents.new) }
 {
     whitherhaul::replicas::whitherhaul_takings(state, cents)
 }

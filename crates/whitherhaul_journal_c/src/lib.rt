@@ -1,9 +1,10 @@
 // The calls of the crate whitherhaul_journal as C finds them in libwhitherhaul_journal.a: each passes its arguments on, and promises the same.
+// Kept: numbers for refusals, answers in lent places, and runs one by one, since C has no Result and no slice in a struct: include/whitherhaul_journal.h.
 #![tactic(auto)]
 
 ghost use Rattle.std.specs.Prelude.{◌≡◌, ◌∷◌};
 ghost use Rattle.journal.specs.Calls.{write_call, append_call, read_call, frame_in, takings_of};
-ghost use Rattle.whitherhaul_journal.specs.Boundary.{wrote, read_as, framed_numbers, taken_as};
+ghost use Rattle.whitherhaul_journal.specs.Boundary.{WroteFrames, ReadAs, framed_numbers, TakenAs};
 
 // The journal of a run of entries.
 #[unsafe(no_mangle)]
@@ -13,7 +14,7 @@ pub extern "C" fn whitherhaul_journal_write(
     area: &mut [u8],
     bytes: &mut u64,
 ) -> u8
-    ensures { wrote result bytes.new area.new ≡ write_call members run.now area.old }
+    ensures { WroteFrames result bytes.new area.new (write_call members run.now area.old) }
 {
     whitherhaul_journal::whitherhaul_journal_write(members, run, area, bytes)
 }
@@ -28,7 +29,7 @@ pub extern "C" fn whitherhaul_journal_append(
     area: &mut [u8],
     bytes: &mut u64,
 ) -> u8
-    ensures { wrote result bytes.new area.new ≡ append_call from to log.now results.now area.old }
+    ensures { WroteFrames result bytes.new area.new (append_call from to log.now results.now area.old) }
 {
     whitherhaul_journal::whitherhaul_journal_append(from, to, log, results, area, bytes)
 }
@@ -42,7 +43,7 @@ pub extern "C" fn whitherhaul_journal_read(
     totals: &mut [u8],
     answers: &mut [u64; 3],
 ) -> u8
-    ensures { read_as result answers.new area.new totals.new ≡ read_call members file.now area.old totals.old }
+    ensures { ReadAs result answers.new area.new totals.new (read_call members file.now area.old totals.old) }
 {
     whitherhaul_journal::whitherhaul_journal_read(members, file, area, totals, answers)
 }
@@ -58,7 +59,7 @@ pub extern "C" fn whitherhaul_journal_frame(file: &[u8], i: u64, answers: &mut [
 // The takings: all totals added up.
 #[unsafe(no_mangle)]
 pub extern "C" fn whitherhaul_journal_takings(members: u32, totals: &[u8], cents: &mut u64) -> u8
-    ensures { taken_as result cents.new ≡ takings_of members totals.now }
+    ensures { TakenAs result cents.new (takings_of members totals.now) }
 {
     whitherhaul_journal::whitherhaul_journal_takings(members, totals, cents)
 }

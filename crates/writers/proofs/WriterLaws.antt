@@ -5,6 +5,7 @@
 --     others-most     the frames to the others below k take no more than those to all
 --     room-left       there is room for the next of them
 -- Assumes nothing.
+use Rattle.std.specs.Prelude.{Some, None}
 use mathlib.Core.Path.{◌≡◌, refl, sym, ap, ◌∙◌}
 use mathlib.Core.List.{List, append-nil}
 use mathlib.Core.Logic.{⊎_elim}
@@ -17,7 +18,6 @@ use borrow.Author.Tests.{eq-eqb, ne_eqb}
 use Rattle.numbers.specs.Numbers.{big}
 use Rattle.entries.specs.Entries.{encode_entry}
 use Rattle.numbers.proofs.NumberLaws.{eq-or-not, le-or-lt}
-use Rattle.frames.specs.declared.RecoveryState.TheVariants.{Absent, Present}
 use Rattle.frames.specs.declared.Message.{Message}
 use Rattle.frames.specs.declared.Message.TheVariants.{Request, Prepare, PrepareOk, Commit, GetState, NewState, StartViewChange, DoViewChange, StartView, Recovery, RecoveryResponse}
 use Rattle.numbers.specs.Words.{when◌then◌else◌}
@@ -35,8 +35,8 @@ encode-length to (StartViewChange v r) log h = refl
 encode-length to (DoViewChange v r l o c) log h = omega arith
 encode-length to (StartView v o c) log h = omega arith
 encode-length to (Recovery r x v) log h = refl
-encode-length to (RecoveryResponse v x r Absent) log h = refl
-encode-length to (RecoveryResponse v x r (Present o c)) log h = omega arith
+encode-length to (RecoveryResponse v x r None) log h = refl
+encode-length to (RecoveryResponse v x r (Some p)) log h = omega arith
 
 pub fields-small : (m : Message) → (size_of m).fields ≤ 51
 unfolding size_of state_size
@@ -50,8 +50,8 @@ fields-small (StartViewChange v r) = lit≤ tt
 fields-small (DoViewChange v r l o c) = lit≤ tt
 fields-small (StartView v o c) = lit≤ tt
 fields-small (Recovery r x v) = lit≤ tt
-fields-small (RecoveryResponse v x r Absent) = lit≤ tt
-fields-small (RecoveryResponse v x r (Present o c)) = lit≤ tt
+fields-small (RecoveryResponse v x r None) = lit≤ tt
+fields-small (RecoveryResponse v x r (Some p)) = lit≤ tt
 
 -- ---- frames to the others
 

@@ -1,13 +1,12 @@
 -- Document 01, "Frames": the bytes of a frame of each kind, and frames one after the other. v view, o op, c commit (4 bytes each), r sender (1),
 -- x nonce (8). The length is that of what follows it. Assumes nothing.
-use Rattle.std.specs.Prelude.{List, [], ◌++◌, ℕ, zero, suc, ◌+◌, ◌-◌, ◌*◌, ◌≤◌, eqb}
+use Rattle.std.specs.Prelude.{Option, Some, None, List, [], ◌++◌, ℕ, zero, suc, ◌+◌, ◌-◌, ◌*◌, ◌≤◌, eqb}
 use Rattle.numbers.specs.Words.{when◌then◌else◌}
 use Rattle.numbers.specs.Numbers.{big}
 use Rattle.numbers.specs.declared.View.{View}
 use Rattle.entries.specs.Entries.{encode_entry}
 use Rattle.frames.specs.Kinds.{fields_end, state_end}
-use Rattle.frames.specs.declared.RecoveryState.{RecoveryState}
-use Rattle.frames.specs.declared.RecoveryState.TheVariants.{Absent, Present}
+use Rattle.frames.specs.declared.Progress.{Progress}
 use Rattle.frames.specs.declared.Message.{Message}
 use Rattle.frames.specs.declared.Message.TheVariants.{Request, Prepare, PrepareOk, Commit, GetState, NewState, StartViewChange, DoViewChange, StartView, Recovery, RecoveryResponse}
 use Rattle.writers.specs.declared.Size.{Size}
@@ -30,9 +29,9 @@ encode to (DoViewChange v r l o c) log =
     header (20 + 32 * o.0) 8 to ++ big 4 v.0 ++ big 1 r ++ big 4 l.0 ++ big 4 o.0 ++ big 4 c.0 ++ log
 encode to (StartView v o c) log = header (15 + 32 * o.0) 9 to ++ big 4 v.0 ++ big 4 o.0 ++ big 4 c.0 ++ log
 encode to (Recovery r x v) log = header 16 10 to ++ big 1 r ++ big 8 x ++ big 4 v.0
-encode to (RecoveryResponse v x r Absent) log = header 17 11 to ++ big 4 v.0 ++ big 8 x ++ big 1 r ++ big 1 0
-encode to (RecoveryResponse v x r (Present o c)) log =
-    header (25 + 32 * o.0) 11 to ++ big 4 v.0 ++ big 8 x ++ big 1 r ++ big 1 1 ++ big 4 o.0 ++ big 4 c.0 ++ log
+encode to (RecoveryResponse v x r None) log = header 17 11 to ++ big 4 v.0 ++ big 8 x ++ big 1 r ++ big 1 0
+encode to (RecoveryResponse v x r (Some p)) log =
+    header (25 + 32 * p.op.0) 11 to ++ big 4 v.0 ++ big 8 x ++ big 1 r ++ big 1 1 ++ big 4 p.op.0 ++ big 4 p.commit.0 ++ log
 
 -- a Reply's frame, kind 12: the addressee is 0
 unfoldable pub reply : View → (client request outcome total : ℕ) → List ℕ
@@ -41,9 +40,9 @@ reply v client request outcome total = header 32 12 0 ++ big 4 v.0 ++ big 8 clie
 abbrev size : ℕ → ℕ → Size
 size k n = record { fields = k; entries = n }
 
-unfoldable pub state_size : RecoveryState → Size
-state_size Absent = size (fields_end 11) 0
-state_size (Present o c) = size state_end o.0
+unfoldable pub state_size : Option Progress → Size
+state_size None = size (fields_end 11) 0
+state_size (Some p) = size state_end p.op.0
 
 -- by kind, the bytes before the carried log, and how many entries it has; the one entry of a Request or Prepare is no log, and counts as fields
 unfoldable pub size_of : Message → Size

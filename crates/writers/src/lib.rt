@@ -8,14 +8,14 @@ ghost use Rattle.frames.specs.Kinds.{fields_end};
 ghost use Rattle.writers.specs.Writers.{encode, reply, state_size, size_of, length_of, Room, to_others};
 
 use entries::Entry;
-use frames::{Message, RecoveryState};
+use frames::{Kind, Message, Progress};
 use numbers::{Op, View};
 
 mod parts; // the header, and the fields of frames that carry a log
 pub mod kinds; // a writer for each kind that replicas send each other
 
 // The bytes of a frame before the log that it carries, and how many entries that has.
-#[derive(Clone, Copy)]
+#[derive(Clone, Copy, PartialEq, Eq, Debug)]
 pub struct Size {
     pub fields: usize,
     pub entries: u32,
@@ -26,7 +26,7 @@ pub fn write_request(area: &mut [u8], to: u8, e: Entry) -> usize
     requires { fields_end 1 + 32 ≤ length area.old }
     ensures { Wrote (encode to (Message.Request e) []) area.old area.new result }
 {
-    parts::write_header(area, 35, 1, to);
+    parts::write_header(area, 35, Kind::Request, to);
     entries::write_entry(&mut area[7..], e);
     39
 }
@@ -53,10 +53,7 @@ pub fn write_reply(
 fn span(a: Op, z: Op) -> u32
     ensures { result ≡ z.0 - a.0 }
 {
-    if z.0 < a.0 {
-        return 0;
-    }
-    z.0 - a.0
+    z.0.saturating_sub(a.0)
 }
 
 fn sized(fields: usize, entries: u32) -> Size
@@ -65,12 +62,12 @@ fn sized(fields: usize, entries: u32) -> Size
     Size { fields, entries }
 }
 
-fn response_size(state: RecoveryState) -> Size
+fn response_size(state: Option<Progress>) -> Size
     ensures { result ≡ state_size state }
 {
     match state {
-        RecoveryState::Absent => sized(21, 0),
-        RecoveryState::Present { op, .. } => sized(29, op.0),
+        None => sized(21, 0),
+        Some(p) => sized(29, p.op.0),
     }
 }
 
@@ -106,17 +103,15 @@ fn write_state(
     v: View,
     x: u64,
     r: u8,
-    state: RecoveryState,
+    state: Option<Progress>,
     log: &[u8],
 ) -> usize
     requires { Room (Message.RecoveryResponse v x r state) (length log.now) (length area.old) }
     ensures { Wrote (encode to (Message.RecoveryResponse v x r state) (take (32 * (size_of (Message.RecoveryResponse v x r state)).entries) log.now)) area.old area.new result }
 {
     match state {
-        RecoveryState::Absent => kinds::response_bare(area, to, v, x, r),
-        RecoveryState::Present { op, commit } => kinds::response_full(
-            area, to, v, x, r, op, commit, log,
-        ),
+        None => kinds::response_bare(area, to, v, x, r),
+        Some(Progress { op, commit }) => kinds::response_full(area, to, v, x, r, op, commit, log),
     }
 }
 
@@ -180,10 +175,8 @@ pub fn broadcast(area: &mut [u8], n: u8, me: u8, m: Message, log: &[u8]) -> usiz
     ensures { Wrote (to_others n me m (take (32 * (size_of m).entries) log.now)) area.old area.new result }
 {
     let mut at = 0;
-    let mut to = 0;
-    while to < n {
+    for to in 0..n {
         at += write_other(&mut area[at..], to, me, m, log);
-        to += 1;
     }
     at
 }

@@ -16,10 +16,10 @@ use Rattle.book.proofs.none_by_pairs.Goals as goal
 pub loop-j-init : goal.loop-j-init
 loop-j-init c =
     let a = c.args in
-    let p = c.pairs in
-    let t = c.pairs-test.true in
+    let p = c.loop-i in
+    let t = c.loop-i-test.true in
     let e = none-next a.n a.log.now p.i c.entry_in-e.result (entries a.k a.part.now) t c.entry_in-e.ensures in
-    (omega arith, p.invariant.1, rw (sub-zero, ← e) p.invariant.2)
+    rw (sub-zero, ← e) p.invariant
 
 pub loop-j-preserved : goal.loop-j-preserved
 loop-j-preserved c =
@@ -28,23 +28,23 @@ loop-j-preserved c =
     let a = c.args in
     let f : breaks_at e (entry_of (drop (32 * l.j) a.part.now)) ≡ false =
     sym c.breaks.ensures ∙ c.if-breaks.false in
-    (omega arith, l.invariant.1, rw (← follows_next e a.k a.part.now l.j c.loop-j-test.true f) l.invariant.2)
+    rw (← follows_next e a.k a.part.now l.j c.loop-j-test.true f) l.invariant
 
-pub pairs-preserved : goal.pairs-preserved
+pub loop-i-preserved : goal.loop-i-preserved
 unfolding follows ◌and◌
-pairs-preserved c =
+loop-i-preserved c =
     let l = c.loop-j in
     let a = c.args in
     let e : l.j ≡ a.k = omega arith in
-    (omega arith, l.invariant.1, rw (e, from_end) at l.invariant.2)
+    rw (e, from_end) at l.invariant
 
-pub returns-after-pairs : goal.returns-after-pairs
+pub returns : goal.returns
 unfolding none_breaks
-returns-after-pairs c =
-    let p = c.pairs in
+returns c =
+    let p = c.loop-i in
     let a = c.args in
     let e : p.i ≡ a.n = omega arith in
-    p.invariant.1 ∙ sym (p.invariant.2 ∙ rw (e, from_end))
+    sym (p.invariant ∙ rw (e, from_end))
 
 pub returns-then-breaks : goal.returns-then-breaks
 unfolding ◌and◌
@@ -54,4 +54,4 @@ returns-then-breaks c =
     let a = c.args in
     let f : breaks_at e (entry_of (drop (32 * l.j) a.part.now)) ≡ true =
     sym c.breaks.ensures ∙ c.if-breaks.true in
-    sym (rw (follows-stop e a.k a.part.now l.j c.loop-j-test.true f) at l.invariant.2)
+    sym (rw (follows-stop e a.k a.part.now l.j c.loop-j-test.true f) at l.invariant)

@@ -1,6 +1,5 @@
 -- `book::write_replies` meets its contract. Assumes nothing.
 use mathlib.Core.Path.{refl}
-use native.Mathlib.Omega.{arith}
 use borrow.Author.Rules.{rules}
 use Rattle.book.proofs.RunLaws.{replies-none, replies-more}
 use Rattle.book.proofs.write_replies.Goals as goal
@@ -8,7 +7,7 @@ use Rattle.book.proofs.write_replies.Goals as goal
 pub loop-k-init : goal.loop-k-init
 loop-k-init c =
     let a = c.args in
-    (omega arith, refl, replies-none a.v a.log.now a.results.now a.from a.area.now)
+    (refl, replies-none a.v a.log.now a.results.now a.from a.area.now)
 
 pub loop-k-preserved : goal.loop-k-preserved
 loop-k-preserved c =
@@ -17,4 +16,4 @@ loop-k-preserved c =
     let e = c.entry_in-e in
     let o = c.result_in-o in
     let m = replies-more a.v a.log.now a.results.now a.from l.k a.area.now l.area e.result o.result in
-    (omega arith, search rules, m l.invariant.2 e.ensures o.ensures c.write_reply.ensures.bytes)
+    (search rules, m l.invariant.1 e.ensures o.ensures c.write_reply.ensures.bytes)

@@ -1,17 +1,20 @@
 -- `client::idled` meets its contract. Assumes nothing.
 use mathlib.Core.Path.{sym, ◌∙◌}
+use Rattle.std.proofs.lemmas.Result.{err_from_is_err_and}
 use Rattle.client.proofs.RefusalLaws.{idle-fits}
 use Rattle.client.proofs.StepLaws.{idle-refused, idle-nothing, idle-waiting}
 use Rattle.client.proofs.idled.Goals as goal
 
-pub returns-then-no-ne0 : goal.returns-then-no-ne0
-returns-then-no-ne0 c = idle-refused _ _ _ c.idle_refusal-no.ensures c.if-no-ne0.true
-
 pub send_all-requires : goal.send_all-requires
-send_all-requires c = idle-fits _ _ _ (sym c.idle_refusal-no.ensures ∙ c.if-no-ne0.false) c.in-Waiting.is
+send_all-requires c = idle-fits _ _ _ (sym c.may_idle.ensures ∙ c.in_ok-may_idle.was) c.in-Some.is
 
-pub returns-in-Nothing : goal.returns-in-Nothing
-returns-in-Nothing c = idle-nothing _ _ _ c.idle_refusal-no.ensures c.if-no-ne0.false c.in-Nothing.is
+pub returns-in-None : goal.returns-in-None
+returns-in-None c = idle-nothing _ _ (sym c.may_idle.ensures ∙ c.in_ok-may_idle.was) c.in-None.is
 
-pub returns-in-Waiting : goal.returns-in-Waiting
-returns-in-Waiting c = idle-waiting _ _ _ c.idle_refusal-no.ensures c.if-no-ne0.false _ _ c.in-Waiting.is c.send_all.ensures
+pub returns-in-Some : goal.returns-in-Some
+returns-in-Some c = idle-waiting _ _ (sym c.may_idle.ensures ∙ c.in_ok-may_idle.was) _ _ c.in-Some.is c.send_all.ensures
+
+pub returns-in_err-may_idle : goal.returns-in_err-may_idle
+returns-in_err-may_idle c =
+    let p = err_from_is_err_and c.from_residual.result c.from_residual.ensures.1 in
+    rw (p.1, p.2) (idle-refused _ _ (sym c.may_idle.ensures ∙ c.in_err-may_idle.was))

@@ -7,6 +7,6 @@ pub returns-then-answers : goal.returns-then-answers
 unfolding left_pending when◌then◌else◌
 returns-then-answers c = rw (← c.answers.ensures, c.if-answers.true)
 
-pub returns : goal.returns
+pub returns-else-answers : goal.returns-else-answers
 unfolding left_pending when◌then◌else◌
-returns c = rw (← c.answers.ensures, c.if-answers.false)
+returns-else-answers c = rw (← c.answers.ensures, c.if-answers.false)

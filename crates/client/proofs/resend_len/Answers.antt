@@ -3,10 +3,10 @@ use Rattle.client.specs.Client.{frames_again}
 use Rattle.client.proofs.RefusalLaws.{frames-length}
 use Rattle.client.proofs.resend_len.Goals as goal
 
-pub returns-in-Nothing : goal.returns-in-Nothing
+pub returns-in-None : goal.returns-in-None
 unfolding frames_again
-returns-in-Nothing c = rw c.in-Nothing.is
+returns-in-None c = rw c.in-None.is
 
-pub returns-in-Waiting : goal.returns-in-Waiting
+pub returns-in-Some : goal.returns-in-Some
 unfolding frames_again
-returns-in-Waiting c = rw (c.in-Waiting.is, frames-length)
+returns-in-Some c = rw (c.in-Some.is, frames-length)

@@ -1,13 +1,9 @@
 -- `client::send_all` meets its contract. The invariant: the frames to the replicas below `to` stand over the front of the area. Assumes nothing.
 use mathlib.Core.Path.{◌≡◌}
-use Prim.Native.Nat.{◌-◌, ◌*◌, ◌≤◌}
-use lib.ListN.{length}
+use Prim.Native.Nat.{◌*◌}
 use Rattle.numbers.specs.Numbers.{over}
 use Rattle.client.specs.Client.{frames_to}
 use Rattle.client.proofs.send_all.Given as goal
 
 abbrev pub invariant-loop-to : goal.invariant-loop-to
-invariant-loop-to l = (l.to ≤ l.n) × (length l.area ≡ length l.initial.area) × (l.area ≡ over (frames_to l.to l.e) l.initial.area) × (l.at ≡ l.to * 39)
-
-abbrev pub decreases-loop-to : goal.decreases-loop-to
-decreases-loop-to l = l.n - l.to
+invariant-loop-to l = record { frames : l.area ≡ over (frames_to l.to l.e) l.initial.area; count : l.at ≡ l.to * 39 }

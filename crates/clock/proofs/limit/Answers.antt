@@ -6,4 +6,4 @@ use Rattle.clock.proofs.limit.Goals as goal
 
 pub returns : goal.returns
 unfolding limit_of
-returns c = rw (← c.least-k.ensures) (limit-fits c.args.timeout c.least-k.result (omega arith) (omega arith))
+returns c = rw (← c.min.ensures) (limit-fits c.args.timeout c.min.result (omega arith) (omega arith))

@@ -1,4 +1,4 @@
--- `csv::export` meets its contract: each refusal in its order, or the table over the front of the area. Assumes nothing.
+-- `csv_table::export` meets its contract: each refusal in its order, or the table over the front of the area. Assumes nothing.
 use mathlib.Core.Path.{ap, sym, ◌∙◌}
 use mathlib.Core.Bool.{not}
 use borrow.Author.Tests.{leb-true}
@@ -8,17 +8,16 @@ use Rattle.csv_table.proofs.export.Goals as goal
 pub returns-then-not-run_ok : goal.returns-then-not-run_ok
 returns-then-not-run_ok c =
     let a = c.args in
-    export-bad a.run.now a.area.now _ c.not_exported.ensures (ap not (sym c.run_ok.ensures) ∙ (ap not c.if-not-run_ok.true))
+    export-bad a.run.now a.area.now (ap not (sym c.run_ok.ensures) ∙ (ap not c.if-not-run_ok.true))
 
 pub returns-then-not-fits : goal.returns-then-not-fits
 returns-then-not-fits c =
     let a = c.args in
-    export-long a.run.now a.area.now _ c.not_exported-then-not-fits.ensures (ap not (sym c.run_ok.ensures) ∙ (ap not c.if-not-run_ok.false))
-    (sym c.fits.ensures ∙ c.if-not-fits.true)
+    export-long a.run.now a.area.now (ap not (sym c.run_ok.ensures) ∙ (ap not c.if-not-run_ok.false)) (sym c.fits.ensures ∙ c.if-not-fits.true)
 
 pub returns : goal.returns
 returns c =
     let a = c.args in
     export-done a.run.now a.area.now _ _ (ap not (sym c.run_ok.ensures) ∙ (ap not c.if-not-run_ok.false))
     (leb-true _ _ (sym c.fits.ensures ∙ c.if-not-fits.false))
-    c.write_table-bytes.ensures
+    c.write_table.ensures

@@ -1,4 +1,5 @@
 -- `entries::operation_of` meets its contract. Assumes nothing.
+use native.Mathlib.Omega.{arith}
 use borrow.Author.Tests.{ne_eqb}
 use Rattle.numbers.specs.Words.{when◌then◌else◌}
 use Rattle.entries.specs.Entries.{operation_of}
@@ -14,4 +15,4 @@ returns-in-2 c = rw c.in-2.is
 
 pub returns-in_default : goal.returns-in_default
 unfolding operation_of when◌then◌else◌
-returns-in_default c = simp (ne_eqb _ _ c.in_default.in_default-own.rest.1, ne_eqb _ _ c.in_default.in_default-own.rest.0.1)
+returns-in_default c = simp (ne_eqb c.args.number 2 (omega arith), ne_eqb c.args.number 1 (omega arith))

@@ -12,9 +12,9 @@ use Rattle.entries.proofs.rises_by_pairs.Goals as goal
 
 pub loop-j-init : goal.loop-j-init
 loop-j-init c =
-    let p = c.pairs in
+    let i = c.loop-i in
     let a = c.args in
-    (omega arith, p.invariant.1, p.invariant.2 ∙ rw c.entry_at-e.ensures (rising-next a.k a.s.now p.i c.pairs-test.true))
+    i.invariant ∙ rw c.entry_at-e.ensures (rising-next a.k a.s.now i.i c.loop-i-test.true)
 
 pub loop-j-preserved : goal.loop-j-preserved
 loop-j-preserved c =
@@ -23,23 +23,21 @@ loop-j-preserved c =
     let a = c.args in
     let f : breaks_at e (entry_of (drop (32 * l.j) a.s.now)) ≡ false =
     sym c.breaks.ensures ∙ c.if-breaks.false in
-    (omega arith, l.invariant.1, l.invariant.2 ∙ rw (follows_next e a.k a.s.now l.j c.loop-j-test.true f))
+    l.invariant ∙ rw (follows_next e a.k a.s.now l.j c.loop-j-test.true f)
 
-pub pairs-preserved : goal.pairs-preserved
+pub loop-i-preserved : goal.loop-i-preserved
 unfolding follows ◌and◌
-pairs-preserved c =
+loop-i-preserved c =
     let l = c.loop-j in
-    let a = c.args in
-    let e : l.j ≡ a.k = omega arith in
-    (omega arith, l.invariant.1, l.invariant.2 ∙ rw (e, from_end))
+    let e : l.j ≡ c.args.k = omega arith in
+    l.invariant ∙ rw (e, from_end)
 
-pub returns-after-pairs : goal.returns-after-pairs
+pub returns : goal.returns
 unfolding rising
-returns-after-pairs c =
-    let p = c.pairs in
-    let a = c.args in
-    let e : p.i ≡ a.k = omega arith in
-    p.invariant.1 ∙ sym (p.invariant.2 ∙ rw (e, from_end))
+returns c =
+    let l = c.loop-i in
+    let e : l.i ≡ c.args.k = omega arith in
+    sym (l.invariant ∙ rw (e, from_end))
 
 pub returns-then-breaks : goal.returns-then-breaks
 unfolding ◌and◌
@@ -49,4 +47,4 @@ returns-then-breaks c =
     let a = c.args in
     let f : breaks_at e (entry_of (drop (32 * l.j) a.s.now)) ≡ true =
     sym c.breaks.ensures ∙ c.if-breaks.true in
-    sym (l.invariant.2 ∙ rw (follows-stop e a.k a.s.now l.j c.loop-j-test.true f))
+    sym (l.invariant ∙ rw (follows-stop e a.k a.s.now l.j c.loop-j-test.true f))

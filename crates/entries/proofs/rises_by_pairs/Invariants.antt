@@ -1,7 +1,6 @@
 -- `entries::rises_by_pairs` meets its contract. Assumes nothing.
 use mathlib.Core.Path.{◌≡◌}
-use mathlib.Core.Bool.{true}
-use Prim.Native.Nat.{◌+◌, ◌-◌, ◌≤◌}
+use Prim.Native.Nat.{◌+◌}
 use Rattle.numbers.specs.Words.{◌and◌}
 use Rattle.entries.specs.Entries.{entries}
 use Rattle.entries.specs.Rising.{rising, follows}
@@ -10,13 +9,7 @@ use Rattle.entries.proofs.rises_by_pairs.Given as goal
 
 -- the whole answer is that of what is left
 abbrev pub invariant-loop-j : goal.invariant-loop-j
-invariant-loop-j l = (l.j ≤ l.k) × (l.ok ≡ true) × (rising (entries l.k l.s) ≡ (follows l.e (from_at l.k l.s l.j) and rising (from_at l.k l.s (l.i + 1))))
+invariant-loop-j l = rising (entries l.k l.s) ≡ (follows l.e (from_at l.k l.s l.j) and rising (from_at l.k l.s (l.i + 1)))
 
-abbrev pub decreases-loop-j : goal.decreases-loop-j
-decreases-loop-j l = l.k - l.j
-
-abbrev pub invariant-pairs : goal.invariant-pairs
-invariant-pairs l = (l.i ≤ l.k) × (l.ok ≡ true) × (rising (entries l.k l.s) ≡ rising (from_at l.k l.s l.i))
-
-abbrev pub decreases-pairs : goal.decreases-pairs
-decreases-pairs l = l.k - l.i
+abbrev pub invariant-loop-i : goal.invariant-loop-i
+invariant-loop-i l = rising (entries l.k l.s) ≡ rising (from_at l.k l.s l.i)

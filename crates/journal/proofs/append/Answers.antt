@@ -1,15 +1,13 @@
 -- `journal::append` meets its contract. Assumes nothing.
-use mathlib.Core.Path.{sym, ap, ◌∙◌}
+use mathlib.Core.Path.{sym, ◌∙◌}
 use native.Mathlib.Omega.{arith}
-use Rattle.journal.specs.declared.Written.{Written}
-use Rattle.journal.proofs.CallLaws.{ops-are, append-1, append-9, appended}
+use Rattle.journal.proofs.CallLaws.{ops-are, append-out, append-no_room, appended}
 use Rattle.journal.proofs.append.Goals as goal
 
 pub returns-then-not-ops_there : goal.returns-then-not-ops_there
 returns-then-not-ops_there c =
     let a = c.args in
-    ap (λ (x : Written). record { answer = x; area = a.area.now }) c.not_written.ensures
-    ∙ append-1 a.from a.to a.log.now a.results.now a.area.now (sym c.ops_there.ensures ∙ c.if-not-ops_there.true)
+    append-out a.from a.to a.log.now a.results.now a.area.now (sym c.ops_there.ensures ∙ c.if-not-ops_there.true)
 
 pub overflow_sub-k : goal.overflow_sub-k
 overflow_sub-k c =
@@ -19,14 +17,18 @@ overflow_sub-k c =
 pub returns-then-area-k : goal.returns-then-area-k
 returns-then-area-k c =
     let a = c.args in
-    ap (λ (x : Written). record { answer = x; area = a.area.now }) c.not_written-then-area-k.ensures
-    ∙ append-9 a.from a.to a.log.now a.results.now a.area.now (sym c.ops_there.ensures ∙ c.if-not-ops_there.false) c.if-area-k.true
+    append-no_room a.from a.to a.log.now a.results.now a.area.now (sym c.ops_there.ensures ∙ c.if-not-ops_there.false) c.if-area-k.true
 
 pub copy_frames-requires : goal.copy_frames-requires
 copy_frames-requires c =
     let a = c.args in
     let o = ops-are a.from a.to a.log.now a.results.now (sym c.ops_there.ensures ∙ c.if-not-ops_there.false) in
-    (omega (arith, o.up, o.few), (omega (arith, o.up, o.in-log), (omega (arith, o.up, o.in-results), omega arith)))
+    record {
+      few = omega (arith, o.up, o.few);
+      logged = omega (arith, o.up, o.in-log);
+      given = omega (arith, o.up, o.in-results);
+      room = omega arith;
+    }
 
 pub returns : goal.returns
 returns c =

@@ -1,18 +1,14 @@
 -- `numbers::copy` meets its contract. Assumes nothing.
-use mathlib.Core.Path.{refl}
+use mathlib.Core.Path.{◌≡◌}
 use native.Mathlib.Omega.{arith}
-use lib.ListN.{length-set}
-use Rattle.numbers.proofs.RunLaws.{over-take, over-nil}
+use lib.ListN.{length, take}
+use lib.Seq.{length-take-le}
+use Rattle.numbers.specs.Numbers.{over}
 use Rattle.numbers.proofs.copy.Goals as goal
 
-pub loop-i-init : goal.loop-i-init
-loop-i-init c = (omega arith, refl, over-nil c.args.area.now)
-
-pub loop-i-preserved : goal.loop-i-preserved
-loop-i-preserved c =
-    let l = c.loop-i in
-    let a = c.args in (
-      omega arith,
-      simp length-set (omega arith),
-      over-take a.src.now a.area.now l.i (omega arith) (omega arith) l.invariant.2,
-    )
+pub returns : goal.returns
+unfolding over
+returns c =
+    let a = c.args in
+    let n : length (take a.n a.src.now) ≡ a.n = length-take-le a.n a.src.now (omega arith) in
+    rw (n, c.copy_from_slice.ensures.after)

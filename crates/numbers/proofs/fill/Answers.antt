@@ -1,9 +1,9 @@
 -- `numbers::fill` meets its contract. Assumes nothing.
-use mathlib.Core.Path.{◌≡◌, sym, ap, ◌∙◌}
-use mathlib.Core.List.{◌++◌}
-use Prim.Native.Nat.{ℕ}
+use mathlib.Core.Path.{◌≡◌}
+use mathlib.Core.List.{[], append-nil}
 use native.Mathlib.Omega.{arith}
-use lib.ListN.{replicate, drop, length-replicate}
+use lib.ListN.{length, take, drop, length-replicate, drop_of_length-le}
+use lib.Seq.{length-take-le}
 use Rattle.numbers.specs.Numbers.{over}
 use Rattle.numbers.proofs.fill.Goals as goal
 
@@ -11,5 +11,7 @@ pub returns : goal.returns
 unfolding over
 returns c =
     let a = c.args in
-    let e : c.loop-i.i ≡ a.n = omega arith in
-    c.loop-i.invariant.1.1 ∙ rw e (ap (λ (k : ℕ). replicate a.n a.b ++ drop k a.area.now) (sym (length-replicate a.n a.b)))
+    let n : length (take a.n a.area.now) ≡ a.n = length-take-le a.n a.area.now (omega arith) in
+    let e : c.loop-x.x-index ≡ a.n = omega (arith, n) in
+    let d : drop a.n (take a.n a.area.now) ≡ [] = drop_of_length-le (take a.n a.area.now) {i = a.n} (omega (arith, n)) in
+    rw (c.loop-x.invariant, e, d, append-nil, length-replicate)

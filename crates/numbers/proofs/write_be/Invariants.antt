@@ -2,14 +2,11 @@
 -- Assumes nothing.
 use mathlib.Core.Path.{◌≡◌}
 use mathlib.Core.List.{◌++◌}
-use Prim.Native.Nat.{◌-◌, ◌/◌, ◌^◌, ◌≤◌}
-use lib.ListN.{length, take, drop}
+use Prim.Native.Nat.{◌-◌, ◌/◌, ◌^◌}
+use lib.ListN.{take, drop}
 use Rattle.numbers.specs.Numbers.{big}
 use Rattle.numbers.proofs.write_be.Given as goal
 
 abbrev pub invariant-loop-i : goal.invariant-loop-i
 invariant-loop-i l =
-    (l.i ≤ l.k) × (length l.area ≡ length l.initial.area) × (l.area ≡ take l.i l.initial.area ++ (big (l.k - l.i) l.x ++ drop l.k l.initial.area)) × (l.y ≡ l.x / 256 ^ (l.k - l.i))
-
-abbrev pub decreases-loop-i : goal.decreases-loop-i
-decreases-loop-i l = l.i
+    (l.area ≡ take l.i l.initial.area ++ (big (l.k - l.i) l.x ++ drop l.k l.initial.area)) × (l.y ≡ l.x / 256 ^ (l.k - l.i))

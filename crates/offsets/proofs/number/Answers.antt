@@ -54,19 +54,19 @@ pub returns-then-s-at : goal.returns-then-s-at
 returns-then-s-at c =
     let l = c.loop-i in
     let a = c.args in
-    let e = number-none (a.n - l.i) l.x a.low a.high (a.at + l.i) a.s.now (omega (arith, c.if-s-at.true, l.invariant.1)) in
+    let e = number-none (a.n - l.i) l.x a.low a.high (a.at + l.i) a.s.now (omega (arith, c.if-s-at.true, l.invariant.0)) in
     omega (arith, e, l.invariant, c.if-s-at.true)
 
 pub overflow_mul-x : goal.overflow_mul-x
-overflow_mul-x c = let l = c.loop-i in omega (arith, small {i = l.i} (omega arith) l.invariant.2)
+overflow_mul-x c = let l = c.loop-i in omega (arith, small {i = l.i} (omega arith) l.invariant.1)
 
 pub overflow_add-x-in-loop-i : goal.overflow_add-x-in-loop-i
 overflow_add-x-in-loop-i c =
     let l = c.loop-i in
     omega (
       arith,
-      c.shared_slice_known-in-loop-i-1.given (c.args.at + l.i),
-      small {i = l.i} (omega arith) l.invariant.2,
+      c.type_inv.s (c.args.at + l.i),
+      small {i = l.i} (omega arith) l.invariant.1,
     )
 
 pub nonzero_div-low : goal.nonzero_div-low
@@ -78,7 +78,7 @@ returns-then-not-within c =
     let l = c.loop-i in
     let a = c.args in
     let e = sym c.within.ensures ∙ c.if-not-within.true in
-    let f = stops a.s.now a.at a.n a.low a.high l.x l.i (omega arith) (omega (arith, c.if-s-at.false)) l.invariant.3 (rw c.power-p.ensures at e) in
+    let f = stops a.s.now a.at a.n a.low a.high l.x l.i (omega arith) (omega (arith, c.if-s-at.false)) l.invariant.2 (rw c.power-p.ensures at e) in
     omega (arith, f)
 
 pub loop-i-preserved : goal.loop-i-preserved
@@ -86,12 +86,11 @@ loop-i-preserved c =
     let l = c.loop-i in
     let a = c.args in
     let e = sym c.within.ensures ∙ c.if-not-within.false in
-    let g = c.shared_slice_known-in-loop-i-1.given (a.at + l.i) in
+    let g = c.type_inv.s (a.at + l.i) in
     let h : a.at + l.i < length a.s.now = omega (arith, c.if-s-at.false) in (
-      omega arith,
       omega (arith, h),
-      rw (add-one, pow-succ' 256 l.i) (omega (arith, g, l.invariant.2)),
-      goes a.s.now a.at a.n a.low a.high l.x l.i (omega arith) h l.invariant.3 (rw c.power-p.ensures at e),
+      rw (add-one, pow-succ' 256 l.i) (omega (arith, g, l.invariant.1)),
+      goes a.s.now a.at a.n a.low a.high l.x l.i (omega arith) h l.invariant.2 (rw c.power-p.ensures at e),
     )
 
 pub returns : goal.returns
@@ -99,7 +98,7 @@ returns c =
     let l = c.loop-i in
     let a = c.args in
     let z : a.n - l.i ≡ 0 = omega arith in
-    omega (arith, l.invariant.3, zero-reach a.low a.high l.x (drop (a.at + l.i) a.s.now), ap (λ (m : ℕ). number_reach m l.x a.low a.high (drop (a.at + l.i) a.s.now)) z)
+    omega (arith, l.invariant.2, zero-reach a.low a.high l.x (drop (a.at + l.i) a.s.now), ap (λ (m : ℕ). number_reach m l.x a.low a.high (drop (a.at + l.i) a.s.now)) z)
 
 pub nonzero_div-high : goal.nonzero_div-high
 nonzero_div-high c =

@@ -11,7 +11,4 @@ abbrev pub Whole : (s : List ℕ) (at n low high x i : ℕ) → Type 0
 Whole s at n low high x i = number_reach n 0 low high (drop at s) ≡ i + number_reach (n - i) x low high (drop (at + i) s)
 
 abbrev pub invariant-loop-i : goal.invariant-loop-i
-invariant-loop-i l = (l.i ≤ l.n) × (l.at + l.i ≤ length l.s) × (l.x < 256 ^ l.i) × Whole l.s l.at l.n l.low l.high l.x l.i
-
-abbrev pub decreases-loop-i : goal.decreases-loop-i
-decreases-loop-i l = l.n - l.i
+invariant-loop-i l = (l.at + l.i ≤ length l.s) × (l.x < 256 ^ l.i) × Whole l.s l.at l.n l.low l.high l.x l.i

@@ -1,19 +1,21 @@
 -- `state::is_changing` meets its contract. Assumes nothing.
+use mathlib.Core.Path.{◌≡◌, refl}
+use mathlib.Core.Bool.{false}
+use Rattle.frames.specs.declared.Status.{Status}
+use Rattle.frames.specs.declared.Status.TheVariants.{Normal, StateTransfer, ViewChange, Recovering}
 use Rattle.state.specs.Statuses.{is_changing}
 use Rattle.state.proofs.is_changing.Goals as goal
 
-pub returns-in-Normal : goal.returns-in-Normal
+other : (s : Status) → (s ≡ ViewChange → ⊥) → false ≡ is_changing s
 unfolding is_changing
-returns-in-Normal c = rw c.in-Normal.is
-
-pub returns-in-StateTransfer : goal.returns-in-StateTransfer
-unfolding is_changing
-returns-in-StateTransfer c = rw c.in-StateTransfer.is
+other Normal n = refl
+other StateTransfer n = refl
+other ViewChange n = absurd (n refl)
+other Recovering n = refl
 
 pub returns-in-ViewChange : goal.returns-in-ViewChange
 unfolding is_changing
 returns-in-ViewChange c = rw c.in-ViewChange.is
 
-pub returns-in-Recovering : goal.returns-in-Recovering
-unfolding is_changing
-returns-in-Recovering c = rw c.in-Recovering.is
+pub returns-in_default : goal.returns-in_default
+returns-in_default c = other c.args.status c.in_default.not-ViewChange

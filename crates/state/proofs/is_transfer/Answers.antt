@@ -1,19 +1,21 @@
 -- `state::is_transfer` meets its contract. Assumes nothing.
+use mathlib.Core.Path.{◌≡◌, refl}
+use mathlib.Core.Bool.{false}
+use Rattle.frames.specs.declared.Status.{Status}
+use Rattle.frames.specs.declared.Status.TheVariants.{Normal, StateTransfer, ViewChange, Recovering}
 use Rattle.state.specs.Statuses.{is_transfer}
 use Rattle.state.proofs.is_transfer.Goals as goal
 
-pub returns-in-Normal : goal.returns-in-Normal
+other : (s : Status) → (s ≡ StateTransfer → ⊥) → false ≡ is_transfer s
 unfolding is_transfer
-returns-in-Normal c = rw c.in-Normal.is
+other Normal n = refl
+other StateTransfer n = absurd (n refl)
+other ViewChange n = refl
+other Recovering n = refl
 
 pub returns-in-StateTransfer : goal.returns-in-StateTransfer
 unfolding is_transfer
 returns-in-StateTransfer c = rw c.in-StateTransfer.is
 
-pub returns-in-ViewChange : goal.returns-in-ViewChange
-unfolding is_transfer
-returns-in-ViewChange c = rw c.in-ViewChange.is
-
-pub returns-in-Recovering : goal.returns-in-Recovering
-unfolding is_transfer
-returns-in-Recovering c = rw c.in-Recovering.is
+pub returns-in_default : goal.returns-in_default
+returns-in_default c = other c.args.status c.in_default.not-StateTransfer

@@ -10,7 +10,7 @@ pub returns : goal.returns
 unfolding big encode_place
 returns c =
     let before = c.args.area.now in
-    let s1 = c.write_u8.ensures ∙ ap (λ (k : ℕ). over (big 1 k) before) c.status_number.ensures in
+    let s1 = c.write_u8.ensures ∙ ap (λ (k : ℕ). over (big 1 k) before) c.from.ensures in
     let s2 = over-lend _ _ _ 1 refl s1 c.write_u32.ensures in
     let s3 = over-lend _ _ _ 5 refl s2 c.write_u32-2.ensures in
     let s4 = over-lend _ _ _ 9 refl s3 c.write_flag.ensures in

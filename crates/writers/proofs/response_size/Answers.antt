@@ -2,10 +2,10 @@
 use Rattle.writers.specs.Writers.{state_size}
 use Rattle.writers.proofs.response_size.Goals as goal
 
-pub returns-in-Absent : goal.returns-in-Absent
+pub returns-in-None : goal.returns-in-None
 unfolding state_size
-returns-in-Absent c = rw c.in-Absent.is c.sized.ensures
+returns-in-None c = rw c.in-None.is c.sized.ensures
 
-pub returns-in-Present : goal.returns-in-Present
+pub returns-in-Some : goal.returns-in-Some
 unfolding state_size
-returns-in-Present c = rw c.in-Present.is c.sized-in-Present.ensures
+returns-in-Some c = rw c.in-Some.is c.sized-in-Some.ensures

@@ -5,16 +5,16 @@ use Rattle.writers.proofs.write_state.Goals as goal
 
 pub response_bare-requires : goal.response_bare-requires
 unfolding encode size_of state_size length_of
-response_bare-requires c = omega (arith, (rw c.in-Absent.is at c.requires).fits)
+response_bare-requires c = omega (arith, (rw c.in-None.is at c.requires).fits)
 
 pub response_full-requires : goal.response_full-requires
 unfolding encode size_of state_size length_of
-response_full-requires c = let p = rw c.in-Present.is at c.requires in (p.few, (p.log, p.fits))
+response_full-requires c = let p = rw c.in-Some.is at c.requires in (p.few, (p.log, p.fits))
 
-pub returns-in-Absent : goal.returns-in-Absent
+pub returns-in-None : goal.returns-in-None
 unfolding encode size_of state_size length_of
-returns-in-Absent c = rw c.in-Absent.is c.response_bare.ensures
+returns-in-None c = rw c.in-None.is c.response_bare.ensures
 
-pub returns-in-Present : goal.returns-in-Present
+pub returns-in-Some : goal.returns-in-Some
 unfolding encode size_of state_size length_of
-returns-in-Present c = rw c.in-Present.is c.response_full.ensures
+returns-in-Some c = rw c.in-Some.is c.response_full.ensures

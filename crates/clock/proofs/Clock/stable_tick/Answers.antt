@@ -1,13 +1,20 @@
 -- `clock::Clock::stable_tick` meets its contract. Assumes nothing.
+use mathlib.Core.Path.{◌≡◌}
+use Prim.Native.Nat.{◌+◌, min}
+use native.Mathlib.Omega.{arith}
 use Rattle.clock.specs.Clock.{stable_tick}
 use borrow.Author.Tests.{le-leb, lt-leb}
 use Rattle.numbers.specs.Words.{when◌then◌else◌}
 use Rattle.clock.proofs.Clock.stable_tick.Goals as goal
 
-pub returns-then-timeout-s : goal.returns-then-timeout-s
+pub returns-then-timeout-stable : goal.returns-then-timeout-stable
 unfolding stable_tick when◌then◌else◌
-returns-then-timeout-s c = rw (← c.least-s.ensures, le-leb _ _ c.if-timeout-s.true)
+returns-then-timeout-stable c =
+    let e : c.min-stable.result ≡ min (c.args.self.stable + 1) c.args.timeout = omega arith in
+    rw (← e, le-leb _ _ c.if-timeout-stable.true)
 
-pub returns-else-timeout-s : goal.returns-else-timeout-s
+pub returns-else-timeout-stable : goal.returns-else-timeout-stable
 unfolding stable_tick when◌then◌else◌
-returns-else-timeout-s c = rw (← c.least-s.ensures, lt-leb _ _ c.if-timeout-s.false)
+returns-else-timeout-stable c =
+    let e : c.min-stable.result ≡ min (c.args.self.stable + 1) c.args.timeout = omega arith in
+    rw (← e, lt-leb _ _ c.if-timeout-stable.false)

@@ -1,9 +1,13 @@
 -- `comparing::answer::clean` meets its contract. Assumes nothing.
-use Rattle.comparing.proofs.AnswerLaws.{clean-done, clean-refused}
+use Rattle.std.proofs.Common.{rules}
+use Rattle.numbers.specs.Words.{◌or◌}
+use Rattle.comparing.specs.Answers.{clean_refusal}
 use Rattle.comparing.proofs.answer.clean.Goals as goal
 
-pub returns-then-a-eq0 : goal.returns-then-a-eq0
-returns-then-a-eq0 c = clean-done c.args.a c.args.mem.now c.args.before c.if-a-eq0.true
+pub returns-then-is_ok : goal.returns-then-is_ok
+unfolding clean_refusal ◌or◌
+returns-then-is_ok c = search rules
 
 pub returns : goal.returns
-returns c = clean-refused c.args.a c.args.mem.now c.args.before c.with_bytes.result c.if-a-eq0.false c.with_bytes.ensures
+unfolding clean_refusal ◌or◌
+returns c = search rules

@@ -4,4 +4,4 @@ use Rattle.comparing.proofs.digest.with_byte.Goals as goal
 
 pub returns : goal.returns
 unfolding hashed
-returns c = c.times_prime.ensures
+returns c = rw c.from.ensures

@@ -9,4 +9,4 @@ pub returns-then-s-gt4096 : goal.returns-then-s-gt4096
 returns-then-s-gt4096 c = reports-none c.args.s c.args.mem.now c.if-s-gt4096.true
 
 pub returns : goal.returns
-returns c = let s = c.args.s in c.with_reports.ensures ∙ ap (λ (n : ℕ). digest_of (reports_text s.setup.room n s.reports.rows c.args.mem.now)) c.seven.ensures.0 ∙ reports-some s c.args.mem.now c.if-s-gt4096.false
+returns c = let s = c.args.s in c.with_reports.ensures ∙ ap (λ (n : ℕ). digest_of (reports_text s.setup.room n s.reports.rows c.args.mem.now)) c.min.ensures ∙ reports-some s c.args.mem.now c.if-s-gt4096.false

@@ -1,13 +1,16 @@
 -- `comparing::fields::with_nth` meets its contract. Assumes nothing.
-use Rattle.std.proofs.Common.{◌+◌, ◌*◌, ◌∙◌, arith}
+use Rattle.std.proofs.Common.{ℕ, ◌+◌, ◌*◌, List, ap, ◌∙◌}
+use Rattle.comparing.specs.Digests.{digest_after}
+use Rattle.comparing.specs.Fields.{row_text}
+use Rattle.comparing.proofs.AreaLaws.{part-length}
 use Rattle.comparing.proofs.FieldLaws.{nth-none, nth-some}
 use Rattle.comparing.proofs.fields.with_nth.Goals as goal
 
-pub returns-then-mem-at : goal.returns-then-mem-at
-returns-then-mem-at c = nth-none c.args.h c.args.mem.now (400 + 25 * c.args.i) (omega arith)
+pub with_row-requires : goal.with_row-requires
+with_row-requires c = part-length _ _ _ c.in-Some.ensures.0 c.in-Some.ensures.1
 
-pub returns-then-mem-at-lt25 : goal.returns-then-mem-at-lt25
-returns-then-mem-at-lt25 c = nth-none c.args.h c.args.mem.now (400 + 25 * c.args.i) (omega arith)
+pub returns-in-Some : goal.returns-in-Some
+returns-in-Some c = c.with_row.ensures ∙ ap (λ (row : List ℕ). digest_after c.args.h (row_text row)) c.in-Some.ensures.1 ∙ nth-some c.args.h c.args.mem.now (400 + 25 * c.args.i) c.in-Some.ensures.0
 
-pub returns : goal.returns
-returns c = c.with_row.ensures ∙ nth-some c.args.h c.args.mem.now (400 + 25 * c.args.i) (omega arith)
+pub returns-in-None : goal.returns-in-None
+returns-in-None c = nth-none c.args.h c.args.mem.now (400 + 25 * c.args.i) c.in-None.ensures

@@ -1,13 +1,11 @@
 -- `comparing::memory::untouched` meets its contract. Assumes nothing.
-use Rattle.std.proofs.Common.{◌∙◌}
-use Rattle.comparing.proofs.AreaLaws.{alone-short, alone-order, alone-all}
+use Rattle.std.proofs.Common.{ap, ◌∙◌}
+use Rattle.comparing.specs.Areas.{all_spoilt}
+use Rattle.comparing.proofs.AreaLaws.{alone-none, alone-all}
 use Rattle.comparing.proofs.memory.untouched.Goals as goal
 
-pub returns-then-area-to : goal.returns-then-area-to
-returns-then-area-to c = alone-short c.args.from c.args.to c.args.area.now c.if-area-to.true
+pub returns-in-Some : goal.returns-in-Some
+returns-in-Some c = let e = c.in-Some.ensures.lookup in c.spoilt.ensures ∙ ap all_spoilt e.0.2 ∙ alone-all c.args.from c.args.to c.args.area.now e.0.1 e.0.0
 
-pub returns-then-to-from : goal.returns-then-to-from
-returns-then-to-from c = alone-order c.args.from c.args.to c.args.area.now c.if-area-to.false c.if-to-from.true
-
-pub returns : goal.returns
-returns c = c.spoilt.ensures ∙ alone-all c.args.from c.args.to c.args.area.now c.if-area-to.false c.if-to-from.false
+pub returns-in-None : goal.returns-in-None
+returns-in-None c = alone-none c.args.from c.args.to c.args.area.now c.in-None.ensures.lookup.0

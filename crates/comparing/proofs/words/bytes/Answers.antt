@@ -2,8 +2,7 @@
 use Rattle.std.proofs.Common.{ℕ, ◌/◌, List, length, ap, ◌∙◌}
 use Rattle.numbers.specs.Numbers.{over}
 use Rattle.comparing.specs.Text.{lesser_of, bytes_in}
-use Rattle.comparing.proofs.TextLaws.{word-part}
 use Rattle.comparing.proofs.words.bytes.Goals as goal
 
 pub returns : goal.returns
-returns c = let e = word-part c.args.line.now c.args.k c.start-from.result c.start-from.ensures.0 in (c.decode_first.ensures.0 ∙ ap (λ (w : List ℕ). lesser_of (length w / 2) (length c.args.area.now)) e, c.decode_first.ensures.1 ∙ ap (λ (w : List ℕ). over (bytes_in c.decode_first.result w) c.args.area.now) e)
+returns c = let e = c.word.ensures in (c.decoded.ensures.0 ∙ ap (λ (w : List ℕ). lesser_of (length w / 2) (length c.args.area.now)) e, c.decoded.ensures.1 ∙ ap (λ (w : List ℕ). over (bytes_in c.decoded.result w) c.args.area.now) e)

@@ -1,13 +1,13 @@
 -- `comparing::words::letter` meets its contract. Assumes nothing.
-use Rattle.std.proofs.Common.{le-ltb, lt-ltb}
+use Rattle.std.proofs.Common.{arith}
 use Rattle.numbers.specs.Words.{when◌then◌else◌}
 use Rattle.comparing.specs.Text.{hex_digit}
 use Rattle.comparing.proofs.words.letter.Goals as goal
 
-pub returns-then-d-lt10 : goal.returns-then-d-lt10
+pub returns-in-0-to-9 : goal.returns-in-0-to-9
 unfolding hex_digit when◌then◌else◌
-returns-then-d-lt10 c = rw (lt-ltb c.args.d 10 c.if-d-lt10.true)
+returns-in-0-to-9 c = grind arith
 
-pub returns : goal.returns
+pub returns-in_default : goal.returns-in_default
 unfolding hex_digit when◌then◌else◌
-returns c = rw (le-ltb c.args.d 10 c.if-d-lt10.false)
+returns-in_default c = grind arith

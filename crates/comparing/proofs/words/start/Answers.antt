@@ -4,9 +4,9 @@ use Rattle.comparing.specs.Text.{word_start}
 use Rattle.comparing.proofs.TextLaws.{start-next}
 use Rattle.comparing.proofs.words.start.Goals as goal
 
-pub loop-i-init : goal.loop-i-init
+pub loop-init : goal.loop-init
 unfolding word_start
-loop-i-init c = (search rules, (refl, search rules))
+loop-init c = (refl, search rules)
 
-pub loop-i-preserved : goal.loop-i-preserved
-loop-i-preserved c = (search rules, (start-next c.args.s.now c.loop-i.i c.loop-i.at c.behind-at.result c.loop-i.invariant.1.0 c.behind-at.ensures.0, c.behind-at.ensures.1))
+pub loop-preserved : goal.loop-preserved
+loop-preserved c = (start-next c.args.s.now c.loop.counter c.loop.at c.behind-at.result c.loop.invariant.0 c.behind-at.ensures.0, c.behind-at.ensures.1)

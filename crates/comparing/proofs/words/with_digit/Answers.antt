@@ -1,9 +1,9 @@
 -- `comparing::words::with_digit` meets its contract. Assumes nothing.
-use Rattle.std.proofs.Common.{ℕ, ◌+◌, ◌*◌, ◌%◌, ◌^◌, ap, ◌∙◌}
+use native.Mathlib.Nat.{mod-add-mod}
+use Rattle.comparing.proofs.words.with_digit.Goals.{then-hex, else-hex}
 use Rattle.comparing.specs.Text.{with_digit, base_of}
-use Rattle.comparing.proofs.DigestLaws.{plus-whole}
 use Rattle.comparing.proofs.words.with_digit.Goals as goal
 
 pub returns : goal.returns
-unfolding with_digit
-returns c = let a = c.args in plus-whole (a.x * base_of a.hex) _ c.wrapping_add_u64.ensures.value c.scaled.ensures ∙ ap (λ (d : ℕ). (a.x * base_of a.hex + d) % 2 ^ 64) c.digit.ensures.0
+unfolding with_digit base_of
+returns c = elim c.if-hex.branch [ then-hex w ↦ rw (w.if-hex.true, w.base-is, c.from.ensures, c.digit.ensures.0) (mod-add-mod _ _ _) | else-hex w ↦ rw (w.if-hex.false, w.base-is, c.from.ensures, c.digit.ensures.0) (mod-add-mod _ _ _) ]

@@ -21,7 +21,7 @@ returns-then-n-left c =
 pub loop-i-init : goal.loop-i-init
 loop-i-init c =
     let a = c.args in
-    (omega arith, omega (arith, ap length (table_none a.run.now)))
+    omega (arith, ap length (table_none a.run.now))
 
 pub returns-then-left-size : goal.returns-then-left-size
 returns-then-left-size c =
@@ -35,4 +35,4 @@ loop-i-preserved c =
     let l = c.loop-i in
     let a = c.args in
     let m = table-longer l.i a.run.now c.entry_at.result c.entry_at.ensures in
-    (omega arith, omega arith)
+    omega arith

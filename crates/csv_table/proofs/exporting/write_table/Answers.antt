@@ -19,7 +19,7 @@ copy-requires c =
 pub loop-i-init : goal.loop-i-init
 loop-i-init c =
     let a = c.args in
-    (omega arith, refl, header-again a.run.now a.area.now c.copy.ensures)
+    (refl, header-again a.run.now a.area.now c.copy.ensures)
 
 pub slice_bounds-put_row-count : goal.slice_bounds-put_row-count
 slice_bounds-put_row-count c =
@@ -58,13 +58,13 @@ loop-i-preserved c =
     let a = c.args in
     let l = c.loop-i in
     let e = c.entry_at in
-    let w = wrote-lend _ _ _ _ _ l.invariant.2 c.put_row-at.ensures in
-    (omega arith, search rules, rw (table_more l.i a.run.now e.result e.ensures) at w)
+    let w = wrote-lend _ _ _ _ _ l.invariant.1 c.put_row-at.ensures in
+    (search rules, rw (table_more l.i a.run.now e.result e.ensures) at w)
 
 pub returns : goal.returns
 returns c =
     let a = c.args in
     let l = c.loop-i in
     let e : l.i ≡ run_count a.run.now = omega arith in
-    let w = header-under a.run.now a.area.now c.copy.ensures l.i l.invariant.2 in
+    let w = header-under a.run.now a.area.now c.copy.ensures l.i l.invariant.1 in
     rw e at w

@@ -1,17 +1,21 @@
--- `csv::fields::cents_in` meets its contract, by what `read` says of the text (`cents-good`, `cents-bad`).
+-- `csv_table::fields::cents_in` meets its contract.
 -- Assumes nothing.
-use mathlib.Core.Path.{sym, ◌∙◌}
-use Rattle.csv_table.proofs.FieldLaws.{cents-good, cents-bad}
+use mathlib.Core.Path.{sym, ap, ◌∙◌}
+use mathlib.Core.Bool.{Bool}
+use Rattle.std.specs.Prelude.{option_and_then}
+use Rattle.std.specs.Bool.{then_some}
+use Rattle.entries.specs.Entries.{operation_ok}
+use Rattle.csv_table.specs.Fields.{cents_in}
 use Rattle.csv_table.proofs.fields.cents_in.Goals as goal
 
-pub returns-then-operation_ok : goal.returns-then-operation_ok
-returns-then-operation_ok c =
-    let a = c.args in
-    let e = sym c.operation_ok.ensures ∙ c.if-operation_ok.true in
-    cents-good a.operation a.t.now c.read-n.result c.read-n.ensures e
+pub returns-in_err-n : goal.returns-in_err-n
+unfolding cents_in
+returns-in_err-n c =
+    c.from_residual.ensures ∙ ap (option_and_then (λ n. then_some (operation_ok c.args.operation n) n)) (sym c.in_err-n.was ∙ c.read.ensures)
 
 pub returns : goal.returns
+unfolding cents_in
 returns c =
-    let a = c.args in
-    let e = sym c.operation_ok.ensures ∙ c.if-operation_ok.false in
-    c.no_number.ensures ∙ cents-bad a.operation a.t.now c.read-n.result c.read-n.ensures e
+    c.then_some.ensures
+    ∙ ap (λ (b : Bool). then_some b c.in_ok-n.n) c.operation_ok.ensures
+    ∙ ap (option_and_then (λ n. then_some (operation_ok c.args.operation n) n)) (sym c.in_ok-n.was ∙ c.read.ensures)

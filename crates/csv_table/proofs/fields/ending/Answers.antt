@@ -1,72 +1,29 @@
--- `csv::fields::ending` meets its contract: its tests are those of the definition, by places (`ending_at`).
+-- `csv_table::fields::ending` meets its contract: each arm is a case of the definition.
 -- Assumes nothing.
-use Prim.Native.Nat.{◌+◌, ◌-◌}
 use native.Mathlib.Omega.{arith}
-use lib.ListN.{length, get_or-eq_default}
-use borrow.Author.Tests.{eq-eqb, ne_eqb}
-use Rattle.numbers.specs.Words.{◌and◌, when◌then◌else◌}
-use Rattle.csv_table.proofs.FieldLaws.{ending_at}
+use lib.ListN.{get_or-eq_default}
+use Rattle.csv_table.proofs.FieldLaws.{ending-file, ending-comma, ending-line, ending-other, ending-cr}
 use Rattle.csv_table.proofs.fields.ending.Goals as goal
 
-pub returns-then-s-at : goal.returns-then-s-at
-unfolding when◌then◌else◌ ◌and◌
-returns-then-s-at c =
-    let a = c.args in
-    rw (ending_at a.at a.s.now, eq-eqb (length a.s.now - a.at) 0 (omega arith))
+pub returns-in-empty : goal.returns-in-empty
+returns-in-empty c = ending-file c.args.s.now (omega arith)
 
-pub returns-then-s-at-eq44 : goal.returns-then-s-at-eq44
-unfolding when◌then◌else◌ ◌and◌
-returns-then-s-at-eq44 c =
-    let a = c.args in
-    rw (
-      ending_at a.at a.s.now,
-      ne_eqb (length a.s.now - a.at) 0 (λ e. omega arith),
-      eq-eqb _ _ c.if-s-at-eq44.true,
-    )
+pub returns-in-13 : goal.returns-in-13
+returns-in-13 c = ending-line c.args.s.now (omega arith) (λ e. omega arith) (omega arith) (omega arith)
 
-pub returns-then-s-at-ne13 : goal.returns-then-s-at-ne13
-unfolding when◌then◌else◌ ◌and◌
-returns-then-s-at-ne13 c =
-    let a = c.args in
-    rw (
-      ending_at a.at a.s.now,
-      ne_eqb (length a.s.now - a.at) 0 (λ e. omega arith),
-      ne_eqb _ _ c.if-s-at-eq44.false,
-      ne_eqb _ _ c.if-s-at-ne13.true,
-    )
+pub returns-in-44 : goal.returns-in-44
+returns-in-44 c = ending-comma c.args.s.now (omega arith) (omega arith)
 
-pub returns-then-s-at-2 : goal.returns-then-s-at-2
-unfolding when◌then◌else◌ ◌and◌
-returns-then-s-at-2 c =
-    let a = c.args in
-    rw (
-      ending_at a.at a.s.now,
-      ne_eqb (length a.s.now - a.at) 0 (λ e. omega arith),
-      ne_eqb _ _ c.if-s-at-eq44.false,
-      eq-eqb _ _ c.if-s-at-ne13.false,
-      get_or-eq_default a.s.now 0 {n = a.at + 1} c.if-s-at-2.true,
-    )
+pub returns-in-44-2 : goal.returns-in-44-2
+returns-in-44-2 c = ending-comma c.args.s.now (omega arith) (omega arith)
 
-pub returns-then-s-at-ne10 : goal.returns-then-s-at-ne10
-unfolding when◌then◌else◌ ◌and◌
-returns-then-s-at-ne10 c =
-    let a = c.args in
-    rw (
-      ending_at a.at a.s.now,
-      ne_eqb (length a.s.now - a.at) 0 (λ e. omega arith),
-      ne_eqb _ _ c.if-s-at-eq44.false,
-      eq-eqb _ _ c.if-s-at-ne13.false,
-      ne_eqb _ _ c.if-s-at-ne10.true,
-    )
+pub returns-in_default : goal.returns-in_default
+returns-in_default c =
+    let z = get_or-eq_default c.args.s.now 0 {n = 1} (omega arith) in
+    ending-cr c.args.s.now (omega arith) (λ e. omega arith) (λ e. omega arith)
 
-pub returns : goal.returns
-unfolding when◌then◌else◌ ◌and◌
-returns c =
-    let a = c.args in
-    rw (
-      ending_at a.at a.s.now,
-      ne_eqb (length a.s.now - a.at) 0 (λ e. omega arith),
-      ne_eqb _ _ c.if-s-at-eq44.false,
-      eq-eqb _ _ c.if-s-at-ne13.false,
-      eq-eqb _ _ c.if-s-at-ne10.false,
-    )
+pub returns-in_default-2 : goal.returns-in_default-2
+returns-in_default-2 c = ending-cr c.args.s.now (omega arith) (λ e. omega arith) (λ e. omega arith)
+
+pub returns-in_default-3 : goal.returns-in_default-3
+returns-in_default-3 c = ending-other c.args.s.now (omega arith) (λ e. omega arith) (λ e. omega arith)

@@ -1,7 +1,7 @@
--- `csv::reading::copy_entries` meets its contract. The invariant: the area holds the entries of the first j rows behind the header, and p is where the next row
+-- `csv_table::reading::copy_entries` meets its contract. The invariant: the area holds the entries of the first j rows behind the header, and p is where the next row
 -- begins. Assumes nothing.
 use mathlib.Core.Path.{◌≡◌}
-use Prim.Native.Nat.{◌-◌, ◌≤◌}
+use Prim.Native.Nat.{◌≤◌}
 use lib.ListN.{length, drop}
 use Rattle.numbers.specs.Numbers.{over}
 use Rattle.numbers.specs.Cells.{packed}
@@ -12,8 +12,5 @@ use Rattle.csv_table.proofs.reading.copy_entries.Given as goal
 
 abbrev pub invariant-loop-j : goal.invariant-loop-j
 invariant-loop-j l =
-    (l.j ≤ l.n) × (l.p ≤ length l.file) × (length l.area ≡ length l.initial.area) × (drop l.p l.file ≡ behind_rows l.j l.file)
+    (l.p ≤ length l.file) × (length l.area ≡ length l.initial.area) × (drop l.p l.file ≡ behind_rows l.j l.file)
     × (l.area ≡ over (packed encode_entry (table_entries l.j l.file)) l.initial.area)
-
-abbrev pub decreases-loop-j : goal.decreases-loop-j
-decreases-loop-j l = l.n - l.j

@@ -1,4 +1,4 @@
--- `csv::reading::scan` meets its contract. The invariant: the whole answer is that of what is left of the file behind i good rows, each of a byte or more.
+-- `csv_table::reading::scan` meets its contract. The invariant: the whole answer is that of what is left of the file behind i good rows, each of a byte or more.
 -- Assumes nothing.
 use mathlib.Core.Path.{◌≡◌}
 use Prim.Native.Nat.{suc, ◌-◌, ◌≤◌}

@@ -1,17 +1,17 @@
--- Each test is one of the definition.
-use borrow.Author.Tests.{le-ltb, lt-ltb}
+-- The lengths of a vector that has a length field, and the others.
+use Rattle.std.proofs.Common.{arith}
 use Rattle.numbers.specs.Words.{when◌then◌else◌}
 use Rattle.frame_vectors.specs.Vectors.{fitted_length}
 use Rattle.frame_vectors.proofs.vector.rest_of.Goals as goal
 
-pub returns-then-n-lt4 : goal.returns-then-n-lt4
+pub returns-in-4-to-192 : goal.returns-in-4-to-192
 unfolding fitted_length when◌then◌else◌
-returns-then-n-lt4 c = rw (lt-ltb _ _ c.if-n-lt4.true)
+returns-in-4-to-192 c = grind arith
 
-pub returns-then-n-gt192 : goal.returns-then-n-gt192
+pub returns-in_default : goal.returns-in_default
 unfolding fitted_length when◌then◌else◌
-returns-then-n-gt192 c = rw (le-ltb _ _ c.if-n-lt4.false, lt-ltb _ _ c.if-n-gt192.true)
+returns-in_default c = grind arith
 
-pub returns : goal.returns
+pub returns-in_default-2 : goal.returns-in_default-2
 unfolding fitted_length when◌then◌else◌
-returns c = rw (le-ltb _ _ c.if-n-lt4.false, le-ltb _ _ c.if-n-gt192.false)
+returns-in_default-2 c = grind arith

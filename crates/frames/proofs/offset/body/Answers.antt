@@ -6,6 +6,7 @@ use native.Mathlib.Omega.{arith}
 use lib.ListN.{length, drop}
 use Rattle.offsets.specs.Rules.{end, reach, free}
 use Rattle.offsets.proofs.ReadLaws.{free-field, past-field, short-field, place-le}
+use Rattle.frames.specs.Kinds.{kind_number}
 use Rattle.frames.specs.FrameRules.{bound_from, bound_rule, body_rule}
 use Rattle.frames.proofs.offset.body.Goals as goal
 
@@ -30,27 +31,25 @@ module _ (s : List ℕ) (n k p : ℕ) (six : 6 ≤ bound_from k) (e : p ≡ 6 + 
 pub returns-then-p-at : goal.returns-then-p-at
 returns-then-p-at c =
     let read : let a = c.args in
-    c.free-p.result ≡ 6 + reach (free (bound_from a.kind - 6) end) (drop 6 a.s.now) = rw c.bound_from-at.ensures.0 at c.free-p.ensures in
-    let six : 6 ≤ bound_from c.args.kind = omega (arith, c.bound_from-at.ensures) in
+    c.free-p.result ≡ 6 + reach (free (bound_from (kind_number a.kind) - 6) end) (drop 6 a.s.now) = rw c.bound_from-at.ensures.0 at c.free-p.ensures in
+    let six : 6 ≤ bound_from (kind_number c.args.kind) = omega (arith, c.bound_from-at.ensures) in
     let a = c.args in
-    sym (stops a.s.now a.n a.kind _ six read (omega (arith, c.if-p-at.true, c.bound_from-at.ensures.0)))
+    sym (stops a.s.now a.n (kind_number a.kind) _ six read (omega (arith, c.if-p-at.true, c.bound_from-at.ensures.0)))
 
 pub bound-requires : goal.bound-requires
 bound-requires c =
     let read : let a = c.args in
-    c.free-p.result ≡ 6 + reach (free (bound_from a.kind - 6) end) (drop 6 a.s.now) = rw c.bound_from-at.ensures.0 at c.free-p.ensures in
-    let six : 6 ≤ bound_from c.args.kind = omega (arith, c.bound_from-at.ensures) in
-    let a = c.args in (
-      rw c.bound_from-at.ensures.0
-          (there a.s.now a.n a.kind _ six read c.requires.0 (omega (arith, c.if-p-at.false, c.bound_from-at.ensures.0))),
-      c.requires.1.1,
-    )
+    c.free-p.result ≡ 6 + reach (free (bound_from (kind_number a.kind) - 6) end) (drop 6 a.s.now) = rw c.bound_from-at.ensures.0 at c.free-p.ensures in
+    let six : 6 ≤ bound_from (kind_number c.args.kind) = omega (arith, c.bound_from-at.ensures) in
+    let a = c.args in
+    rw c.bound_from-at.ensures.0
+    (there a.s.now a.n (kind_number a.kind) _ six read c.requires (omega (arith, c.if-p-at.false, c.bound_from-at.ensures.0)))
 
 pub returns : goal.returns
 returns c =
     let read : let a = c.args in
-    c.free-p.result ≡ 6 + reach (free (bound_from a.kind - 6) end) (drop 6 a.s.now) = rw c.bound_from-at.ensures.0 at c.free-p.ensures in
-    let six : 6 ≤ bound_from c.args.kind = omega (arith, c.bound_from-at.ensures) in
+    c.free-p.result ≡ 6 + reach (free (bound_from (kind_number a.kind) - 6) end) (drop 6 a.s.now) = rw c.bound_from-at.ensures.0 at c.free-p.ensures in
+    let six : 6 ≤ bound_from (kind_number c.args.kind) = omega (arith, c.bound_from-at.ensures) in
     let a = c.args in
     rw c.bound_from-at.ensures.0 at c.bound.ensures
-    ∙ sym (goes a.s.now a.n a.kind _ six read (omega (arith, c.if-p-at.false, c.bound_from-at.ensures.0)))
+    ∙ sym (goes a.s.now a.n (kind_number a.kind) _ six read (omega (arith, c.if-p-at.false, c.bound_from-at.ensures.0)))

@@ -1,33 +1,33 @@
 -- `frames::offset::bound_from` meets its contract. Assumes nothing.
 use native.Mathlib.Omega.{arith}
-use borrow.Author.Tests.{ne_eqb}
 use lib.Dec.{lit≤}
 use Rattle.numbers.specs.Words.{when◌then◌else◌}
 use Rattle.frames.specs.FrameRules.{bound_from}
+use Rattle.frames.specs.Kinds.{kind_number}
+use Rattle.frames.proofs.KindLaws.{kind-low, kind-high, other-kind}
 use Rattle.frames.proofs.BodyLaws.{seven}
 use Rattle.frames.proofs.offset.bound_from.Goals as goal
 
-pub returns-in-6 : goal.returns-in-6
+pub returns-in-NewState : goal.returns-in-NewState
 unfolding bound_from when◌then◌else◌
-returns-in-6 c = (rw c.in-6.is, lit≤ tt)
+returns-in-NewState c = (rw c.in-NewState.is, lit≤ tt)
 
-pub returns-in-8 : goal.returns-in-8
+pub returns-in-DoViewChange : goal.returns-in-DoViewChange
 unfolding bound_from when◌then◌else◌
-returns-in-8 c = (rw c.in-8.is, lit≤ tt)
+returns-in-DoViewChange c = (rw c.in-DoViewChange.is, lit≤ tt)
 
-pub returns-in-9 : goal.returns-in-9
+pub returns-in-StartView : goal.returns-in-StartView
 unfolding bound_from when◌then◌else◌
-returns-in-9 c = (rw c.in-9.is, lit≤ tt)
+returns-in-StartView c = (rw c.in-StartView.is, lit≤ tt)
 
-pub returns-in-11 : goal.returns-in-11
+pub returns-in-RecoveryResponse : goal.returns-in-RecoveryResponse
 unfolding bound_from when◌then◌else◌
-returns-in-11 c = (rw c.in-11.is, lit≤ tt)
+returns-in-RecoveryResponse c = (rw c.in-RecoveryResponse.is, lit≤ tt)
 
 pub returns-in_default : goal.returns-in_default
 unfolding bound_from when◌then◌else◌
 returns-in_default c =
-    let r = c.in_default.in_default-own.rest in
-    let p = c.requires in (
-      simp (ne_eqb _ _ r.1, ne_eqb _ _ r.0.1, ne_eqb _ _ r.0.0.1, ne_eqb _ _ r.0.0.0.1) c.fields_end.ensures,
-      omega (arith, c.fields_end.ensures, seven c.args.kind p.0 p.1),
+    let r = c.in_default in (
+      rw (other-kind r.not-NewState, other-kind r.not-DoViewChange, other-kind r.not-StartView, other-kind r.not-RecoveryResponse) c.fields_end.ensures,
+      omega (arith, c.fields_end.ensures, seven (kind_number c.args.kind) (kind-low c.args.kind) (kind-high c.args.kind)),
     )

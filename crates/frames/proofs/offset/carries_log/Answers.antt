@@ -1,25 +1,27 @@
 -- `frames::offset::carries_log` meets its contract. Assumes nothing.
-use borrow.Author.Tests.{ne_eqb}
 use Rattle.numbers.specs.Words.{◌or◌}
 use Rattle.frames.specs.FrameRules.{carries_log}
+use Rattle.frames.proofs.KindLaws.{other-kind}
 use Rattle.frames.proofs.offset.carries_log.Goals as goal
 
-pub returns-in-6 : goal.returns-in-6
+pub returns-in-NewState : goal.returns-in-NewState
 unfolding carries_log ◌or◌
-returns-in-6 c = rw c.in-6.is
+returns-in-NewState c = rw c.in-NewState.is
 
-pub returns-in-8 : goal.returns-in-8
+pub returns-in-DoViewChange : goal.returns-in-DoViewChange
 unfolding carries_log ◌or◌
-returns-in-8 c = rw c.in-8.is
+returns-in-DoViewChange c = rw c.in-DoViewChange.is
 
-pub returns-in-9 : goal.returns-in-9
+pub returns-in-StartView : goal.returns-in-StartView
 unfolding carries_log ◌or◌
-returns-in-9 c = rw c.in-9.is
+returns-in-StartView c = rw c.in-StartView.is
 
-pub returns-in-11 : goal.returns-in-11
+pub returns-in-RecoveryResponse : goal.returns-in-RecoveryResponse
 unfolding carries_log ◌or◌
-returns-in-11 c = rw c.in-11.is
+returns-in-RecoveryResponse c = rw c.in-RecoveryResponse.is
 
 pub returns-in_default : goal.returns-in_default
 unfolding carries_log ◌or◌
-returns-in_default c = let r = c.in_default.in_default-own.rest in simp (ne_eqb _ _ r.1, ne_eqb _ _ r.0.1, ne_eqb _ _ r.0.0.1, ne_eqb _ _ r.0.0.0.1)
+returns-in_default c =
+    let r = c.in_default in
+    rw (other-kind r.not-NewState, other-kind r.not-DoViewChange, other-kind r.not-StartView, other-kind r.not-RecoveryResponse)

@@ -1,6 +1,6 @@
 -- `frames::offset::entries` meets its contract. The invariant: the whole answer is that of the entries that are left. Assumes nothing.
 use mathlib.Core.Path.{◌≡◌}
-use Prim.Native.Nat.{◌+◌, ◌-◌, ◌≤◌}
+use Prim.Native.Nat.{◌+◌, ◌-◌, ◌*◌, ◌≤◌}
 use lib.ListN.{length, drop}
 use Rattle.offsets.specs.Rules.{reach}
 use Rattle.frames.specs.FrameRules.{entries_rule}
@@ -8,7 +8,5 @@ use Rattle.frames.proofs.offset.entries.Given as goal
 
 abbrev pub invariant-loop-i : goal.invariant-loop-i
 invariant-loop-i l =
-    (l.i ≤ l.count) × (l.p ≤ length l.s) × (l.at + reach (entries_rule l.count) (drop l.at l.s) ≡ l.p + reach (entries_rule (l.count - l.i)) (drop l.p l.s))
-
-abbrev pub decreases-loop-i : goal.decreases-loop-i
-decreases-loop-i l = l.count - l.i
+    let p = l.at + 32 * l.i in
+    (p ≤ length l.s) × (l.at + reach (entries_rule l.count) (drop l.at l.s) ≡ p + reach (entries_rule (l.count - l.i)) (drop p l.s))

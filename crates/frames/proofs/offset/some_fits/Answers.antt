@@ -1,41 +1,40 @@
--- `frames::offset::some_fits` meets its contract. The invariant: no kind above k fits. Assumes nothing.
-use mathlib.Core.Path.{◌≡◌, sym, ap, ◌∙◌}
-use mathlib.Core.Bool.{Bool, true, false}
-use Prim.Native.Nat.{ℕ, suc, ◌-◌, ◌<◌}
+-- `frames::offset::some_fits` meets its contract. Assumes nothing.
+use Rattle.std.specs.Prelude.{Option}
+use Rattle.std.specs.Option.{is_some}
+use mathlib.Core.Path.{◌≡◌, refl, sym, ap, ◌∙◌}
+use mathlib.Core.Bool.{Bool, false}
+use Prim.Native.Nat.{ℕ, suc, ◌+◌, ◌-◌, ◌≤◌}
 use native.Mathlib.Omega.{arith}
 use Rattle.numbers.specs.Words.{◌or◌}
+use Rattle.frames.specs.Kinds.{KindIf}
+use Rattle.frames.specs.declared.Kind.{Kind}
 use Rattle.frames.specs.FrameRules.{fits, some_fits}
+use Rattle.frames.proofs.KindLaws.{some-kind}
+use Rattle.frames.proofs.LiveLaws.{fits-some}
 use Rattle.frames.proofs.offset.some_fits.Goals as goal
 
--- a kind that fits, and one that doesn't
-module _ (n k : ℕ) (h : 0 < k) where
-  here : fits n k ≡ true → some_fits k n ≡ true
-  unfolding some_fits ◌or◌
-  here e =
-      let m : k ≡ suc (k - 1) = omega arith in
-      ap (λ (j : ℕ). some_fits j n) m ∙ ap (λ (b : Bool). b or some_fits (k - 1) n) (ap (fits n) (sym m) ∙ e)
+pub loop-k-init : goal.loop-k-init
+unfolding some_fits
+loop-k-init c = refl
 
-  below : fits n k ≡ false → some_fits k n ≡ some_fits (k - 1) n
-  unfolding some_fits ◌or◌
-  below e =
-      let m : k ≡ suc (k - 1) = omega arith in
-      ap (λ (j : ℕ). some_fits j n) m ∙ ap (λ (b : Bool). b or some_fits (k - 1) n) (ap (fits n) (sym m) ∙ e)
+-- what the code's test of kind k says
+fitted : (n k : ℕ) (r : Option Kind) {b : Bool} → KindIf (fits n k) k r → is_some r ≡ b → fits n k ≡ b
+fitted n k r f e = sym (some-kind (fits n k) k r f) ∙ e
 
-pub returns-then-fits : goal.returns-then-fits
-returns-then-fits c =
+pub returns-then-is_some : goal.returns-then-is_some
+returns-then-is_some c =
     let l = c.loop-k in
-    sym (l.invariant.1 ∙ here c.args.n l.k c.loop-k-test.true (sym c.fits.ensures ∙ c.if-fits.true))
+    sym (fits-some 11 c.args.n l.k (omega arith) (omega arith) (fitted c.args.n l.k _ c.fitting.ensures (sym c.is_some.ensures ∙ c.if-is_some.true)))
+
+-- one more kind that doesn't fit
+next : (n k : ℕ) → 1 ≤ k → fits n k ≡ false → some_fits (k - 1) n ≡ false → some_fits k n ≡ false
+unfolding some_fits ◌or◌
+next n k l f h =
+    let m : k ≡ suc (k - 1) = omega arith in
+    ap (λ (j : ℕ). some_fits j n) m ∙ ap (λ (b : Bool). b or some_fits (k - 1) n) (ap (fits n) (sym m) ∙ f) ∙ h
 
 pub loop-k-preserved : goal.loop-k-preserved
 loop-k-preserved c =
-    let l = c.loop-k in (
-      omega arith,
-      l.invariant.1 ∙ below c.args.n l.k c.loop-k-test.true (sym c.fits.ensures ∙ c.if-fits.false),
-    )
-
-pub returns : goal.returns
-unfolding some_fits
-returns c =
     let l = c.loop-k in
-    let z : l.k ≡ 0 = omega (arith, c.loop-k-test.false) in
-    sym (l.invariant.1 ∙ ap (λ (j : ℕ). some_fits j c.args.n) z)
+    let back : l.k + 1 - 1 ≡ l.k = omega arith in
+    rw back (next c.args.n l.k (omega arith) (fitted c.args.n l.k _ c.fitting.ensures (sym c.is_some.ensures ∙ c.if-is_some.false)) l.invariant)

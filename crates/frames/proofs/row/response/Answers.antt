@@ -2,10 +2,10 @@
 use Rattle.frames.specs.Messages.{state_row}
 use Rattle.frames.proofs.row.response.Goals as goal
 
-pub returns-in-Absent : goal.returns-in-Absent
+pub returns-in-None : goal.returns-in-None
 unfolding state_row
-returns-in-Absent c = rw c.in-Absent.is c.row.ensures
+returns-in-None c = rw c.in-None.is c.row.ensures
 
-pub returns-in-Present : goal.returns-in-Present
+pub returns-in-Some : goal.returns-in-Some
 unfolding state_row
-returns-in-Present c = rw c.in-Present.is
+returns-in-Some c = rw c.in-Some.is

@@ -1,17 +1,17 @@
 -- `frames::shape::fields_ok` meets its contract. Assumes nothing.
-use borrow.Author.Tests.{ne_eqb}
 use Rattle.numbers.specs.Words.{when◌then◌else◌}
 use Rattle.frames.specs.Kinds.{fields_ok}
+use Rattle.frames.proofs.KindLaws.{other-kind}
 use Rattle.frames.proofs.shape.fields_ok.Goals as goal
 
-pub returns-in-6 : goal.returns-in-6
+pub returns-in-NewState : goal.returns-in-NewState
 unfolding fields_ok when◌then◌else◌
-returns-in-6 c = rw (c.in-6.is, ← c.read_u32.ensures, ← c.read_u32-in-6.ensures)
+returns-in-NewState c = rw (c.in-NewState.is, ← c.read_u32.ensures, ← c.read_u32-in-NewState.ensures)
 
-pub returns-in-11 : goal.returns-in-11
+pub returns-in-RecoveryResponse : goal.returns-in-RecoveryResponse
 unfolding fields_ok when◌then◌else◌
-returns-in-11 c = rw (c.in-11.is, ← c.read_u8.ensures)
+returns-in-RecoveryResponse c = rw (c.in-RecoveryResponse.is, ← c.read_u8.ensures)
 
 pub returns-in_default : goal.returns-in_default
 unfolding fields_ok when◌then◌else◌
-returns-in_default c = simp (ne_eqb _ _ c.in_default.in_default-own.rest.1, ne_eqb _ _ c.in_default.in_default-own.rest.0.1)
+returns-in_default c = rw (other-kind c.in_default.not-NewState, other-kind c.in_default.not-RecoveryResponse)

@@ -1,28 +1,28 @@
 -- `handlers::message::handle` meets its contract. Assumes nothing.
+use Rattle.std.specs.Prelude.{Ok, Err}
 use Rattle.handlers.proofs.HandleLaws.{request-is, prepare-is, prepare-ok-is, commit-is, get-state-is, new-state-is, start-view-change-is, do-view-change-is, start-view-is, recovery-is, response-is}
 use Rattle.handlers.proofs.FrameLaws.{ok-fit, call-fit, new-state-fit, report-fit, start-view-fit, response-fit}
 use mathlib.Core.Path.{ap, ◌∙◌}
-use Rattle.frames.specs.declared.Checked.TheVariants.{Passed}
 use Rattle.frames.specs.declared.Message.{Message}
 use Rattle.handlers.proofs.message.handle.Goals as goal
 
 pub on_prepare_ok-requires : goal.on_prepare_ok-requires
-on_prepare_ok-requires c = let a = c.args in let f = ok-fit a.s.setup a.frame.now _ _ _ (c.requires.1 ∙ ap (λ (x : Message). Passed x) c.in-PrepareOk.is) in (c.requires.0.sound, (c.requires.0.acks-long, (f.0, f.1)))
+on_prepare_ok-requires c = let a = c.args in let f = ok-fit a.s.setup a.frame.now _ _ _ (c.requires.1 ∙ ap (λ (x : Message). Ok x) c.in-PrepareOk.is) in (c.requires.0.sound, (c.requires.0.acks-long, (f.0, f.1)))
 
 pub on_new_state-requires : goal.on_new_state-requires
-on_new_state-requires c = let a = c.args in let f = new-state-fit a.s.setup a.frame.now _ _ _ _ (c.requires.1 ∙ ap (λ (x : Message). Passed x) c.in-NewState.is) in (c.requires.0.sound, (record { start-le = f.0; end-le = f.1.0; commit-le = f.1.1.0 }, rw c.carried_bytes-part.ensures f.1.1.1))
+on_new_state-requires c = let a = c.args in let f = new-state-fit a.s.setup a.frame.now _ _ _ _ (c.requires.1 ∙ ap (λ (x : Message). Ok x) c.in-NewState.is) in (c.requires.0.sound, (record { start-le = f.0; end-le = f.1.0; commit-le = f.1.1.0 }, rw c.carried_bytes-part.ensures f.1.1.1))
 
 pub on_start_view_change-requires : goal.on_start_view_change-requires
-on_start_view_change-requires c = let a = c.args in (c.requires.0, call-fit a.s.setup a.frame.now _ _ (c.requires.1 ∙ ap (λ (x : Message). Passed x) c.in-StartViewChange.is))
+on_start_view_change-requires c = let a = c.args in (c.requires.0, call-fit a.s.setup a.frame.now _ _ (c.requires.1 ∙ ap (λ (x : Message). Ok x) c.in-StartViewChange.is))
 
 pub on_do_view_change-requires : goal.on_do_view_change-requires
-on_do_view_change-requires c = let a = c.args in let f = report-fit a.s.setup a.frame.now _ _ _ _ _ (c.requires.1 ∙ ap (λ (x : Message). Passed x) c.in-DoViewChange.is) in (c.requires.0, record { sender = f.0; op_le = f.1.0; commit-le = f.1.1.0; long = rw c.carried_bytes-part-in-DoViewChange.ensures f.1.1.1 })
+on_do_view_change-requires c = let a = c.args in let f = report-fit a.s.setup a.frame.now _ _ _ _ _ (c.requires.1 ∙ ap (λ (x : Message). Ok x) c.in-DoViewChange.is) in (c.requires.0, record { sender = f.0; op_le = f.1.0; commit-le = f.1.1.0; long = rw c.carried_bytes-part-in-DoViewChange.ensures f.1.1.1 })
 
 pub on_start_view-requires : goal.on_start_view-requires
-on_start_view-requires c = let a = c.args in let f = start-view-fit a.s.setup a.frame.now _ _ _ (c.requires.1 ∙ ap (λ (x : Message). Passed x) c.in-StartView.is) in (c.requires.0.sound, (record { op_le = f.0; commit-le = f.1.0 }, (rw c.carried_bytes-part-in-StartView.ensures f.1.1, c.requires.0.acks-long)))
+on_start_view-requires c = let a = c.args in let f = start-view-fit a.s.setup a.frame.now _ _ _ (c.requires.1 ∙ ap (λ (x : Message). Ok x) c.in-StartView.is) in (c.requires.0.sound, (record { op_le = f.0; commit-le = f.1.0 }, (rw c.carried_bytes-part-in-StartView.ensures f.1.1, c.requires.0.acks-long)))
 
 pub on_recovery_response-requires : goal.on_recovery_response-requires
-on_recovery_response-requires c = let a = c.args in let f = response-fit a.s.setup a.frame.now _ _ _ _ (c.requires.1 ∙ ap (λ (x : Message). Passed x) c.in-RecoveryResponse.is) in (record { sound = c.requires.0.sound; reports = c.requires.0.reports; stored-long = c.requires.0.stored-long }, record { sender = f.0; op_le = f.1.0; commit-le = f.1.1.0; long = rw c.carried_bytes-part-in-RecoveryResponse.ensures f.1.1.1 })
+on_recovery_response-requires c = let a = c.args in let f = response-fit a.s.setup a.frame.now _ _ _ _ (c.requires.1 ∙ ap (λ (x : Message). Ok x) c.in-RecoveryResponse.is) in (record { sound = c.requires.0.sound; reports = c.requires.0.reports; stored-long = c.requires.0.stored-long }, record { sender = f.0; op_le = f.1.0; commit-le = f.1.1.0; long = rw c.carried_bytes-part-in-RecoveryResponse.ensures f.1.1.1 })
 
 pub returns-in-Request : goal.returns-in-Request
 returns-in-Request c = let a = c.args in request-is a.s a.m a.latest a.frame.now a.log.now a.results.now a.totals.now a.acks.now a.stored.now a.out.now a.reps.now _ c.in-Request.is c.on_request.ensures

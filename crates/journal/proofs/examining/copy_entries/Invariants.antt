@@ -1,6 +1,5 @@
 -- `journal::examining::copy_entries` meets its contract. Assumes nothing.
 use mathlib.Core.Path.{◌≡◌}
-use Prim.Native.Nat.{◌-◌, ◌≤◌}
 use lib.ListN.{length}
 use Rattle.numbers.specs.Numbers.{over}
 use Rattle.numbers.specs.Cells.{packed}
@@ -9,7 +8,8 @@ use Rattle.journal.specs.Journal.{filed}
 use Rattle.journal.proofs.examining.copy_entries.Given as goal
 
 abbrev pub invariant-loop-j : goal.invariant-loop-j
-invariant-loop-j l = (l.j ≤ l.k) × (length l.area ≡ length l.initial.area) × (l.area ≡ over (packed encode_entry (filed l.j l.file)) l.initial.area)
-
-abbrev pub decreases-loop-j : goal.decreases-loop-j
-decreases-loop-j l = l.k - l.j
+invariant-loop-j l =
+    record {
+      long : length l.area ≡ length l.initial.area;
+      copied : l.area ≡ over (packed encode_entry (filed l.j l.file)) l.initial.area;
+    }

@@ -1,52 +1,99 @@
 -- `journal::examining::examine_group` meets its contract. Assumes nothing.
-use mathlib.Core.Path.{sym, ap, ◌∙◌, subst}
-use mathlib.Core.List.{List}
-use Prim.Native.Nat.{ℕ, ◌+◌}
+use mathlib.Core.Path.{◌≡◌, sym, ap, ◌∙◌}
+use Prim.Native.Nat.{◌*◌}
 use native.Mathlib.Omega.{arith}
-use lib.ListN.{length}
+use lib.ListN.{length, take, length-drop}
+use lib.Seq.{length-take-le}
 use Rattle.journal.specs.Journal.{framed_entry}
-use Rattle.journal.specs.Steps.{totals_filed}
-use Rattle.journal.proofs.GroupLaws.{Grouped, grouped-none}
+use Rattle.journal.proofs.ChunkLaws.{turn-of, turn-next, turn-room, turn-in, turn-framed, turn-result}
+use Rattle.journal.proofs.GroupLaws.{grouped-none}
 use Rattle.journal.proofs.BelowLaws.{right-none, judged, right-turn, other-turn, group-bad, group-right}
 use Rattle.journal.proofs.examining.examine_group.Goals as goal
-use Rattle.journal.proofs.examining.examine_group.Goals.{then-in_group+else-fault-ne0, else-in_group}
 
 pub loop-i-init : goal.loop-i-init
 loop-i-init c =
     let a = c.args in
-    (omega arith, grouped-none a.members a.low 50 framed_entry a.file.now c.requires.0, right-none a.members a.low a.file.now)
+    let z : c.into_iter-i-iterator.result.count ≡ 0 = cc in
+    record {
+      size = cc;
+      rest = rw z cc;
+      there = omega (arith, z);
+      grouped = rw z (grouped-none a.group.members a.group.low 50 framed_entry a.file.now (omega arith));
+      right = rw z (right-none a.group.members a.group.low a.file.now);
+    }
 
-pub returns-then-fault-ne0 : goal.returns-then-fault-ne0
-returns-then-fault-ne0 c =
-    let e = c.entry_at-e in
+pub returns-in-Err : goal.returns-in-Err
+returns-in-Err c =
     let l = c.loop-i in
+    let v = l.invariant in
     let a = c.args in
-    let f = c.result_fault-fault in
+    let file = a.file.now in
+    let i = l.i-iterator.count in
+    let s = c.in-Some.ensures.steps in
+    let long = length-take-le (50 * a.j.frames) file c.requires.there in
+    let n = turn-of {w = 50} {k = i} {s = take (50 * a.j.frames) file} v.size v.rest s.0.1.0 s.0.1.1 in
+    let u = turn-in (50 * a.j.frames) n (omega (arith, long, v.there)) in
+    let e = c.entry_at-e in
     let r = c.result_at in
-    group-bad a.members a.low a.file.now a.j c.requires.1 l.i f.result c.loop-i-test.true l.invariant.2
-    (judged a.members a.low a.file.now l.i l.totals l.invariant.1 l.invariant.2 e.result e.ensures (sym c.in_group.ensures ∙ c.if-in_group.true) c.apply-given.result r.result f.result
-    c.apply-given.ensures.0 r.ensures f.ensures) c.if-fault-ne0.true
+    let f = c.result_fault in
+    rw s.1 (group-bad a.group.members a.group.low file a.j c.requires i c.in-Err.fault (omega (arith, turn-room n (omega arith), long)) v.right
+    (sym (judged a.group.members a.group.low file i l.totals v.grouped v.right e.result (e.ensures ∙ turn-framed u) (sym c.has.ensures ∙ c.if-has.true)
+    c.apply-given.result r.result f.result c.apply-given.ensures.outcome (r.ensures ∙ turn-result u) f.ensures) ∙ c.in-Err.is))
+
+pub loop-i-preserved-in_default : goal.loop-i-preserved-in_default
+loop-i-preserved-in_default c =
+    let l = c.loop-i in
+    let v = l.invariant in
+    let a = c.args in
+    let file = a.file.now in
+    let i = l.i-iterator.count in
+    let s = c.in-Some.ensures.steps in
+    let long = length-take-le (50 * a.j.frames) file c.requires.there in
+    let n = turn-of {w = 50} {k = i} {s = take (50 * a.j.frames) file} v.size v.rest s.0.1.0 s.0.1.1 in
+    let u = turn-in (50 * a.j.frames) n (omega (arith, long, v.there)) in
+    let e = c.entry_at-e in
+    let r = c.result_at in
+    let f = c.result_fault in
+    let g = c.apply-given in
+    let t = right-turn a.group.members a.group.low file i l.totals v.grouped v.right e.result (e.ensures ∙ turn-framed u) (sym c.has.ensures ∙ c.if-has.true)
+    g.result r.result f.result g.ensures.outcome (r.ensures ∙ turn-result u) f.ensures g.new.totals g.ensures.totals g.auto.totals c.in_default.is in
+    rw s.2 (record {
+      size = s.0.0 ∙ v.size;
+      rest = turn-next n;
+      there = omega (arith, turn-room n (omega arith), long);
+      grouped = t.0;
+      right = t.1;
+    })
 
 pub loop-i-preserved : goal.loop-i-preserved
 loop-i-preserved c =
-    let e = c.entry_at-e in
     let l = c.loop-i in
+    let v = l.invariant in
     let a = c.args in
-    elim c.if-in_group.branch [
-      | then-in_group+else-fault-ne0 w ↦
-          let r = w.result_at in
-          let t = right-turn a.members a.low a.file.now l.i l.totals l.invariant.1 l.invariant.2 e.result e.ensures (sym c.in_group.ensures ∙ w.if-in_group.true)
-          w.apply-given.result r.result w.result_fault-fault.result
-          w.apply-given.ensures.0 r.ensures w.result_fault-fault.ensures c.if-in_group.totals (w.totals-is ∙ w.apply-given.ensures.1)
-          (ap length w.totals-is ∙ w.apply-given.auto.totals) w.if-fault-ne0.false in
-          (omega (arith, c.loop-i-test.true), t.0, t.1)
-      | else-in_group w ↦
-          let t = other-turn a.members a.low a.file.now l.i l.totals l.invariant.1 l.invariant.2 e.result e.ensures (sym c.in_group.ensures ∙ w.if-in_group.false) in
-          (omega (arith, c.loop-i-test.true), subst (λ (x : List ℕ). Grouped a.members a.low (totals_filed a.members (l.i + 1) a.file.now) x) (sym w.totals-is) t.0, t.1)
-    ]
+    let file = a.file.now in
+    let i = l.i-iterator.count in
+    let s = c.in-Some.ensures.steps in
+    let long = length-take-le (50 * a.j.frames) file c.requires.there in
+    let n = turn-of {w = 50} {k = i} {s = take (50 * a.j.frames) file} v.size v.rest s.0.1.0 s.0.1.1 in
+    let u = turn-in (50 * a.j.frames) n (omega (arith, long, v.there)) in
+    let e = c.entry_at-e in
+    let t = other-turn a.group.members a.group.low file i l.totals v.grouped v.right e.result (e.ensures ∙ turn-framed u) (sym c.has.ensures ∙ c.if-has.false) in
+    rw s.2 (record {
+      size = s.0.0 ∙ v.size;
+      rest = turn-next n;
+      there = omega (arith, turn-room n (omega arith), long);
+      grouped = t.0;
+      right = t.1;
+    })
 
 pub returns : goal.returns
 returns c =
     let l = c.loop-i in
+    let v = l.invariant in
     let a = c.args in
-    group-right a.members a.low a.file.now a.j c.requires.1 l.i c.loop-i-test.false l.invariant.0 l.invariant.2
+    let file = a.file.now in
+    let i = l.i-iterator.count in
+    let s = c.in-None.ensures.steps in
+    let long = length-take-le (50 * a.j.frames) file c.requires.there in
+    group-right a.group.members a.group.low file a.j c.requires i
+    (omega (arith, s.0.1.0, v.size, ap length v.rest, length-drop (50 * i) (take (50 * a.j.frames) file), long)) v.there v.right

@@ -1,17 +1,22 @@
 -- `journal::examining::put_totals` meets its contract. Assumes nothing.
 use mathlib.Core.Path.{◌≡◌}
-use Prim.Native.Nat.{◌-◌, ◌*◌, ◌≤◌}
-use lib.ListN.{length}
+use Prim.Native.Nat.{◌*◌, ◌≤◌}
+use lib.ListN.{length, drop}
 use Rattle.numbers.specs.Numbers.{Bytes}
 use Rattle.numbers.specs.Cells.{cells}
 use Rattle.layout.specs.Layout.{total_of}
 use Rattle.journal.specs.Steps.{totals_filed}
 use Rattle.journal.proofs.examining.put_totals.Given as goal
 
--- the run has the totals after the first j frames
-abbrev pub invariant-loop-j : goal.invariant-loop-j
-invariant-loop-j l =
-    (l.j ≤ l.k) × (length l.totals ≡ 8 * l.members) × Bytes l.totals × (cells 8 total_of l.members l.totals ≡ totals_filed l.members l.j l.file)
-
-abbrev pub decreases-loop-j : goal.decreases-loop-j
-decreases-loop-j l = l.k - l.j
+-- the run has the totals after so many frames
+abbrev pub invariant-loop-frame : goal.invariant-loop-frame
+invariant-loop-frame l =
+    let j = length l.yielded in
+    record {
+      size : l.frame-iterator.size ≡ 50;
+      rest : l.frame-iterator.rest.now ≡ drop (50 * j) l.file;
+      there : 50 * j ≤ length l.file;
+      long : length l.totals ≡ 8 * l.members;
+      bytes : Bytes l.totals;
+      are : cells 8 total_of l.members l.totals ≡ totals_filed l.members j l.file;
+    }

@@ -1,6 +1,5 @@
 -- `journal::writing::copy_frames` meets its contract. Assumes nothing.
 use mathlib.Core.Path.{◌≡◌}
-use Prim.Native.Nat.{◌-◌, ◌≤◌}
 use lib.ListN.{length, drop}
 use Rattle.numbers.specs.Numbers.{over}
 use Rattle.entries.specs.Entries.{entries}
@@ -11,8 +10,8 @@ use Rattle.journal.proofs.writing.copy_frames.Given as goal
 
 abbrev pub invariant-loop-j : goal.invariant-loop-j
 invariant-loop-j l =
-    (l.j ≤ l.k) × (length l.area ≡ length l.initial.area)
-    × (l.area ≡ over (frames_after l.from (entries l.j (drop (entry_place l.from) l.log)) (outcomes l.j (drop (result_place l.from) l.results))) l.initial.area)
-
-abbrev pub decreases-loop-j : goal.decreases-loop-j
-decreases-loop-j l = l.k - l.j
+    record {
+      long : length l.area ≡ length l.initial.area;
+      copied :
+          l.area ≡ over (frames_after l.from (entries l.j (drop (entry_place l.from) l.log)) (outcomes l.j (drop (result_place l.from) l.results))) l.initial.area;
+    }

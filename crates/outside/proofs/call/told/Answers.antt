@@ -1,11 +1,10 @@
 -- `outside::call::told` meets its contract. Assumes nothing.
+use mathlib.Core.Path.{sym, ◌∙◌}
 use Rattle.outside.proofs.CallLaws.{told-his, told-other}
-use mathlib.Core.Path.{sym, ap, ◌∙◌}
-use Rattle.outside.specs.declared.call.Carrying.{Carrying}
 use Rattle.outside.proofs.call.told.Goals as goal
 
-pub returns-then-carried_by : goal.returns-then-carried_by
-returns-then-carried_by c = sym (told-his c.args.m c.args.l (ap (λ (k : Carrying). k.carries) (sym c.carried_by.ensures) ∙ c.if-carried_by.true))
+pub returns-in-Some : goal.returns-in-Some
+returns-in-Some c = sym (told-his c.args.m c.args.l _ (sym c.carried_by.ensures ∙ c.in-Some.is))
 
-pub returns : goal.returns
-returns c = sym (told-other c.args.m c.args.l (ap (λ (k : Carrying). k.carries) (sym c.carried_by.ensures) ∙ c.if-carried_by.false))
+pub returns-in-None : goal.returns-in-None
+returns-in-None c = sym (told-other c.args.m c.args.l (sym c.carried_by.ensures ∙ c.in-None.is))

@@ -5,9 +5,9 @@ use Rattle.numbers.specs.Words.{when◌then◌else◌}
 use Rattle.replica_structs.specs.Core.{change_after}
 use Rattle.replica_structs.proofs.kernel.change_after.Goals as goal
 
-pub returns-then-a-ne0 : goal.returns-then-a-ne0
+pub returns-then-is_err : goal.returns-then-is_err
 unfolding change_after when◌then◌else◌
-returns-then-a-ne0 c = search (tests, rules)
+returns-then-is_err c = search (tests, rules)
 
 pub returns : goal.returns
 unfolding change_after when◌then◌else◌

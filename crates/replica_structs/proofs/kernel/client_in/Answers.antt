@@ -3,10 +3,10 @@ use borrow.Author.Rules.{rules}
 use Rattle.replica_structs.specs.Core.{client_in}
 use Rattle.replica_structs.proofs.kernel.client_in.Goals as goal
 
-pub returns-in-Refused : goal.returns-in-Refused
+pub returns-in-Err : goal.returns-in-Err
 unfolding client_in
-returns-in-Refused c = search rules
+returns-in-Err c = search rules
 
-pub returns-in-Passed : goal.returns-in-Passed
+pub returns-in-Ok : goal.returns-in-Ok
 unfolding client_in
-returns-in-Passed c = search rules
+returns-in-Ok c = search rules

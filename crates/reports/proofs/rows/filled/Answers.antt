@@ -8,7 +8,7 @@ use Rattle.reports.proofs.rows.filled.Goals as goal
 
 pub loop-i-init : goal.loop-i-init
 unfolding filled_in
-loop-i-init c = (omega arith, rw (rows_end c.args.t.rows c.args.n))
+loop-i-init c = rw (rows_end c.args.t.rows c.args.n)
 
 pub count_one-k-requires : goal.count_one-k-requires
 count_one-k-requires c =
@@ -19,7 +19,7 @@ count_one-k-requires c =
       filled-le (drop l.i (take a.n a.t.rows)),
       length-drop l.i (take a.n a.t.rows),
       length-take a.n a.t.rows,
-      l.invariant.1,
+      l.invariant,
       c.report_at.ensures.1,
     )
 
@@ -27,8 +27,6 @@ pub loop-i-preserved : goal.loop-i-preserved
 loop-i-preserved c =
     let a = c.args in
     let l = c.loop-i in
-    let r = c.report_at in (
-      omega arith,
-      filled-turn a.t.rows a.n l.i r.result (omega arith) (omega arith) (omega arith) r.ensures.1 r.ensures.0 l.k
-          c.count_one-k.result l.invariant.1 c.count_one-k.ensures,
-    )
+    let r = c.report_at in
+    filled-turn a.t.rows a.n l.i r.result (omega arith) (omega arith) (omega arith) r.ensures.1 r.ensures.0 l.k
+    c.count_one-k.result l.invariant c.count_one-k.ensures

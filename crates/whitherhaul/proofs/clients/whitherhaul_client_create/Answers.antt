@@ -3,10 +3,10 @@ use Rattle.whitherhaul.proofs.ClientLaws.{no-creation, create-refused, create-do
 use Rattle.whitherhaul.proofs.clients.whitherhaul_client_create.Goals as goal
 
 pub returns-then-held-ne54 : goal.returns-then-held-ne54
-returns-then-held-ne54 c = let a = c.args in no-creation a.n a.id a.held.now c.if-held-ne54.true
+returns-then-held-ne54 c = let a = c.args in no-creation a.n a.id a.held.now c.from.ensures c.if-held-ne54.true
 
-pub returns-then-a-ne0 : goal.returns-then-a-ne0
-returns-then-a-ne0 c = let a = c.args in create-refused a.n a.id a.held.now c.if-held-ne54.false c.create-a.result c.create-a.ensures c.if-a-ne0.true
+pub returns-in-Err : goal.returns-in-Err
+returns-in-Err c = let a = c.args in create-refused a.n a.id a.held.now c.if-held-ne54.false _ c.create-after.ensures c.in-Err.is c.from-in-Err.ensures
 
-pub returns : goal.returns
-returns c = let a = c.args in create-done a.n a.id a.held.now c.if-held-ne54.false c.create-a.result c.create-a.ensures c.if-a-ne0.false c.write_client.ensures
+pub returns-in-Ok : goal.returns-in-Ok
+returns-in-Ok c = let a = c.args in create-done a.n a.id a.held.now c.if-held-ne54.false _ c.create-after.ensures c.in-Ok.is c.write_client.ensures

@@ -2,18 +2,14 @@
 use Rattle.whitherhaul.proofs.ClientLaws.{read-malformed, read-said, malformed-points, said-points}
 use Rattle.whitherhaul.proofs.clients.whitherhaul_read_reply.Goals as goal
 
-pub returns-in-Malformed : goal.returns-in-Malformed
-returns-in-Malformed c =
+pub returns-in-Err : goal.returns-in-Err
+returns-in-Err c =
     let r = c.read_reply in
     let s = c.args.frame.now in
-    let g = c.in-Malformed.is in
-    (read-malformed s r.result r.ensures.exact g, malformed-points s r.result r.ensures.exact g r.ensures.points)
+    (read-malformed s r.result r.ensures.exact c.in-Err.is, malformed-points s r.result r.ensures.exact c.in-Err.is r.ensures.points)
 
-pub returns-in-Reply : goal.returns-in-Reply
-returns-in-Reply c =
+pub returns-in-Ok : goal.returns-in-Ok
+returns-in-Ok c =
     let r = c.read_reply in
     let s = c.args.frame.now in
-    let g = c.in-Reply.is in (
-      read-said s r.result r.ensures.exact g c.outcome_number.ensures,
-      said-points s r.result r.ensures.exact g r.ensures.points,
-    )
+    (read-said s r.result r.ensures.exact c.in-Ok.is c.from.ensures, said-points s r.result r.ensures.exact c.in-Ok.is r.ensures.points)

@@ -12,4 +12,4 @@ pub keep-requires : goal.keep-requires
 keep-requires c = state-long _ c.requires
 
 pub returns : goal.returns
-returns c = (message-ran c.args.state.now c.args.frame.now (lent c.args.log.now c.args.results.now c.args.totals.now c.args.acks.now c.args.stored.now c.args.table.now c.args.out.now c.args.reps.now) _ _ _ c.requires c.read_state.ensures c.on_message-r.ensures.0 c.keep.ensures, rw c.keep.ensures.number c.on_message-r.ensures.1)
+returns c = rw (c.messages.ensures, c.replies.ensures, c.offset.ensures) (message-ran c.args.state.now c.args.frame.now (lent c.args.log.now c.args.results.now c.args.totals.now c.args.acks.now c.args.stored.now c.args.table.now c.args.out.now c.args.reps.now) _ _ _ c.requires c.read_state.ensures c.on_message-a.ensures.0 c.keep.ensures, rw c.keep.ensures.number c.on_message-a.ensures.1)

@@ -12,4 +12,4 @@ pub keep-requires : goal.keep-requires
 keep-requires c = state-long _ c.requires
 
 pub returns : goal.returns
-returns c = idle-ran c.args.state.now (lent c.args.log.now c.args.results.now c.args.totals.now c.args.acks.now c.args.stored.now c.args.table.now c.args.out.now c.args.reps.now) _ _ _ c.requires c.read_state.ensures c.on_idle-a.ensures c.keep.ensures
+returns c = rw (c.messages.ensures, c.replies.ensures) (idle-ran c.args.state.now (lent c.args.log.now c.args.results.now c.args.totals.now c.args.acks.now c.args.stored.now c.args.table.now c.args.out.now c.args.reps.now) _ _ _ c.requires c.read_state.ensures c.on_idle-a.ensures c.keep.ensures)

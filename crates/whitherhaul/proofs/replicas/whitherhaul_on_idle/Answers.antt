@@ -1,11 +1,15 @@
 -- `whitherhaul::replicas::whitherhaul_on_idle` meets its contract. Assumes nothing.
-use borrow.Author.Tests.{not-false}
+use mathlib.Core.Path.{sym, ◌∙◌}
 use Rattle.replica.specs.Lent.{lent}
-use Rattle.whitherhaul.proofs.ReplicaLaws.{no-tick, looks-none, looks-ok, looks-quiet}
+use Rattle.state_bytes.proofs.QuietLaws.{looks-none, looks-ok, looks-quiet}
+use Rattle.whitherhaul.proofs.ReplicaLaws.{no-tick}
 use Rattle.whitherhaul.proofs.replicas.whitherhaul_on_idle.Goals as goal
 
-pub returns-then-not-l : goal.returns-then-not-l
-returns-then-not-l c = let a = c.args in no-tick a.state.now (lent a.log.now a.results.now a.totals.now a.acks.now a.stored.now a.table.now a.out.now a.reps.now) (looks-none _ c.look_over-l.ensures c.if-not-l.true)
+pub returns-in_default : goal.returns-in_default
+returns-in_default c = let a = c.args in no-tick a.state.now (lent a.log.now a.results.now a.totals.now a.acks.now a.stored.now a.table.now a.out.now a.reps.now) (looks-none _ c.look_over.ensures c.in_default.is)
+
+pub tick_whole-requires : goal.tick_whole-requires
+tick_whole-requires c = looks-ok _ c.look_over.ensures c.in-Some.is
 
 pub tick_usual-requires : goal.tick_usual-requires
-tick_usual-requires c = let l = c.look_over-l in (looks-ok _ l.ensures c.if-not-l.false, looks-quiet _ l.ensures (not-false l.result.quiet c.if-not-l-2.false))
+tick_usual-requires c = let l = c.look_over.ensures in (looks-ok _ l c.in-Some.is, looks-quiet _ l c.in-Some.is (sym c.is_quiet.ensures ∙ c.if-is_quiet.true))

@@ -1,4 +1,5 @@
 -- `writers::kinds::response_full` meets its contract: each part stands straight behind the one before. Assumes nothing.
+use Rattle.std.specs.Prelude.{Some, None}
 use mathlib.Core.Path.{refl}
 use Rattle.numbers.specs.Numbers.{big}
 use Rattle.numbers.proofs.RunLaws.{over-lend}
@@ -7,10 +8,10 @@ use mathlib.Core.Path.{sym}
 use Prim.Native.Nat.{◌*◌}
 use lib.ListN.{take}
 use lib.Seq.{length-take-le}
-use Rattle.frames.specs.declared.RecoveryState.TheVariants.{Present}
 use Rattle.frames.specs.declared.Message.TheVariants.{RecoveryResponse}
 use Rattle.writers.proofs.WriterLaws.{encode-length}
 use Rattle.writers.proofs.kinds.response_full.Goals as goal
+use Rattle.frames.specs.Messages.{progress}
 
 pub returns : goal.returns
 unfolding big header encode size_of state_size length_of
@@ -20,5 +21,5 @@ returns c =
     let s3 = over-lend _ _ _ 25 refl s2 c.write_u32-2.ensures in
     record {
       bytes = over-lend _ _ _ 29 refl s3 c.copy.ensures;
-      count = sym (encode-length a.to (RecoveryResponse a.v a.x a.r (Present a.o a.c)) (take (32 * a.o.0) a.log.now) (length-take-le (32 * a.o.0) a.log.now c.requires.1.0));
+      count = sym (encode-length a.to (RecoveryResponse a.v a.x a.r (Some (progress a.o a.c))) (take (32 * a.o.0) a.log.now) (length-take-le (32 * a.o.0) a.log.now c.requires.1.0));
     }

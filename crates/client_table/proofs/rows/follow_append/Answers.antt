@@ -1,0 +1,30 @@
+-- `client_table::rows::follow_append` meets its contract. Assumes nothing.
+use mathlib.Core.Path.{sym, ◌∙◌}
+use Prim.Native.Nat.{◌-◌}
+use lib.ListN.{drop}
+use Rattle.numbers.proofs.CellLaws.{cells-next, cells-none}
+use Rattle.entries.specs.Entries.{entry_of, entries}
+use Rattle.entries.specs.Places.{entry_place}
+use Rattle.client_table.proofs.LeavesLaws.{leaves-then, leaves_is, leaves-now}
+use Rattle.client_table.proofs.Turns.{append-turn, append-none}
+use Rattle.client_table.proofs.rows.follow_append.Goals as goal
+
+pub loop-k-preserved : goal.loop-k-preserved
+loop-k-preserved g c =
+    let a = c.args in
+    let f = g.F.Form in
+    let l = c.loop-k in (
+      leaves-now f.rows f.rest a.n (leaves-then f.rows f.rest a.n l.invariant.0 c.put.ensures),
+      l.invariant.1 ∙ append-turn f.shape (f.rows a.n l.table) _ c.entry_in.result c.fresh.result
+          (entries (a.to - l.k) (drop (entry_place l.k) a.log.now)) _
+          (cells-next 32 entry_of a.to a.log.now l.k c.entry_in.result c.loop-k-test.true c.entry_in.ensures) c.fresh.ensures c.put.ensures.rows,
+    )
+
+pub returns : goal.returns
+returns g c =
+    let a = c.args in
+    let f = g.F.Form in
+    let l = c.loop-k in
+    let rest = entries (a.to - l.k) (drop (entry_place l.k) a.log.now) in
+    leaves_is f.rows f.rest a.n l.invariant.0 (sym (l.invariant.1 ∙ append-none f.shape (f.rows a.n l.table) rest
+    (cells-none 32 entry_of a.to (drop (entry_place l.k) a.log.now) l.k c.loop-k-test.false)))

@@ -1,9 +1,0 @@
--- `comparing::words::decode_first` meets its contract. Assumes nothing.
-use Rattle.std.proofs.Common.{ℕ, ◌/◌, List, length, ap, ◌∙◌}
-use Rattle.numbers.specs.Numbers.{over}
-use Rattle.comparing.specs.Text.{lesser_of, bytes_in}
-use Rattle.comparing.proofs.TextLaws.{first_part}
-use Rattle.comparing.proofs.words.decode_first.Goals as goal
-
-pub returns : goal.returns
-returns c = let e = first_part c.args.r.now c.find-n.result c.find-n.ensures.0 in (c.decoded.ensures.0 ∙ ap (λ (w : List ℕ). lesser_of (length w / 2) (length c.args.area.now)) e, c.decoded.ensures.1 ∙ ap (λ (w : List ℕ). over (bytes_in c.decoded.result w) c.args.area.now) e)

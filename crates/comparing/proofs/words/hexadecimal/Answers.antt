@@ -1,0 +1,8 @@
+-- `comparing::words::hexadecimal` meets its contract. Assumes nothing.
+use Rattle.std.proofs.Common.{true, ap, ◌∙◌}
+use Rattle.comparing.specs.Text.{number_after, number_at}
+use Rattle.comparing.proofs.words.hexadecimal.Goals as goal
+
+pub returns : goal.returns
+unfolding number_at
+returns c = c.number.ensures ∙ ap (number_after true 0) c.word.ensures
