@@ -178,11 +178,11 @@ pub struct Carried {
     pub whole: u32,
 }
 
-// A frame read: to whom it goes, and what it says.
+// A frame read: to whom it goes, and what it says. The message stands first: behind a byte, the machine code finds its kind at run time that is known before.
 #[derive(Clone, Copy)]
 pub struct Addressed {
-    pub to: u8,
     pub message: Message,
+    pub to: u8,
 }
 
 // Why a call of a replica is refused: document 01's causes, in the order of their numbers.
