@@ -11,9 +11,13 @@ use Rattle.client.specs.declared.AfterCreate.{AfterCreate}
 use Rattle.client.specs.declared.AfterRequest.{AfterRequest}
 use Rattle.client.specs.declared.AfterReply.{AfterReply}
 use Rattle.client.specs.declared.refusal.ClientRefusal.{ClientRefusal}
+use Rattle.client.specs.declared.outcome.ReplyOutcome.{ReplyOutcome}
+use Rattle.client.specs.declared.outcome.NoOutcome.{NoOutcome}
 use Rattle.client.specs.declared.ReplyFields.{ReplyFields}
 use Rattle.client.specs.declared.Malformed.{Malformed}
 use Rattle.client.specs.Client.{create_of, requested_of, requested_area, replied_of, idled_of, idled_area}
+use Rattle.client.specs.Refusals.{client_refusal_number}
+use Rattle.client.specs.Outcomes.{outcome_number, outcome_of}
 use Rattle.client.specs.Replies.{Reads}
 
 pub one : {A : Type 0} {x y z : A} → x ≡ z → y ≡ z → x ≡ y
@@ -37,3 +41,13 @@ idled-one c s r t x y p q = (one p.0 q.0, one p.1 q.1)
 
 pub read-reply-one : (s : List ℕ) (r t : Result ReplyFields Malformed) → Reads s r → Reads s t → r ≡ t
 read-reply-one s r t p q = one p.exact q.exact
+
+-- u8::from of a refusal, of an outcome; ReplyOutcome::try_from
+pub refusal-number-one : (cause : ClientRefusal) (r t : ℕ) → r ≡ client_refusal_number cause → t ≡ client_refusal_number cause → r ≡ t
+refusal-number-one cause r t = one
+
+pub outcome-number-one : (outcome : ReplyOutcome) (r t : ℕ) → r ≡ outcome_number outcome → t ≡ outcome_number outcome → r ≡ t
+outcome-number-one outcome r t = one
+
+pub outcome-of-one : (k : ℕ) (r t : Result ReplyOutcome NoOutcome) → r ≡ outcome_of k → t ≡ outcome_of k → r ≡ t
+outcome-of-one k r t = one

@@ -2,6 +2,7 @@
 --     leaves-same     nothing was changed
 --     leaves-then     one change after another
 --     leaves_is, leaves-done, leaves-now     the rows under another name, by what is known of them, and as they are read
+--     leaves-one      two runs that were left by one promise have the same rows, and the same behind them
 -- Assumes nothing.
 use mathlib.Core.Path.{◌≡◌, refl, sym, ◌∙◌}
 use mathlib.Core.List.{List}
@@ -25,3 +26,6 @@ module _ {C R : Type 0} (get : ℕ → List C → List R) (behind : ℕ → List
 
     pub leaves-now : Leaves get behind n s t (get n t)
     leaves-now = leaves_is (sym k.rows)
+
+    pub leaves-one : {u : List C} → Leaves get behind n s u xs → (get n t ≡ get n u) × (behind n t ≡ behind n u)
+    leaves-one m = (k.rows ∙ sym m.rows, k.rest ∙ sym m.rest)

@@ -5,7 +5,7 @@
 --     left-size                             the run's length is as it was
 --     left-stored, shift-write              a row stored at a place: the laws that look at bytes
 --     left-cleared                          all rows unused
---     one-content                           what is left is fixed to the last byte
+--     one-content, left-one                 what is left is fixed to the last byte, whichever way it is said
 --     byte-lawful                           a row in bytes is a lawful form of row
 --     answered-outcome                      a reply that is told has an outcome of 1 to 6, whatever the bytes are
 -- Assumes nothing.
@@ -128,6 +128,10 @@ left-leaves {n} {s} {t} {rs} b l k =
 
 pub one-content : {n : ℕ} {s t u : List ℕ} {rs : List MarkedRow} → RowsLeft n s t rs → RowsLeft n s u rs → t ≡ u
 one-content k m = k.bytes ∙ sym m.bytes
+
+pub left-one : {n : ℕ} {s t u : List ℕ} {rs : List MarkedRow} → Bytes t → Bytes u → 25 * n ≤ length s → Leaves rows_of rest_of n s t rs
+    → Leaves rows_of rest_of n s u rs → t ≡ u
+left-one b c l k m = one-content (left-leaves b l k) (left-leaves c l m)
 
 -- ---- a row stored
 

@@ -1,8 +1,9 @@
 -- A struct is a lawful form of row. Assumes nothing.
 use Rattle.std.specs.Prelude.{◌≡◌, false, ◌≤◌, refl}
 use Rattle.std.proofs.Math.Option.{none, some}
-use Rattle.numbers.proofs.NumberLaws.{both-within}
-use Rattle.numbers.proofs.WordLaws.{if-true}
+use borrow.Author.Tests.{le-leb}
+use Rattle.numbers.specs.Words.{when◌then◌else◌, ◌and◌}
+use Rattle.numbers.specs.Numbers.{within}
 use Rattle.entries.specs.declared.Entry.{Entry}
 use Rattle.fees.specs.declared.Outcome.{Outcome}
 use Rattle.client_table.specs.Latest.{kept_of}
@@ -18,8 +19,8 @@ unfolding is_used reply_in
 fresh-is e = record { used = refl; client = refl; request = refl; kept = refl }
 
 answered-is : (e : Entry) (o : Outcome) → 1 ≤ o.code → o.code ≤ 6 → HoldsEntry struct_row (struct_row.answered e o) e (some o)
-unfolding is_used reply_in kept_of
-answered-is e o l m = record { used = refl; client = refl; request = refl; kept = if-true _ _ _ (both-within 1 6 o.code l m) }
+unfolding is_used reply_in kept_of within ◌and◌ when◌then◌else◌
+answered-is e o l m = record { used = refl; client = refl; request = refl; kept = rw (le-leb 1 o.code l, le-leb o.code 6 m) }
 
 pub struct-lawful : Lawful struct_row
 struct-lawful = record { blank = unused; fresh = fresh-is; answered = answered-is }

@@ -6,10 +6,11 @@ use mathlib.Core.Bool.{Bool, false≢true}
 use mathlib.Core.List.{List}
 use Prim.Native.Nat.{ℕ}
 use Rattle.config.specs.declared.Setup.{Setup}
-use Rattle.frames.specs.Kinds.{KindIf, kind_of}
+use Rattle.frames.specs.Kinds.{kind_number, KindIf, kind_of}
 use Rattle.frames.specs.Messages.{carried_of, carried_bytes}
 use Rattle.frames.specs.Numbered.{Parses, Checks}
-use Rattle.frames.specs.Looks.{looks_at}
+use Rattle.frames.specs.Refusals.{number_of}
+use Rattle.frames.specs.Looks.{status_number, looks_at}
 use Rattle.frames.specs.declared.Kind.{Kind}
 use Rattle.frames.specs.declared.Status.{Status}
 use Rattle.frames.specs.declared.Message.{Message}
@@ -25,6 +26,16 @@ parse-one s a b p q = one_answer p.exact q.exact
 
 pub check-one : (u : Setup) (s : List ℕ) (a b : Result Message Refusal) → Checks u s a → Checks u s b → a ≡ b
 check-one u s a b p q = one_answer p.exact q.exact
+
+-- u8::from of a refusal, of a status, of a kind
+pub refusal-number-one : (r : Refusal) (a b : ℕ) → a ≡ number_of r → b ≡ number_of r → a ≡ b
+refusal-number-one r a b = one_answer
+
+pub status-number-one : (t : Status) (a b : ℕ) → a ≡ status_number t → b ≡ status_number t → a ≡ b
+status-number-one t a b = one_answer
+
+pub kind-number-one : (kind : Kind) (a b : ℕ) → a ≡ kind_number kind → b ≡ kind_number kind → a ≡ b
+kind-number-one kind a b = one_answer
 
 pub looks-one : (t : Status) (m : Message) (a b : Bool) → a ≡ looks_at t (carried_of m).kind → b ≡ looks_at t (carried_of m).kind → a ≡ b
 looks-one t m a b = one_answer
