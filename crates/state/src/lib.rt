@@ -65,7 +65,7 @@ pub struct Returned {
 // What the boundary and the programs tell of an answer in numbers.
 impl Returned {
     // Document 01's number: 0 where the call is done.
-    // Kept: the number that C is told.
+    // Kept: the number that a recorded line has, with which the programs compare it, and which they print.
     pub fn number(self) -> u8
         ensures { result ≡ code_of self }
     {
