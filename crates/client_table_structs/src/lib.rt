@@ -75,6 +75,10 @@ impl Form for StructRows {
         cell::held_in(row.request, row.reply)
     }
 
+    fn blank() -> Row {
+        cell::no_row()
+    }
+
     fn fresh(e: Entry) -> Row {
         cell::row_holding(e, KeptReply::Waiting)
     }
