@@ -9,7 +9,7 @@ use Rattle.entries.specs.Entries.{entries}
 use Rattle.entries.specs.declared.Entry.{Entry}
 use Rattle.fees.specs.Results.{outcomes}
 use Rattle.fees.specs.declared.Outcome.{Outcome}
-use Rattle.client_table.specs.Rows.{stored, followed}
+use Rattle.client_table.specs.Rows.{stored, rebuilt, followed}
 use Rattle.client_table.specs.Found.{Found, found_in, latest_of}
 use Rattle.client_table.specs.Latest.{latest_by}
 use Rattle.client_table.specs.declared.Change.{Change}
@@ -36,6 +36,14 @@ clear-one table x y p q = p ∙ sym q
 -- what the table has of a client
 pub latest-one : (table : List Row) (client : ℕ) (r t : Latest) → r ≡ latest_among table client → t ≡ latest_among table client → r ≡ t
 latest-one table client r t p q = p ∙ sym q
+
+-- rebuild
+module _ (table : List Row) (log results : List ℕ) (op done : ℕ) where
+  abbrev Rebuilt : List Row → Type 0
+  Rebuilt x = x ≡ rebuilt struct_row (replicate (length table) unused_row) (entries op log) (outcomes done results)
+
+  pub rebuild-one : (x y : List Row) → Rebuilt x → Rebuilt y → x ≡ y
+  rebuild-one x y p q = p ∙ sym q
 
 -- follow
 module _ (table : List Row) (log results : List ℕ) (change : Change) where
