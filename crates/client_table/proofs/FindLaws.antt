@@ -1,6 +1,6 @@
 -- What a search finds of a client.
 --     found-past, found-unused, found-other, found-his     the ways out of `find`
---     row-found, none-found                                what was found says where his row stands, or would go
+--     row-found, none-found                                what was found says where his row stands, or would go, and the row there
 --     found-inside                                         a row that was found stands in the table
 --     latest-found                                         what the core is told of him
 -- Assumes nothing.
@@ -22,9 +22,9 @@ use Rattle.client_table.specs.Shape.{Shape, row_at}
 use Rattle.client_table.proofs.SearchLaws.{there-inside}
 
 module _ {R : Type 0} (h : Shape R) (xs : List R) (c : ℕ) where
-  none : (at : ℕ) → at ≡ spot_of h xs c → is_there h xs c ≡ false → Err at ≡ found_in h xs c
+  none : (at : ℕ) (x : R) → at ≡ spot_of h xs c → x ≡ row_at h xs (spot_of h xs c) → is_there h xs c ≡ false → Err (at, x) ≡ found_in h xs c
   unfolding found_in
-  none at p n = ap (λ (k : ℕ). Err k) p ∙ sym (if-false _ _ _ n)
+  none at x p q n = (λ j. Err (p j, q j)) ∙ sym (if-false _ _ _ n)
 
   module _ (at : ℕ) (p : at ≡ seek h 0 (Client c) xs) where
     spot : at ≡ spot_of h xs c
@@ -35,17 +35,17 @@ module _ {R : Type 0} (h : Shape R) (xs : List R) (c : ℕ) where
       here : x ≡ row_at h xs (spot_of h xs c)
       here = q ∙ ap (λ (k : ℕ). row_at h xs k) spot
 
-      pub found-unused : u ≡ false → Err at ≡ found_in h xs c
+      pub found-unused : u ≡ false → Err (at, x) ≡ found_in h xs c
       unfolding is_there ◌and◌
-      found-unused n = none at spot (ap (λ (b : Bool). b and eqb (h.client (row_at h xs (spot_of h xs c))) c) (sym (ap (λ (y : R). h.used y) here) ∙ sym s ∙ n))
+      found-unused n = none at x spot here (ap (λ (b : Bool). b and eqb (h.client (row_at h xs (spot_of h xs c))) c) (sym (ap (λ (y : R). h.used y) here) ∙ sym s ∙ n))
 
       module _ (k : ℕ) (i : k ≡ h.client x) where
         his : k ≡ h.client (row_at h xs (spot_of h xs c))
         his = i ∙ ap (λ (y : R). h.client y) here
 
-        pub found-other : (k ≡ c → ⊥) → Err at ≡ found_in h xs c
+        pub found-other : (k ≡ c → ⊥) → Err (at, x) ≡ found_in h xs c
         unfolding is_there
-        found-other n = none at spot (and-false _ _ (ap (λ (j : ℕ). eqb j c) (sym his) ∙ ne_eqb k c n))
+        found-other n = none at x spot here (and-false _ _ (ap (λ (j : ℕ). eqb j c) (sym his) ∙ ne_eqb k c n))
 
         pub found-his : u ≡ true → k ≡ c → Ok (at, x) ≡ found_in h xs c
         unfolding found_in is_there
@@ -53,17 +53,18 @@ module _ {R : Type 0} (h : Shape R) (xs : List R) (c : ℕ) where
             (λ j. Ok (spot j, here j))
             ∙ sym (if-true _ _ _ (and-true _ _ (sym (ap (λ (y : R). h.used y) here) ∙ sym s ∙ t) (ap (λ (j : ℕ). eqb j c) (sym his) ∙ eq-eqb k c e)))
 
-    pub found-past : h.used h.blank ≡ false → length xs ≤ at → Err at ≡ found_in h xs c
-    found-past b l = found-unused h.blank (sym (get_or-eq_default xs h.blank {n = at} l)) (h.used h.blank) refl b
+    pub found-past : h.used h.blank ≡ false → length xs ≤ at → (x : R) → x ≡ h.blank → Err (at, x) ≡ found_in h xs c
+    found-past b l x e =
+        found-unused x (e ∙ sym (get_or-eq_default xs h.blank {n = at} l)) (h.used x) refl (ap (λ (y : R). h.used y) e ∙ b)
 
   -- what an answer says
   abbrev Says : Found R → Type 0
   Says (Ok p) = (is_there h xs c ≡ true) × (p.0 ≡ spot_of h xs c) × (p.1 ≡ row_at h xs (spot_of h xs c))
-  Says (Err at) = (is_there h xs c ≡ false) × (at ≡ spot_of h xs c)
+  Says (Err p) = (is_there h xs c ≡ false) × (p.0 ≡ spot_of h xs c) × (p.1 ≡ row_at h xs (spot_of h xs c))
 
   says : Says (found_in h xs c)
   unfolding found_in
-  says = split Says (is_there h xs c) _ _ (λ t. (t, refl, refl)) (λ n. (n, refl))
+  says = split Says (is_there h xs c) _ _ (λ t. (t, refl, refl)) (λ n. (n, refl, refl))
 
   module _ {f : Found R} (p : f ≡ found_in h xs c) where
     pub row-found : {at : ℕ} {x : R} → f ≡ Ok (at, x)
@@ -73,7 +74,7 @@ module _ {R : Type 0} (h : Shape R) (xs : List R) (c : ℕ) where
     pub found-inside : h.used h.blank ≡ false → {at : ℕ} {x : R} → f ≡ Ok (at, x) → at < length xs
     found-inside b e = let r = row-found e in rw (r.1) (there-inside h xs c b r.0)
 
-    pub none-found : {at : ℕ} → f ≡ Err at → (is_there h xs c ≡ false) × (at ≡ spot_of h xs c)
+    pub none-found : {p : ℕ × R} → f ≡ Err p → (is_there h xs c ≡ false) × (p.0 ≡ spot_of h xs c) × (p.1 ≡ row_at h xs (spot_of h xs c))
     none-found e = subst Says (sym p ∙ e) says
 
   -- what the core is told of him, by the row at his place
@@ -82,7 +83,7 @@ module _ {R : Type 0} (h : Shape R) (xs : List R) (c : ℕ) where
   unfolding found_in when◌then◌else◌
   latest-found = go (is_there h xs c)
     where
-      go : (b : Bool) → latest_of h (when b then Ok (spot_of h xs c, row_at h xs (spot_of h xs c)) else Err (spot_of h xs c))
+      go : (b : Bool) → latest_of h (when b then Ok (spot_of h xs c, row_at h xs (spot_of h xs c)) else Err (spot_of h xs c, row_at h xs (spot_of h xs c)))
           ≡ latest_by b (h.request (row_at h xs (spot_of h xs c))) (h.kept (row_at h xs (spot_of h xs c)))
       go true = refl
       go false = refl

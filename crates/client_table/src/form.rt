@@ -53,6 +53,10 @@ pub trait Form {
     fn held(row: Self::Row) -> Latest
         ensures { result ≡ latest_by true (shape.request row) (shape.kept row) };
 
+    // An unused row.
+    fn blank() -> Self::Row
+        ensures { result ≡ shape.blank };
+
     // The row of an entry that has no reply yet.
     fn fresh(e: Entry) -> Self::Row
         ensures { result ≡ shape.fresh e };

@@ -16,8 +16,9 @@ pub use form::Form;
 pub use rows::{follow, follow_append, follow_commit, follow_found, rebuild};
 pub use search::{find, told};
 
-// What a search finds of a client: the place of its row, and the row; or the place where its row would go.
-pub type Found<R> = Result<(usize, R), usize>;
+// What a search finds of a client: the place of its row, and the row; or the place where its row would go, and the row that stands there, past the
+// end an unused one.
+pub type Found<R> = Result<(usize, R), (usize, R)>;
 
 // Where a search has come to: the place is from `lo` up to `hi`.
 #[derive(Clone, Copy)]

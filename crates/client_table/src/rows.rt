@@ -31,7 +31,7 @@ fn put_found<F: Form>(table: &mut [F::Cell], n: usize, f: Found<F::Row>, row: F:
 {
     match f {
         Ok((at, _)) => F::store(table, n, at, at, row),
-        Err(at) => insert::<F>(table, n, at, row),
+        Err((at, _)) => insert::<F>(table, n, at, row),
     }
 }
 

@@ -19,21 +19,22 @@ pub fn seek<F: Form>(table: &[F::Cell], n: usize, from: usize, goal: Goal) -> us
     s.lo
 }
 
-// The client's row and its place, or the place where it would go.
+// The place of the client's row, and the row; or the place where it would go, and what stands there.
 pub fn find<F: Form>(table: &[F::Cell], n: usize, client: u64) -> Found<F::Row>
     requires { F.Fits n (length table.now) }
     ensures { result ≡ found_in F.shape (F.rows n table.now) client }
 {
     let at = seek::<F>(table, n, 0, Goal::Client { id: client });
     if n <= at {
-        return Err(at);
+        return Err((at, F::blank()));
     }
     let x = F::row_at(table, n, at);
+    let none = Err((at, x));
     if !F::is_used(x) {
-        return Err(at);
+        return none;
     }
     if F::client(x) != client {
-        return Err(at);
+        return none;
     }
     Ok((at, x))
 }

@@ -248,4 +248,4 @@ left-cleared n {s} {u} p =
 
 pub answered-outcome : (f : Found MarkedRow) {number : ℕ} {o : Outcome} → latest_of byte_row f ≡ Answered number o → (1 ≤ o.code) × (o.code ≤ 6)
 answered-outcome (Ok p) q = reply-ruled true p.1.request (kept_of p.1.mark p.1.total) (kept-ruled p.1.mark p.1.total) q
-answered-outcome (Err at) q = reply-ruled false 0 none tt q
+answered-outcome (Err p) q = reply-ruled false 0 none tt q

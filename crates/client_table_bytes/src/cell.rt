@@ -1,7 +1,7 @@
 // A row of the table: read, written, and made.
 ghost use Rattle.std.specs.Prelude.{◌≡◌, ◌+◌, ◌≤◌, length, drop};
 ghost use Rattle.numbers.specs.Numbers.{over};
-ghost use Rattle.client_table_bytes.specs.Layout.{row_with, row_of, encode_row};
+ghost use Rattle.client_table_bytes.specs.Layout.{no_row, row_with, row_of, encode_row};
 
 use crate::MarkedRow;
 use entries::Entry;
@@ -27,6 +27,18 @@ pub fn write_row(area: &mut [u8], row: MarkedRow)
     numbers::write_u64(&mut area[8..], row.request);
     numbers::write_u8(&mut area[16..], row.mark);
     numbers::write_u64(&mut area[17..], row.total);
+}
+
+// An unused row.
+pub fn no_row() -> MarkedRow
+    ensures { result ≡ no_row }
+{
+    MarkedRow {
+        client: 0,
+        request: 0,
+        mark: 0,
+        total: 0,
+    }
 }
 
 // The row of an entry, with a mark and a total.

@@ -69,6 +69,10 @@ impl Form for ByteRows {
         client_table::held(row.request, row.mark, row.total)
     }
 
+    fn blank() -> MarkedRow {
+        cell::no_row()
+    }
+
     fn fresh(e: Entry) -> MarkedRow {
         cell::row_with(e, 255, 0)
     }

@@ -24,4 +24,4 @@ in-ruled (Kept code total) = kept-ruled code total
 
 pub answered-outcome : (f : Found Row) {number : ℕ} {o : Outcome} → latest_of struct_row f ≡ Answered number o → (1 ≤ o.code) × (o.code ≤ 6)
 answered-outcome (Ok p) q = reply-ruled true p.1.request (reply_in p.1.reply) (in-ruled p.1.reply) q
-answered-outcome (Err at) q = reply-ruled false 0 none tt q
+answered-outcome (Err p) q = reply-ruled false 0 none tt q

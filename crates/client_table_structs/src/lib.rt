@@ -1,13 +1,17 @@
 // The client table as a slice of row structs, for callers in Rattle: rows in rising order of client id, unused rows last. What is done to it is in
-// client_table.
+// client_table; thin functions do it to a whole slice.
 #![tactic(auto)]
 
-ghost use Rattle.std.specs.Prelude.{◌≡◌, []};
+ghost use Rattle.std.specs.Prelude.{◌≡◌, [], ◌*◌, ◌≤◌, ◌<◌, length, replicate};
 ghost use Rattle.std.proofs.Common.{sym};
-ghost use Rattle.client_table_structs.specs.Shape.{struct_row};
+ghost use Rattle.entries.specs.Entries.{entries};
+ghost use Rattle.fees.specs.Results.{outcomes};
+ghost use Rattle.client_table.specs.Found.{found_in};
+ghost use Rattle.client_table.specs.Rows.{stored, rebuilt, followed};
+ghost use Rattle.client_table_structs.specs.Shape.{unused_row, struct_row, latest_among};
 ghost use Rattle.client_table_structs.specs.Lawful.{struct-lawful};
 
-use client_table::{Form, Latest};
+use client_table::{Change, Form, Found, Latest};
 use entries::Entry;
 use fees::Outcome;
 
@@ -75,6 +79,10 @@ impl Form for StructRows {
         cell::held_in(row.request, row.reply)
     }
 
+    fn blank() -> Row {
+        cell::no_row()
+    }
+
     fn fresh(e: Entry) -> Row {
         cell::row_holding(e, KeptReply::Waiting)
     }
@@ -90,4 +98,53 @@ impl Form for StructRows {
     ghost lawful = { struct-lawful };
 
     ghost length_rows = { λ n s f. sym f };
+}
+
+// The place of the client's row, and the row; or the place where it would go, and what stands there.
+pub fn find(table: &[Row], client: u64) -> Found<Row>
+    ensures { result ≡ found_in struct_row table.now client }
+{
+    client_table::find::<StructRows>(table, table.len(), client)
+}
+
+// What the table has of a client.
+pub fn latest(table: &[Row], client: u64) -> Latest
+    ensures { result ≡ latest_among table.now client }
+{
+    client_table::told::<StructRows>(find(table, client))
+}
+
+// `row` takes place `at`, after the rows from there up to `to` have gone up one place.
+pub fn store(table: &mut [Row], at: usize, to: usize, row: Row)
+    requires { (at ≤ to) × (to < length table.old) }
+    ensures { table.new ≡ stored struct_row at to row table.old }
+{
+    let n = table.len();
+    StructRows::store(table, n, at, to, row);
+}
+
+// All rows become unused.
+pub fn clear(table: &mut [Row])
+    ensures { table.new ≡ replicate (length table.old) unused_row }
+{
+    let n = table.len();
+    StructRows::clear(table, n);
+}
+
+// The table of a log of `op` entries, the first `done` of them committed, which gave these results; whatever was there before.
+pub fn rebuild(table: &mut [Row], log: &[u8], results: &[u8], op: usize, done: usize)
+    requires { (32 * op ≤ length log.now) × ((9 * done ≤ length results.now) × (done ≤ op)) }
+    ensures { table.new ≡ rebuilt struct_row (replicate (length table.old) unused_row) (entries op log.now) (outcomes done results.now) }
+{
+    let n = table.len();
+    client_table::rebuild::<StructRows>(table, n, log, results, op, done);
+}
+
+// The table brought up to what a call did to the log.
+pub fn follow(table: &mut [Row], log: &[u8], results: &[u8], change: Change)
+    requires { (32 * change.to.0 ≤ length log.now) × ((9 * change.done.0 ≤ length results.now) × (change.done.0 ≤ change.to.0)) }
+    ensures { table.new ≡ followed struct_row change table.old (entries change.to.0 log.now) (outcomes change.done.0 results.now) }
+{
+    let n = table.len();
+    client_table::follow::<StructRows>(table, n, log, results, change);
 }

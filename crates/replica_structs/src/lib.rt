@@ -10,8 +10,8 @@ ghost use Rattle.replica_structs.specs.Calls.{KeepsRows, latest_in, lent_rows};
 ghost use Rattle.replica.specs.Promise.{TakingsPromise};
 ghost use Rattle.replica_structs.specs.Promise.{MessageRowsPromise, IdleRowsPromise, CreateRowsPromise, RecoverRowsPromise};
 
-use client_table::{Form, Latest};
-use client_table_structs::{Row, StructRows};
+use client_table::Latest;
+use client_table_structs::Row;
 use config::Setup;
 use frames::Refusal;
 use numbers::View;
@@ -36,7 +36,7 @@ pub fn create(
     if a.outcome.is_err() {
         return a;
     }
-    StructRows::clear(table, n);
+    client_table_structs::clear(table);
     a
 }
 
@@ -60,7 +60,7 @@ pub fn recover(
     if a.outcome.is_err() {
         return a;
     }
-    StructRows::clear(table, n);
+    client_table_structs::clear(table);
     a
 }
 
@@ -69,11 +69,7 @@ fn latest_in(table: &[Row], client: Option<u64>) -> Latest
     ensures { result ≡ latest_in table.now client }
 {
     match client {
-        Some(id) => client_table::told::<StructRows>(client_table::find::<StructRows>(
-            table,
-            table.len(),
-            id,
-        )),
+        Some(id) => client_table_structs::latest(table, id),
         None => Latest::Nothing,
     }
 }
@@ -110,7 +106,7 @@ pub fn on_message(
     let a = kernel::on_message(
         s, c, latest, frame, log, results, totals, acks, stored, out, reps,
     );
-    client_table::follow::<StructRows>(table, n, log, results, kernel::change_after(s, a));
+    client_table_structs::follow(table, log, results, kernel::change_after(s, a));
     a
 }
 
@@ -130,7 +126,7 @@ pub fn on_idle(
 {
     let n = table.len();
     let a = kernel::on_idle(s, n, log, results, totals, acks, stored, out, reps);
-    client_table::follow::<StructRows>(table, n, log, results, kernel::change_after(s, a));
+    client_table_structs::follow(table, log, results, kernel::change_after(s, a));
     a
 }
 

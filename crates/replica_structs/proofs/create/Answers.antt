@@ -19,4 +19,4 @@ returns c =
     let a = c.args in
     let y = c.create-a.new in
     create-rows (lent_rows a.log.now a.results.now a.totals.now a.acks.now a.stored.now a.table.now [] []) _ (memory a.log.now a.results.now y.totals y.acks a.stored.now [] []) a.u
-    c.create-a.ensures (done-code _ (sym c.is_err.ensures.value ∙ c.if-is_err.false)) c.clear.ensures.rows
+    c.create-a.ensures (done-code _ (sym c.is_err.ensures.value ∙ c.if-is_err.false)) c.clear.ensures

@@ -13,7 +13,7 @@ follow-requires c =
     let x = lent_rows a.log.now a.results.now a.totals.now a.acks.now a.stored.now a.table.now a.out.now a.reps.now in
     let y = c.on_idle-a.new in
     let m = memory y.log y.results y.totals y.acks y.stored y.out y.reps in
-    (refl, follow-needs a.s x c.on_idle-a.result m _ c.on_idle-a.ensures (idle-ready a.s (length a.table.now) x.core) c.change_after.result c.change_after.ensures)
+    follow-needs a.s x c.on_idle-a.result m _ c.on_idle-a.ensures (idle-ready a.s (length a.table.now) x.core) c.change_after.result c.change_after.ensures
 
 pub returns : goal.returns
 returns c =
@@ -22,4 +22,4 @@ returns c =
     let y = c.on_idle-a.new in
     let m = memory y.log y.results y.totals y.acks y.stored y.out y.reps in
     idle-rows a.s x c.on_idle-a.result m _ c.on_idle-a.ensures (idle-ready a.s (length a.table.now) x.core) c.change_after.result c.change_after.ensures
-    c.follow.ensures.rows refl
+    c.follow.ensures refl

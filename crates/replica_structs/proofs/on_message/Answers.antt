@@ -19,11 +19,9 @@ follow-requires c =
     let a = c.args in
     let x = lent_rows a.log.now a.results.now a.totals.now a.acks.now a.stored.now a.table.now a.out.now a.reps.now in
     let y = c.on_message-a.new in
-    let m = memory y.log y.results y.totals y.acks y.stored y.out y.reps in (
-      refl,
-      follow-needs a.s x c.on_message-a.result m _ c.on_message-a.ensures.0
-          (message-ready a.s _ a.frame.now x.core (length a.table.now) _ c.checked-c.ensures) c.change_after.result c.change_after.ensures,
-    )
+    let m = memory y.log y.results y.totals y.acks y.stored y.out y.reps in
+    follow-needs a.s x c.on_message-a.result m _ c.on_message-a.ensures.0
+    (message-ready a.s _ a.frame.now x.core (length a.table.now) _ c.checked-c.ensures) c.change_after.result c.change_after.ensures
 
 pub returns : goal.returns
 returns c =
@@ -34,6 +32,6 @@ returns c =
     let n = c.latest_in-latest.result in (
       message-rows a.s x c.on_message-a.result m _ c.on_message-a.ensures.0
           (message-ready a.s n a.frame.now x.core (length a.table.now) _ c.checked-c.ensures) c.change_after.result c.change_after.ensures
-          c.follow.ensures.rows a.frame.now _ c.checked-c.ensures _ c.client_in.ensures n c.latest_in-latest.ensures refl,
+          c.follow.ensures a.frame.now _ c.checked-c.ensures _ c.client_in.ensures n c.latest_in-latest.ensures refl,
       rows-points a.s (length a.table.now) n a.frame.now x.core _ c.checked-c.ensures _ m c.on_message-a.ensures.0,
     )

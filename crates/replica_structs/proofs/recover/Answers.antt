@@ -19,4 +19,4 @@ returns c =
     let a = c.args in
     let y = c.recover-a.new in
     recover-rows (lent_rows a.log.now a.results.now a.totals.now a.acks.now a.stored.now a.table.now a.out.now []) _ (memory a.log.now a.results.now y.totals y.acks a.stored.now c.recover-a.new.out []) a.u a.v a.nonce
-    c.recover-a.ensures (done-code _ (sym c.is_err.ensures.value ∙ c.if-is_err.false)) c.clear.ensures.rows
+    c.recover-a.ensures (done-code _ (sym c.is_err.ensures.value ∙ c.if-is_err.false)) c.clear.ensures

@@ -9,7 +9,8 @@ returns-then-n-at g c =
     let a = c.args in
     let xs = g.F.Form.rows a.n a.table.now in
     let l : length xs ≤ c.seek-at.result = rw (g.met.F.Form.length_rows a.n a.table.now c.requires) c.if-n-at.true in
-    found-past g.F.Form.shape xs a.client c.seek-at.result c.seek-at.ensures g.met.F.Form.lawful.blank l
+    found-past g.F.Form.shape xs a.client c.seek-at.result c.seek-at.ensures g.met.F.Form.lawful.blank l c.blank.result
+    c.blank.ensures
 
 pub returns-then-not-is_used : goal.returns-then-not-is_used
 returns-then-not-is_used g c =
