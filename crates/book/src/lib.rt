@@ -51,15 +51,17 @@ fn none_by_pairs(log: &[u8], n: usize, part: &[u8], k: usize) -> bool
     requires { (n ≤ 4096) × ((entry_place n ≤ length log.now) × (32 * k ≤ length part.now)) }
     ensures { result ≡ none_breaks (entries n log.now) (entries k part.now) }
 {
-    for i in 0..n {
+    let mut ok = true;
+    'pairs: for i in 0..n {
         let e = entries::entry_in(log, i);
         for j in 0..k {
             if entries::breaks(e, part, 32 * j) {
-                return false;
+                ok = false;
+                break 'pairs;
             }
         }
     }
-    true
+    ok
 }
 
 // Each entry of the log is compared with the first one of its client in `part`: those after it have higher request numbers.
@@ -74,7 +76,8 @@ fn none_by_chain(log: &[u8], n: usize, part: &[u8], k: usize) -> bool
         chains.push(m, numbers::read_u64(part, 32 * (k - 1 - m)));
     }
     let mut looks = 16 * n;
-    for i in 0..n {
+    let mut ok = true;
+    'pairs: for i in 0..n {
         let e = entries::entry_in(log, i);
         let mut at = chains.latest(e.client);
         while let Some(j) = at {
@@ -85,14 +88,15 @@ fn none_by_chain(log: &[u8], n: usize, part: &[u8], k: usize) -> bool
             let p = 32 * (k - 1 - j);
             if numbers::read_u64(part, p) == e.client {
                 if numbers::read_u64(part, p + 8) <= e.request {
-                    return false;
+                    ok = false;
+                    break 'pairs;
                 }
                 break;
             }
             at = chains.earlier(j);
         }
     }
-    true
+    ok
 }
 
 // Whether the first n entries of a log that is rising, followed by the first k of `part`, are rising.

@@ -191,15 +191,17 @@ fn rises_by_pairs(s: &[u8], k: usize) -> bool
     requires { 32 * k ≤ length s.now }
     ensures { result ≡ rising (entries k s.now) }
 {
-    for i in 0..k {
+    let mut ok = true;
+    'pairs: for i in 0..k {
         let e = entry_at(s, 32 * i);
         for j in i + 1..k {
             if breaks(e, s, 32 * j) {
-                return false;
+                ok = false;
+                break 'pairs;
             }
         }
     }
-    true
+    ok
 }
 
 // Each entry is compared with the nearest earlier one of its client, found along its chain: the entries up to there rise, so none before that has to be looked at.
@@ -210,7 +212,8 @@ fn rises_by_chain(s: &[u8], k: usize) -> bool
 {
     let mut chains = Chains::new();
     let mut looks = 16 * k;
-    for i in 0..k {
+    let mut ok = true;
+    'pairs: for i in 0..k {
         let c = numbers::read_u64(s, 32 * i);
         let r = numbers::read_u64(s, 32 * i + 8);
         let mut at = chains.latest(c);
@@ -221,7 +224,8 @@ fn rises_by_chain(s: &[u8], k: usize) -> bool
             looks -= 1;
             if numbers::read_u64(s, 32 * j) == c {
                 if r <= numbers::read_u64(s, 32 * j + 8) {
-                    return false;
+                    ok = false;
+                    break 'pairs;
                 }
                 break;
             }
@@ -229,5 +233,5 @@ fn rises_by_chain(s: &[u8], k: usize) -> bool
         }
         chains.push(i, c);
     }
-    true
+    ok
 }

@@ -1,5 +1,5 @@
 -- `book::none_by_chain` meets its contract. Assumes nothing.
-use mathlib.Core.Path.{◌≡◌, sym, ◌∙◌}
+use mathlib.Core.Path.{◌≡◌, refl, sym, ◌∙◌}
 use mathlib.Core.Bool.{true}
 use Prim.Native.Nat.{◌+◌, ◌-◌}
 use native.Mathlib.Nat.{sub-zero}
@@ -26,57 +26,56 @@ loop-m-preserved c =
     let l = c.loop-m in
     rw (c.push.ensures, c.read_u64.ensures) (linked-next (first_from_end a.part.now a.k) l.chains l.m l.invariant (omega arith))
 
-pub loop-i-init : goal.loop-i-init
-loop-i-init c =
+pub pairs-init : goal.pairs-init
+pairs-init c =
     let e : c.loop-m.m ≡ c.args.k = omega arith in
-    (rw e at c.loop-m.invariant, rw sub-zero)
+    (refl, rw e at c.loop-m.invariant, rw sub-zero)
 
 pub loop-at-init : goal.loop-at-init
 loop-at-init c =
     let a = c.args in
-    rw c.latest-at.ensures (sought-start (first_from_end a.part.now a.k) c.loop-m.chains a.k c.loop-i.invariant.0 c.entry_in-e.result.client)
+    (c.pairs.invariant.0, rw c.latest-at.ensures (sought-start (first_from_end a.part.now a.k) c.loop-m.chains a.k c.pairs.invariant.1 c.entry_in-e.result.client))
 
 pub loop-at-preserved : goal.loop-at-preserved
 loop-at-preserved c =
     let a = c.args in
-    let s = rw c.in-Some.is at c.loop-at.invariant in
-    rw c.earlier-at.ensures
-    (sought-next (first_from_end a.part.now a.k) c.loop-m.chains a.k c.loop-i.invariant.0 c.entry_in-e.result.client c.in-Some.j s
-    (λ e. c.if-read_u64-e.false (c.read_u64-in-Some.ensures ∙ e)))
+    let s = rw c.in-Some.is at c.loop-at.invariant.1 in
+    let n = sought-next (first_from_end a.part.now a.k) c.loop-m.chains a.k c.pairs.invariant.1 c.entry_in-e.result.client c.in-Some.j s (λ e. c.if-read_u64-e.false (c.read_u64-in-Some.ensures ∙ e)) in
+    (c.loop-at.invariant.0, rw c.earlier-at.ensures n)
 
-pub loop-i-preserved : goal.loop-i-preserved
+pub pairs-preserved : goal.pairs-preserved
 unfolding ◌and◌
-loop-i-preserved c =
+pairs-preserved c =
     let a = c.args in
-    let p = c.loop-i in
+    let p = c.pairs in
     let l = c.loop-at in
     let x = c.entry_in-e in
     let f : follows x.result (entries a.k a.part.now) ≡ true =
     elim c.match-at.branch [
-      | in_default w ↦ follows-none x.result a.k a.part.now (rw w.in_default.is at l.invariant).none
+      | in_default w ↦ follows-none x.result a.k a.part.now (rw w.in_default.is at l.invariant.1).none
       | in-Some+else-looks-eq0+then-read_u64-e+else-read_u64-e-2 w ↦
           let j = w.in-Some.j in
-          let s = rw w.in-Some.is at l.invariant in
+          let s = rw w.in-Some.is at l.invariant.1 in
           let none : NoneOf (first_from_end a.part.now a.k) x.result.client (j + 1) a.k = rw add-one s.none in
           follows-over x.result a.k a.part.now j (rises-back a.k a.part.now c.requires.1.1.1.1) (omega (arith, s.low)) none
           (sym w.read_u64-in-Some.ensures ∙ w.if-read_u64-e.true) (rw (← w.read_u64-then-read_u64-e.ensures) w.if-read_u64-e-2.false)
     ] in
-    (p.invariant.0, p.invariant.1 ∙ none-next a.n a.log.now p.i x.result (entries a.k a.part.now) c.loop-i-test.true x.ensures ∙ rw f)
+    (l.invariant.0, p.invariant.1, p.invariant.2 ∙ none-next a.n a.log.now p.i x.result (entries a.k a.part.now) c.pairs-test.true x.ensures ∙ rw f)
 
-pub returns : goal.returns
+pub returns-after-pairs : goal.returns-after-pairs
 unfolding none_breaks
-returns c =
-    let p = c.loop-i in
+returns-after-pairs c =
+    let p = c.pairs in
     let a = c.args in
     let e : p.i ≡ a.n = omega arith in
-    sym (p.invariant.1 ∙ rw (e, from_end))
+    p.invariant.0 ∙ sym (p.invariant.2 ∙ rw (e, from_end))
 
 pub returns-then-read_u64-e-2 : goal.returns-then-read_u64-e-2
 unfolding ◌and◌
 returns-then-read_u64-e-2 c =
     let a = c.args in
-    let p = c.loop-i in
+    let p = c.pairs in
     let x = c.entry_in-e in
-    let s = rw c.in-Some.is at c.loop-at.invariant in
+    let s = rw c.in-Some.is at c.loop-at.invariant.1 in
     let f = follows-broken x.result a.k a.part.now (a.k - 1 - c.in-Some.j) (omega (arith, s.low)) (sym c.read_u64-in-Some.ensures ∙ c.if-read_u64-e.true) (rw (← c.read_u64-then-read_u64-e.ensures) c.if-read_u64-e-2.true) in
-    sym (p.invariant.1 ∙ none-next a.n a.log.now p.i x.result (entries a.k a.part.now) c.loop-i-test.true x.ensures ∙ rw f)
+    sym (p.invariant.2 ∙ none-next a.n a.log.now p.i x.result (entries a.k a.part.now) c.pairs-test.true x.ensures ∙ rw f)

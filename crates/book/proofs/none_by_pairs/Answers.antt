@@ -16,10 +16,10 @@ use Rattle.book.proofs.none_by_pairs.Goals as goal
 pub loop-j-init : goal.loop-j-init
 loop-j-init c =
     let a = c.args in
-    let p = c.loop-i in
-    let t = c.loop-i-test.true in
+    let p = c.pairs in
+    let t = c.pairs-test.true in
     let e = none-next a.n a.log.now p.i c.entry_in-e.result (entries a.k a.part.now) t c.entry_in-e.ensures in
-    rw (sub-zero, ← e) p.invariant
+    (p.invariant.0, rw (sub-zero, ← e) p.invariant.1)
 
 pub loop-j-preserved : goal.loop-j-preserved
 loop-j-preserved c =
@@ -28,23 +28,23 @@ loop-j-preserved c =
     let a = c.args in
     let f : breaks_at e (entry_of (drop (32 * l.j) a.part.now)) ≡ false =
     sym c.breaks.ensures ∙ c.if-breaks.false in
-    rw (← follows_next e a.k a.part.now l.j c.loop-j-test.true f) l.invariant
+    (l.invariant.0, rw (← follows_next e a.k a.part.now l.j c.loop-j-test.true f) l.invariant.1)
 
-pub loop-i-preserved : goal.loop-i-preserved
+pub pairs-preserved : goal.pairs-preserved
 unfolding follows ◌and◌
-loop-i-preserved c =
+pairs-preserved c =
     let l = c.loop-j in
     let a = c.args in
     let e : l.j ≡ a.k = omega arith in
-    rw (e, from_end) at l.invariant
+    (l.invariant.0, rw (e, from_end) at l.invariant.1)
 
-pub returns : goal.returns
+pub returns-after-pairs : goal.returns-after-pairs
 unfolding none_breaks
-returns c =
-    let p = c.loop-i in
+returns-after-pairs c =
+    let p = c.pairs in
     let a = c.args in
     let e : p.i ≡ a.n = omega arith in
-    sym (p.invariant ∙ rw (e, from_end))
+    p.invariant.0 ∙ sym (p.invariant.1 ∙ rw (e, from_end))
 
 pub returns-then-breaks : goal.returns-then-breaks
 unfolding ◌and◌
@@ -54,4 +54,4 @@ returns-then-breaks c =
     let a = c.args in
     let f : breaks_at e (entry_of (drop (32 * l.j) a.part.now)) ≡ true =
     sym c.breaks.ensures ∙ c.if-breaks.true in
-    sym (rw (follows-stop e a.k a.part.now l.j c.loop-j-test.true f) at l.invariant)
+    sym (rw (follows-stop e a.k a.part.now l.j c.loop-j-test.true f) at l.invariant.1)

@@ -12,9 +12,9 @@ use Rattle.entries.proofs.rises_by_pairs.Goals as goal
 
 pub loop-j-init : goal.loop-j-init
 loop-j-init c =
-    let i = c.loop-i in
+    let p = c.pairs in
     let a = c.args in
-    i.invariant ∙ rw c.entry_at-e.ensures (rising-next a.k a.s.now i.i c.loop-i-test.true)
+    (p.invariant.0, p.invariant.1 ∙ rw c.entry_at-e.ensures (rising-next a.k a.s.now p.i c.pairs-test.true))
 
 pub loop-j-preserved : goal.loop-j-preserved
 loop-j-preserved c =
@@ -23,21 +23,21 @@ loop-j-preserved c =
     let a = c.args in
     let f : breaks_at e (entry_of (drop (32 * l.j) a.s.now)) ≡ false =
     sym c.breaks.ensures ∙ c.if-breaks.false in
-    l.invariant ∙ rw (follows_next e a.k a.s.now l.j c.loop-j-test.true f)
+    (l.invariant.0, l.invariant.1 ∙ rw (follows_next e a.k a.s.now l.j c.loop-j-test.true f))
 
-pub loop-i-preserved : goal.loop-i-preserved
+pub pairs-preserved : goal.pairs-preserved
 unfolding follows ◌and◌
-loop-i-preserved c =
+pairs-preserved c =
     let l = c.loop-j in
     let e : l.j ≡ c.args.k = omega arith in
-    l.invariant ∙ rw (e, from_end)
+    (l.invariant.0, l.invariant.1 ∙ rw (e, from_end))
 
-pub returns : goal.returns
+pub returns-after-pairs : goal.returns-after-pairs
 unfolding rising
-returns c =
-    let l = c.loop-i in
-    let e : l.i ≡ c.args.k = omega arith in
-    sym (l.invariant ∙ rw (e, from_end))
+returns-after-pairs c =
+    let p = c.pairs in
+    let e : p.i ≡ c.args.k = omega arith in
+    p.invariant.0 ∙ sym (p.invariant.1 ∙ rw (e, from_end))
 
 pub returns-then-breaks : goal.returns-then-breaks
 unfolding ◌and◌
@@ -47,4 +47,4 @@ returns-then-breaks c =
     let a = c.args in
     let f : breaks_at e (entry_of (drop (32 * l.j) a.s.now)) ≡ true =
     sym c.breaks.ensures ∙ c.if-breaks.true in
-    sym (l.invariant ∙ rw (follows-stop e a.k a.s.now l.j c.loop-j-test.true f))
+    sym (l.invariant.1 ∙ rw (follows-stop e a.k a.s.now l.j c.loop-j-test.true f))
