@@ -1,8 +1,9 @@
 // The memory that a replica's calls are made in, with room for n = 7, L = 8 and M = 8: the runs at their places of `comparing::memory`, and the areas behind them.
-ghost use Rattle.std.specs.Prelude.{◌≡◌, ◌*◌, length, min, replicate};
+ghost use Rattle.std.specs.Prelude.{◌≡◌, ◌*◌, length, take, drop, min, replicate};
 ghost use Rattle.state.specs.Lengths.{stored_place};
 ghost use Rattle.comparing.specs.Areas.{spoilt_to};
 ghost use Rattle.comparing.specs.Digests.{digest_of};
+ghost use Rattle.comparing.specs.declared.memory.TheConstants.{LOG, RESULTS, TOTALS, ACKS, TABLE, STORED};
 
 use crate::AreaSizes;
 use comparing::{digest, memory};
@@ -56,12 +57,19 @@ impl CallMemory {
         digest::with_bytes(digest::EMPTY, &self.runs)
     }
 
-    // The setup's lengths as far as the memory goes: a creation with larger ones is only called where the setup is refused, whatever the lengths.
+    // Each run from its place on, of the setup's length as far as the memory goes: a creation with larger ones is only called where the setup is refused, whatever the lengths.
     pub fn lend(&mut self, u: Setup, areas: AreaSizes) -> CallRuns<'_>
         ensures by_room { (length result.log.now ≡ 32 * min u.room 8) × (length result.results.now ≡ 9 * min u.room 8) × (length result.acks.now ≡ min u.room 8) × (length result.table.now ≡ 25 * min u.room 8) }
         ensures by_members { length result.totals.now ≡ 8 * min u.members 8 }
         ensures logs { length result.stored.now ≡ min (stored_place (min u.room 8) (min u.n 7)) 1792 }
         ensures areas { (length result.out.now ≡ min areas.messages 8192) × (length result.reps.now ≡ min areas.replies 512) }
+        ensures log_from { result.log.now ≡ take (32 * min u.room 8) (drop LOG self.old.runs) }
+        ensures results_from { result.results.now ≡ take (9 * min u.room 8) (drop RESULTS self.old.runs) }
+        ensures totals_from { result.totals.now ≡ take (8 * min u.members 8) (drop TOTALS self.old.runs) }
+        ensures acks_from { result.acks.now ≡ take (min u.room 8) (drop ACKS self.old.runs) }
+        ensures table_from { result.table.now ≡ take (25 * min u.room 8) (drop TABLE self.old.runs) }
+        ensures stored_from { result.stored.now ≡ take (min (stored_place (min u.room 8) (min u.n 7)) 1792) (drop STORED self.old.runs) }
+        ensures areas_from { (result.out.now ≡ take (min areas.messages 8192) self.old.out) × (result.reps.now ≡ take (min areas.replies 512) self.old.reps) }
     {
         let room = u.room.min(8);
         let l = room as usize;

@@ -9,8 +9,8 @@ pub mod asking; // what a line asks for
 pub mod counts; // what is known of the trace so far
 pub mod lent; // the memory of the calls
 pub mod program; // the input's trace, to the output
+pub mod say; // what differs, and the counts, in words
 pub mod trace; // a whole trace
-mod say; // what differs, and the counts, in words
 
 // How a run's replica begins: `new`, or `recover` with what is handed over by value.
 #[derive(Clone, Copy)]

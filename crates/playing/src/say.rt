@@ -1,7 +1,8 @@
 // What differs, and the counts, in words.
-ghost use Rattle.std.specs.Prelude.{◌≡◌, ◌≤◌, ◌↔◌, true, None, IsOk, IsTrue};
+ghost use Rattle.std.specs.Prelude.{◌≡◌, ◌≤◌, ◌↔◌, true, Some, None, IsOk, IsTrue};
 ghost use Rattle.comparing.specs.Answers.{answer_differs, touched_behind, clean_refusal, further_differs, takings_are};
 ghost use Rattle.comparing.specs.Fields.{state_line, first_differing};
+ghost use Rattle.playing.specs.Words.{difference_text, tally_text};
 
 use crate::lent::CallMemory;
 use crate::{Due, LastCall, Tally};
@@ -10,6 +11,7 @@ use comparing::{answer, fields};
 use frames::Refusal;
 use state::Replica;
 use std::fmt;
+use text::HexBytes;
 
 // The first thing in which a line and what was called differ.
 #[derive(Clone, Copy)]
@@ -150,28 +152,17 @@ pub fn takings(told: Result<u64, Refusal>, line: &[u8]) -> Result<(), Difference
     }
 }
 
-fn hex<W: fmt::Write>(f: &mut fmt::Formatter<W>, bytes: &[u8]) -> fmt::Result {
-    for b in bytes {
-        write!(f, " {b:02X}")?;
-    }
-    Ok(())
-}
-
 impl fmt::Display for Difference<'_> {
+    ghost output = { λ d. Some (difference_text d) };
+
     fn fmt<W: fmt::Write>(&self, f: &mut fmt::Formatter<W>) -> fmt::Result {
         match *self {
             Difference::Missing { due: Due::Answer } => f.write_str("no answer before it"),
             Difference::Missing { due: Due::State } => f.write_str("no state before it"),
             Difference::Unknown => f.write_str("no line of a trace"),
             Difference::Number { number } => write!(f, "the number is {number}"),
-            Difference::Messages { bytes } => {
-                f.write_str("the messages are")?;
-                hex(f, bytes)
-            }
-            Difference::Replies { bytes } => {
-                f.write_str("the replies are")?;
-                hex(f, bytes)
-            }
+            Difference::Messages { bytes } => write!(f, "the messages are{}", HexBytes(bytes)),
+            Difference::Replies { bytes } => write!(f, "the replies are{}", HexBytes(bytes)),
             Difference::BehindMessages => f.write_str("bytes behind the messages are written"),
             Difference::BehindReplies => f.write_str("bytes behind the replies are written"),
             Difference::Unclean => f.write_str("a refused call changed the memory"),
@@ -183,6 +174,8 @@ impl fmt::Display for Difference<'_> {
 }
 
 impl fmt::Display for Tally {
+    ghost output = { λ t. Some (tally_text t) };
+
     fn fmt<W: fmt::Write>(&self, f: &mut fmt::Formatter<W>) -> fmt::Result {
         writeln!(
             f,

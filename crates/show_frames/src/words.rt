@@ -1,19 +1,31 @@
 // An entry, and a message, in words.
+ghost use Rattle.std.specs.Prelude.{◌≡◌, Some};
+ghost use Rattle.entries.specs.Entries.{operation_of};
+ghost use Rattle.show_frames.specs.Words.{operation_name, entry_words, state_words, message_words};
+
 use entries::{Entry, Operation};
 use frames::{Message, Progress};
 use std::fmt;
+
+fn operation_name(operation: Operation) -> &'static str
+    ensures { result.now ≡ operation_name operation }
+{
+    match operation {
+        Operation::Fee => "Fee",
+        Operation::Refund => "Refund",
+        Operation::Ask => "Ask",
+    }
+}
 
 #[derive(Clone, Copy)]
 pub struct EntryWords(pub Entry);
 
 impl fmt::Display for EntryWords {
+    ghost output = { λ e. Some (entry_words e.0) };
+
     fn fmt<W: fmt::Write>(&self, f: &mut fmt::Formatter<W>) -> fmt::Result {
         let e = self.0;
-        let operation = match entries::operation_of(e.operation) {
-            Operation::Fee => "Fee",
-            Operation::Refund => "Refund",
-            Operation::Ask => "Ask",
-        };
+        let operation = operation_name(entries::operation_of(e.operation));
         write!(
             f,
             "client {}, request {}, {operation}, member {}, cents {}",
@@ -26,6 +38,8 @@ impl fmt::Display for EntryWords {
 struct StateWords(Option<Progress>);
 
 impl fmt::Display for StateWords {
+    ghost output = { λ s. Some (state_words s.0) };
+
     fn fmt<W: fmt::Write>(&self, f: &mut fmt::Formatter<W>) -> fmt::Result {
         match self.0 {
             None => write!(f, "no log"),
@@ -38,6 +52,8 @@ impl fmt::Display for StateWords {
 pub struct MessageWords(pub Message);
 
 impl fmt::Display for MessageWords {
+    ghost output = { λ m. Some (message_words m.0) };
+
     fn fmt<W: fmt::Write>(&self, f: &mut fmt::Formatter<W>) -> fmt::Result {
         match self.0 {
             Message::Request { entry } => write!(f, "{}", EntryWords(entry)),

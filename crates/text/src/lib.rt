@@ -29,21 +29,43 @@ pub fn labelled<W: io::Write>(writer: &mut W, s: &[u8], x: u64) -> io::Result<()
 }
 
 // Two digits, the letters large, as document 01 writes bytes.
+#[derive(Clone, Copy)]
+struct Pair(u8);
+
+impl fmt::Display for Pair {
+    ghost output = { λ p. Some (hex_pair p.0) };
+
+    fn fmt<W: fmt::Write>(&self, f: &mut fmt::Formatter<W>) -> fmt::Result {
+        let Pair(b) = *self;
+        write!(f, "{b:02X}")
+    }
+}
+
 pub fn hex_byte<W: io::Write>(writer: &mut W, b: u8) -> io::Result<()>
     ensures { OnOk result (Appends (W.contents writer.old) (W.contents writer.new) (hex_pair b)) }
 {
-    write!(writer, "{b:02X}")
+    write!(writer, "{}", Pair(b))
 }
 
-// The bytes of `s`, each after a space.
+// Bytes, shown in hexadecimal, each after a space.
+#[derive(Clone, Copy)]
+pub struct HexBytes<'a>(pub &'a [u8]);
+
+impl fmt::Display for HexBytes<'_> {
+    ghost output = { λ s. Some (spaced_pairs s.0.now) };
+
+    fn fmt<W: fmt::Write>(&self, f: &mut fmt::Formatter<W>) -> fmt::Result {
+        for b in self.0 {
+            write!(f, " {}", Pair(*b))?;
+        }
+        Ok(())
+    }
+}
+
 pub fn hex<W: io::Write>(writer: &mut W, s: &[u8]) -> io::Result<()>
     ensures { OnOk result (Appends (W.contents writer.old) (W.contents writer.new) (spaced_pairs s.now)) }
 {
-    for b in s {
-        write!(writer, " ")?;
-        hex_byte(writer, *b)?;
-    }
-    Ok(())
+    write!(writer, "{}", HexBytes(s))
 }
 
 // Document 01's name of a kind.
