@@ -130,7 +130,10 @@ pub fn copy(area: &mut [u8], src: &[u8], n: usize)
     requires { (n ≤ length area.old) × (n ≤ length src.now) }
     ensures { area.new ≡ over (take n src.now) area.old }
 {
-    area[..n].copy_from_slice(&src[..n]);
+    // Kept: `copy_from_slice` calls `memmove`, and a dynamic linker that looks it up then takes 3 KB more of the caller's stack.
+    for i in 0..n {
+        area[i] = src[i];
+    }
 }
 
 // n times the byte b over the front of `area`.
